@@ -1,0 +1,6 @@
+// The fault of a port of the outside.
+
+/// The outside didn't do what was asked, and the port's count of faults says so. Nothing was taken
+/// or put.
+#[derive(Clone, Copy, Debug, PartialEq, Eq)]
+pub struct Failed;
