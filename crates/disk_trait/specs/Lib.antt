@@ -1,0 +1,4 @@
+pub mod Held
+pub mod Past
+pub mod Steps
+pub mod Runs
