@@ -1,0 +1,6 @@
+//! The records of long-running processes.
+#![tactic(auto)]
+
+mod desired;
+
+pub use desired::Desired;
