@@ -1,6 +1,7 @@
 -- What a command does to the rows of a board.
 use Rattle.std.specs.Prelude.{◌≡◌, ℕ, ◌+◌, Bool, List, [], ◌∷◌, length, sum_by, nat_le, nat_lt, Option, is_some, if◌then◌else◌}
 use Rattle.diego_names.specs.Order.{name_order}
+use Rattle.std.specs.Ordering.{is_lt}
 use Rattle.row_tables.specs.Table.{find_row, put_row}
 use Rattle.lrp_records.specs.declared.desired.Desired.{Desired}
 use Rattle.bbs_model.specs.declared.command.Command.{Command}
@@ -15,6 +16,10 @@ use Rattle.bbs_model.specs.declared.verdict.Verdict.TheVariants as verdict
 -- the row of a process, where it is desired
 abbrev pub find_desired : Rows → List ℕ → Option Desired
 find_desired rows process = find_row name_order (λ (d : Desired). d.process) process rows.desired
+
+-- the first name stands before the second
+abbrev pub is_below : List ℕ → List ℕ → Bool
+is_below a b = is_lt (name_order a b)
 
 -- the rows with this one in the place of its process
 abbrev pub put_desired : Rows → Desired → List Desired

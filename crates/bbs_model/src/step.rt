@@ -1,8 +1,8 @@
 //! The step of a command by plain scans of the rows: what every faster body is compared with.
-ghost use Rattle.std.specs.Prelude.{◌≡◌, nat_eq};
-ghost use Rattle.std.specs.List.{list_any};
+ghost use Rattle.std.specs.Prelude.{◌≡◌, nat_eq, None, OnOk, OnErr};
+ghost use Rattle.std.specs.List.{list_any, position};
 ghost use Rattle.std.specs.Cmp.Lexicographic.{pointwise};
-ghost use Rattle.bbs_model.specs.Step.{verdict_of, unless_refused, desire_refusals};
+ghost use Rattle.bbs_model.specs.Step.{verdict_of, unless_refused, desire_refusals, is_below, IsLegal, rows_after, find_desired, put_desired};
 ghost use Rattle.bbs_model.specs.Valid.{IsValid};
 
 use crate::{BoardRefusal, Command, Op, Rows, Verdict};
@@ -50,6 +50,35 @@ fn has_process(rows: &[Desired], process: &Name) -> bool
     ensures { result ≡ list_any (λ (d : Desired). pointwise nat_eq process.now d.process) rows.now }
 {
     rows.iter().any(|row| *process == row.process)
+}
+
+/// The place of the first process above this one.
+fn first_above(rows: &[Desired], process: &Name) -> Option<usize>
+    ensures { result ≡ position (λ (d : Desired). is_below process.now d.process) rows.now }
+{
+    rows.iter().position(|row| *process < row.process)
+}
+
+/// Does what a legal command says. Where memory runs out, the rows stay.
+pub fn apply(rows: &mut Rows, command: &Command) -> Result<(), OutOfMemory>
+    requires { IsLegal rows.old command.now }
+    ensures ok { OnOk result (rows.new ≡ rows_after rows.old command.entry.now) }
+    ensures err { OnErr result (rows.new ≡ rows.old) }
+{
+    match command.op {
+        Op::Desire { desired } => put_desired(rows, desired)?,
+    }
+    rows.next += 1;
+    Ok(())
+}
+
+fn put_desired(rows: &mut Rows, row: Desired) -> Result<(), OutOfMemory>
+    requires { find_desired rows.old row.process ≡ None }
+    ensures ok { OnOk result (rows.new ≡ record rows.old { desired = put_desired rows.old row }) }
+    ensures err { OnErr result (rows.new ≡ rows.old) }
+{
+    let at = first_above(rows.desired.items(), &row.process).unwrap_or(rows.desired.len());
+    rows.desired.insert(at, row)
 }
 
 /// What the step of a command comes to. It takes no memory.
