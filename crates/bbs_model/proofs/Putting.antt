@@ -61,6 +61,6 @@ pub insert-put_desired : (rows : Rows) (d : Desired) (found : Option ℕ) (len a
     → find_desired rows d.process ≡ None → insert rows.desired at d ≡ put_desired rows d
 insert-put_desired rows d found len at found_is len_is at_is none =
     let place : at ≡ position_or_len (λ (e : Desired). is_below d.process e.process) rows.desired =
-        at_is ∙ ap (λ (o : Option ℕ). unwrap_or o len) found_is ∙ ap (λ (n : ℕ). unwrap_or (position (λ (e : Desired). is_below d.process e.process) rows.desired) n) len_is
-        ∙ unwrap_or-position (λ (e : Desired). is_below d.process e.process) rows.desired in
+    at_is ∙ ap (λ (o : Option ℕ). unwrap_or o len) found_is ∙ ap (λ (n : ℕ). unwrap_or (position (λ (e : Desired). is_below d.process e.process) rows.desired) n) len_is
+    ∙ unwrap_or-position (λ (e : Desired). is_below d.process e.process) rows.desired in
     ap (λ (n : ℕ). insert rows.desired n d) place ∙ sym (put_row-insert name_order (λ (e : Desired). e.process) d rows.desired none)

@@ -16,5 +16,5 @@ pub use event::{Change, Event, Row};
 pub use item::Item;
 pub use reply::{CallEnd, CallFault, Reply};
 pub use rows::Rows;
-pub use step::decide;
+pub use step::{apply, decide};
 pub use verdict::{BoardRefusal, Verdict};

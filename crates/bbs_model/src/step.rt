@@ -2,7 +2,7 @@
 ghost use Rattle.std.specs.Prelude.{◌≡◌, nat_eq, None, OnOk, OnErr};
 ghost use Rattle.std.specs.List.{list_any, position};
 ghost use Rattle.std.specs.Cmp.Lexicographic.{pointwise};
-ghost use Rattle.bbs_model.specs.Step.{verdict_of, unless_refused, desire_refusals, is_below, IsLegal, rows_after, find_desired, put_desired};
+ghost use Rattle.bbs_model.specs.Step.{verdict_of, unless_refused, desire_refusals, is_below, IsLegal, rows_after, op_verdict, op_after, find_desired, put_desired};
 ghost use Rattle.bbs_model.specs.Valid.{IsValid};
 
 use crate::{BoardRefusal, Command, Op, Rows, Verdict};
@@ -63,11 +63,21 @@ fn first_above(rows: &[Desired], process: &Name) -> Option<usize>
 pub fn apply(rows: &mut Rows, command: &Command) -> Result<(), OutOfMemory>
     requires { IsLegal rows.old command.now }
     ensures ok { OnOk result (rows.new ≡ rows_after rows.old command.entry.now) }
+    ensures valid { OnOk result (IsValid rows.old → IsValid rows.new) }
     ensures err { OnErr result (rows.new ≡ rows.old) }
 {
     match command.op {
-        Op::Desire { desired } => put_desired(rows, desired)?,
+        Op::Desire { desired } => apply_desire(rows, desired),
     }
+}
+
+fn apply_desire(rows: &mut Rows, row: Desired) -> Result<(), OutOfMemory>
+    requires { op_verdict rows.old (Op.Desire row) ≡ Verdict.Ok }
+    ensures ok { OnOk result (rows.new ≡ op_after rows.old (Op.Desire row)) }
+    ensures valid { OnOk result (IsValid rows.old → IsValid rows.new) }
+    ensures err { OnErr result (rows.new ≡ rows.old) }
+{
+    put_desired(rows, row)?;
     rows.next += 1;
     Ok(())
 }
