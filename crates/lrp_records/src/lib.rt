@@ -1,0 +1,18 @@
+//! The records of long-running processes: what is desired, what is actual, and how it may change.
+#![tactic(auto)]
+
+mod actual;
+mod desired;
+mod lrp_move;
+mod move_end;
+mod presence;
+mod refusal;
+mod state;
+
+pub use actual::Actual;
+pub use desired::Desired;
+pub use lrp_move::LrpMove;
+pub use move_end::MoveEnd;
+pub use presence::Presence;
+pub use refusal::LrpRefusal;
+pub use state::LrpState;

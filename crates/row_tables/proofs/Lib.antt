@@ -1,0 +1,5 @@
+pub mod Keyed
+pub mod Lookups
+pub mod Rising
+pub mod Lengths
+pub mod Sums
