@@ -16,3 +16,6 @@ pub use memory::OutOfMemory;
 pub use name::{Name, NameFault};
 pub use orders::{instances_are_ordered, keys_are_ordered, names_are_ordered};
 pub use state_name::StateName;
+
+#[cfg(test)]
+mod tests;
