@@ -1,0 +1,5 @@
+pub mod Places
+pub mod Fronts
+pub mod Numbers
+pub mod Names
+pub mod Truths
