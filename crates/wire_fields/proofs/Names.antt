@@ -1,5 +1,5 @@
 -- A name is a field, and so is an optional one.
-use Rattle.std.proofs.Common.{◌≡◌, ℕ, zero, suc, ◌+◌, ◌<◌, ◌≤◌, Bool, true, false, cond, ltb, eqb, ◌||◌, List, [], ◌∷◌, ◌++◌, length, take, drop, Option, Some, None, Result, Ok, Err, refl, sym, ap, ◌∙◌, arith, inl, inr}
+use Rattle.std.proofs.Common.{◌≡◌, ℕ, zero, suc, ◌+◌, ◌<◌, ◌≤◌, Bool, true, false, cond, ltb, eqb, ◌||◌, List, [], ◌∷◌, ◌++◌, length, take, drop, Option, Some, None, Result, Ok, Err, refl, sym, ap, subst, ◌∙◌, arith, inl, inr}
 use Rattle.std.specs.Prelude.{IfSome, IfOk}
 use Rattle.std.specs.Result.{result_ok}
 use Rattle.diego_names.specs.declared.name.NameFault.{NameFault}
@@ -78,6 +78,71 @@ IsFront-name = record {
 pub IsField-name : IsField IsName field_name name_at
 unfolding name_at
 IsField-name = IsField-from_front IsFront-name
+
+-- ---- a name or none
+
+abbrev FitsOptional : Option (List ℕ) → Type 0
+FitsOptional o = IfSome o IsName
+
+-- the value that is seen in another way
+map_held : (f : Front (List ℕ)) (o : Option (List ℕ)) (n : ℕ) → front_map Some f ≡ Holds o n → (name : List ℕ) × (f ≡ Holds name n) × (Some name ≡ o)
+map_held (Holds name m) o n e =
+    let same = held (Some name) o m n e in
+    (name, ap (λ (k : ℕ). Holds name k) same.1, same.0)
+map_held Ends o n e = absurd cc
+map_held Bad o n e = absurd cc
+
+none_spelled : (len : ℕ) (rest : List ℕ) (o : Option (List ℕ)) (n : ℕ) → len ≡ 0 → ◌≡◌ {A = Front (Option (List ℕ))} (Holds None 1) (Holds o n)
+    → Takes FitsOptional field_optional_name (len ∷ rest) o n
+unfolding field_optional_name
+none_spelled len rest o n zero_is e =
+    let same = held None o 1 n e in
+    subst (λ (p : Option (List ℕ)). Takes FitsOptional field_optional_name (len ∷ rest) p n) same.0
+    (record { rest = rest; parts = ap (λ (l : ℕ). l ∷ rest) zero_is; count = sym same.1; fits = tt })
+
+some_spelled : (bytes : List ℕ) (o : Option (List ℕ)) (n : ℕ) → front_map Some (name_front bytes) ≡ Holds o n → Takes FitsOptional field_optional_name bytes o n
+unfolding field_optional_name
+some_spelled bytes o n e =
+    let name = map_held (name_front bytes) o n e in
+    let takes = name_spelled bytes name.0 n name.1 in
+    subst (λ (p : Option (List ℕ)). Takes FitsOptional field_optional_name bytes p n) name.2
+    (record { rest = takes.rest; parts = takes.parts; count = takes.count; fits = takes.fits })
+
+optional_name_spelled : (bytes : List ℕ) (o : Option (List ℕ)) (n : ℕ) → optional_name_front bytes ≡ Holds o n → Takes FitsOptional field_optional_name bytes o n
+optional_name_spelled [] o n e = absurd cc
+optional_name_spelled (len ∷ rest) o n e =
+    elim (eqb len 0) as (λ b. eqb len 0 ≡ b → cond b (Holds None 1) (front_map Some (name_front (len ∷ rest))) ≡ Holds o n → Takes FitsOptional field_optional_name (len ∷ rest) o n) [
+      | true ↦ λ is_zero f. none_spelled len rest o n (eqb-true len 0 is_zero) f
+      | false ↦ λ more f. some_spelled (len ∷ rest) o n f
+    ] refl e
+
+otherwise : {X : Type 0} (b : Bool) (x y : X) → b ≡ false → cond b x y ≡ y
+otherwise b x y is_false = rw is_false refl
+
+name_is_some : (name : List ℕ) → IsName name → eqb (length name) 0 ≡ false
+name_is_some name is = let positive : 0 < length name = is.not_empty in ne_eqb (length name) 0 (λ e. absurd (omega arith))
+
+optional_name_again : (o : Option (List ℕ)) (rest : List ℕ) → FitsOptional o → optional_name_front (field_optional_name o ++ rest) ≡ Holds o (length (field_optional_name o))
+unfolding field_name field_optional_name
+optional_name_again None rest fits = refl
+optional_name_again (Some name) rest is =
+    otherwise _ _ _ (name_is_some name is) ∙ ap (front_map Some) (name_again name rest is)
+
+optional_name_cut : (o : Option (List ℕ)) (k : ℕ) → FitsOptional o → k < length (field_optional_name o) → optional_name_front (take k (field_optional_name o)) ≡ Ends
+unfolding field_name field_optional_name
+optional_name_cut None zero fits lt = refl
+optional_name_cut None (suc k) fits lt = absurd (omega arith)
+optional_name_cut (Some name) zero is lt = refl
+optional_name_cut (Some name) (suc k) is lt =
+    otherwise _ _ _ (name_is_some name is) ∙ ap (front_map Some) (name_cut name (suc k) is lt)
+
+pub IsField-optional_name : IsField (λ o. IfSome o IsName) field_optional_name optional_name_at
+unfolding optional_name_at
+IsField-optional_name = IsField-from_front (record {
+  spelled = λ bytes o n ib e. optional_name_spelled bytes o n e;
+  again = optional_name_again;
+  cut = optional_name_cut;
+})
 
 -- ---- reading the bytes of a name
 

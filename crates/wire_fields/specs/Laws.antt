@@ -15,9 +15,8 @@ pub record StandsAt (bytes : List ℕ) (at : ℕ) (text : List ℕ) : Type 0 whe
   pub parts : drop at bytes ≡ text ++ rest
 
 -- an instance whose numbers have a spelling
-pub record FitsInstance (i : Instance) : Type 0 where
-  pub epoch : i.epoch < 2 ^ 64
-  pub number : i.number < 2 ^ 32
+abbrev pub FitsInstance : Instance → Type 0
+FitsInstance i = (i.epoch < 2 ^ 64) × (i.number < 2 ^ 32)
 
 -- what is read is spelled so and in its range; what is spelled so is read, whatever follows, also where
 -- it was written over other bytes; and a spelling that is cut off is short

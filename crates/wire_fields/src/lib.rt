@@ -2,11 +2,16 @@
 #![tactic(auto)]
 
 mod fault;
+mod laws;
 mod place;
 mod reading;
 mod writing;
 
 pub use fault::FieldFault;
+pub use laws::{
+    instances_are_fields, names_and_truths_are_fields, numbers_are_fields,
+    numbers_have_their_length,
+};
 pub use reading::{
     read_instance, read_name, read_optional_instance, read_optional_name, read_truth, read_u8,
     read_u16, read_u32, read_u64,
