@@ -2,7 +2,13 @@
 #![tactic(auto)]
 
 mod area;
+mod areas;
+mod deed;
 mod disk;
+mod memory_area;
+mod memory_disk;
+mod meter;
 
 pub use area::Area;
 pub use disk::Disk;
+pub use memory_disk::MemoryDisk;

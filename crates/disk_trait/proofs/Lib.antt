@@ -1,0 +1,5 @@
+mod DeedLemmas
+mod MoveLemmas
+mod AreaLemmas
+mod Bytes
+pub mod Ranges
