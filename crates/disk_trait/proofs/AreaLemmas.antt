@@ -29,8 +29,10 @@ adds clock old new entry Step numbered more call undoes step = record {
   where
     begins : before (old.entries.items ++ entry ∷ []) new.bytes.items ≡ before old.entries.items old.bytes.items
     begins = before_push old.entries.items entry new.bytes.items ∙ ap (before old.entries.items) undoes
+
     first : Held
     first = settled_on (before old.entries.items old.bytes.items)
+
     now_is : held_at new (clock + 1) ≡ held_after entry.deed (held_at old clock) new.bytes.items
     now_is =
         ap (λ (es : List Entry). held_until (clock + 1) es (settled_on (before es new.bytes.items)) new.bytes.items) more
@@ -49,6 +51,7 @@ rests clock old new Step numbered entries bytes step = record {
   where
     later : NumberedTo (clock + 1) old.entries.items
     later = numbered_later clock (clock + 1) old.entries.items (omega arith) numbered
+
     same : (m : ℕ) → held_at new m ≡ held_at old m
     same m = ap (λ (es : List Entry). held_until m es (settled_on (before es new.bytes.items)) new.bytes.items) entries
         ∙ ap (λ (l : List ℕ). held_until m old.entries.items (settled_on (before old.entries.items l)) l) bytes

@@ -73,4 +73,3 @@ reads_all m [] held after numbered is = is
 reads_all m (e ∷ entries) held after numbered is =
     ap (λ (h : Held). h.reads) (done e.call m _ held numbered.0)
     ∙ reads_all m entries (held_after e.deed held (before entries after)) after numbered.1 (reads_after e.deed held (before entries after) is)
-

@@ -117,7 +117,10 @@ impl MemoryDisk {
         ensures failing { failing_of self.new ≡ failing_of self.old }
     {
         let clock = self.meter.clock;
-        let found = self.areas.write(self.alloc, clock, area, at as usize, bytes).is_ok();
+        let found = self
+            .areas
+            .write(self.alloc, clock, area, at as usize, bytes)
+            .is_ok();
         let _ticked = self.meter.tick();
         self.end(found)
     }
@@ -174,7 +177,6 @@ impl Disk for MemoryDisk {
     ghost fault_count = { faults_of };
 
     ghost use Rattle.std.specs.Prelude.{refl};
-
     ghost use Rattle.std.proofs.Common.{rules};
 
     ghost timed = { Prim.search rules };

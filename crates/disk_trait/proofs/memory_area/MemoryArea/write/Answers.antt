@@ -32,7 +32,7 @@ invariant_of-self-2 c =
     let part : c.min-end.result - at ≡ min (length bytes) (length (drop at old)) = omega (arith, length-drop at old) in
     let over = c.in_ok-over.ensures.items ∙ ap (λ (l : List ℕ). take (c.min-end.result - at) (drop at l)) c.deref.ensures.value ∙ over_is at c.min-end.result (length bytes) old part in
     let undoes : undone entry.deed c.lay.new.target.items ≡ old =
-        ap (undone entry.deed) laid ∙ undone_overwritten at (length bytes) bytes old c.in_ok-over.over.items c.requires.at refl over in
+    ap (undone entry.deed) laid ∙ undone_overwritten at (length bytes) bytes old c.in_ok-over.over.items c.requires.at refl over in
     record {
       sound = sound_adds c.args.self.now _ c.lay.new.target.items entry more undoes
           (rw laid (torn_overwritten at bytes old c.requires.at))
@@ -50,6 +50,6 @@ returns c =
     let part : c.min-end.result - at ≡ min (length bytes) (length (drop at old)) = omega (arith, length-drop at old) in
     let over = c.in_ok-over.ensures.items ∙ ap (λ (l : List ℕ). take (c.min-end.result - at) (drop at l)) c.deref.ensures.value ∙ over_is at c.min-end.result (length bytes) old part in
     let undoes : undone entry.deed c.lay.new.target.items ≡ old =
-        ap (undone entry.deed) laid ∙ undone_overwritten at (length bytes) bytes old c.in_ok-over.over.items c.requires.at refl over in
+    ap (undone entry.deed) laid ∙ undone_overwritten at (length bytes) bytes old c.in_ok-over.over.items c.requires.at refl over in
     adds c.args.clock c.args.self.now _ entry (Wrote true at bytes) c.requires.numbered more refl undoes
     (λ held same. wrote_step at (length bytes) bytes old c.lay.new.target.items c.in_ok-over.over held refl laid same)
