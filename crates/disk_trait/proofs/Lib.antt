@@ -3,3 +3,5 @@ mod MoveLemmas
 mod AreaLemmas
 mod Bytes
 pub mod Ranges
+pub mod Steps
+pub mod Told

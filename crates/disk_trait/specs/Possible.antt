@@ -30,10 +30,10 @@ sound_before (e ∷ entries) after sound = sound.0
 possible_after : (deed : Deed) (held : Held) (after : List ℕ) → held.reads ≡ undone deed after → Torn (range_named deed) (undone deed after) after → AreBytes after → Leaves held held.reads
     → Leaves (held_after deed held after) (held_after deed held after).reads
 possible_after (Write from len over) held after is torn bytes possible = record {
-  torn = (held.reads, possible.torn, subst (λ (l : List ℕ). Torn (record { from = from; len = len }) l after) (sym is) torn);
+  torn = (held.reads, possible.torn, possible.bytes, subst (λ (l : List ℕ). Torn (record { from = from; len = len }) l after) (sym is) torn);
   bytes = bytes;
 }
-possible_after (Tear from len) held after is torn bytes possible = record { torn = (held.reads, possible.torn, torn_same _ held.reads); bytes = possible.bytes }
+possible_after (Tear from len) held after is torn bytes possible = record { torn = (held.reads, possible.torn, possible.bytes, torn_same _ held.reads); bytes = possible.bytes }
 possible_after Sync held after is torn bytes possible = record { torn = refl; bytes = possible.bytes }
 
 pub possible_until : (m : ℕ) (entries : List Entry) (held : Held) (after : List ℕ) → Sound entries after → held.reads ≡ before entries after → Leaves held held.reads
