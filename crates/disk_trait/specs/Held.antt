@@ -23,10 +23,10 @@ pub record Torn (range : Range) (old new : List ℕ) : Type 0 where
   pub no_shorter : length old ≤ length new
   pub no_longer : length new ≤ max (length old) (range.from + range.len)
 
--- each pending range has been torn, from what was synced on
+-- each pending range has been torn in its turn, from what was synced on
 abbrev pub MayLeave : List ℕ → List Range → List ℕ → Type 0
 MayLeave synced [] left = left ≡ synced
-MayLeave synced (range ∷ ranges) left = (middle : List ℕ) × MayLeave synced ranges middle × Torn range middle left
+MayLeave synced (range ∷ ranges) left = (middle : List ℕ) × MayLeave synced ranges middle × AreBytes middle × Torn range middle left
 
 -- what a stop may leave of the area
 pub record Leaves (held : Held) (left : List ℕ) : Type 0 where

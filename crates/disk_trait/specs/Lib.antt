@@ -2,3 +2,8 @@ pub mod Held
 pub mod Past
 pub mod Steps
 pub mod Runs
+pub mod Deeds
+pub mod MemoryPast
+pub mod Possible
+pub mod MemoryAreas
+pub mod Memory

@@ -2,7 +2,16 @@
 #![tactic(auto)]
 
 mod area;
+mod areas;
+mod deed;
 mod disk;
+mod file_disk;
+mod memory_area;
+mod memory_disk;
+mod meter;
+mod two_files;
 
 pub use area::Area;
 pub use disk::Disk;
+pub use file_disk::FileDisk;
+pub use memory_disk::MemoryDisk;

@@ -1,0 +1,7 @@
+mod DeedLemmas
+mod MoveLemmas
+mod AreaLemmas
+mod Bytes
+pub mod Ranges
+pub mod Steps
+pub mod Told
