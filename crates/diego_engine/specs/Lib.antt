@@ -1,1 +1,4 @@
+pub mod Board
+pub mod Frames
 pub mod Printed
+pub mod Spelling

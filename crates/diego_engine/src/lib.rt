@@ -1,6 +1,11 @@
 //! All that the program does.
 #![tactic(auto)]
 
+mod following;
+mod frames;
 mod printing;
+mod spelling;
 
+pub use spelling::{put_command, read_command};
+pub use following::{Followed, follow};
 pub use printing::{Counts, answer_text, event_text, summary_text};
