@@ -1,6 +1,6 @@
 -- What the kinds of device calls do to what is read of an area and what a stop may leave of it, and
 -- how their runs join. P stands for what holds of an area whatever a torn write has done to it.
-use Rattle.std.proofs.Common.{◌≡◌, inl, inr, ⊎_elim, ℕ, ◌+◌, ◌≤◌, ◌<◌, Bool, true, false, List, [], ◌∷◌, length, refl, sym, ◌∙◌, ap, subst, arith}
+use Rattle.std.proofs.Common.{◌≡◌, ◌⊎◌, inl, inr, ⊎_elim, ℕ, ◌+◌, ◌≤◌, ◌<◌, Bool, true, false, List, [], ◌∷◌, length, refl, sym, ◌∙◌, ap, subst, arith}
 use Rattle.std.proofs.lemmas.Bool.Decides.{leb_tells}
 use Rattle.disk_trait.proofs.Ranges.{torn_overwritten}
 use Rattle.disk_trait.specs.Held.{Held, Range, Torn, Leaves, Has, AreBytes, IsSettledArea, MayLeave}
@@ -150,3 +150,67 @@ runs_then P area p q r first second = record {
     | inr late ↦ second.there m (omega (arith, late.1)) to ∙ runs_there P area p q first
   ];
 }
+
+-- Turns: a write of these bytes and a sync, of which each may fail.
+
+module _ (P Q : List ℕ → Type 0) (area : Area) (at : ℕ) (bytes : List ℕ) (bears : Bears P (range_of at bytes)) where
+  -- the write failed
+  pub write_fails : (p q : Past) → Changes area (Wrote false at bytes) p q → at ≤ length (content p area) → Has P (now p area) → Turns area false P Q p q
+  write_fails p q wrote within has =
+      let after = wrote_has P area at bytes bears false p q wrote within has in
+      record { runs = runs_change P area (Wrote false at bytes) p q wrote has after; done = λ h. absurd (cc); failed = λ h. after }
+
+  -- the write was made, and the sync too or not
+  pub write_syncs : (ok : Bool) (p q r : Past) → Changes area (Wrote true at bytes) p q → Changes area (Synced ok) q r → at ≤ length (content p area) → Has P (now p area) → Q (overwritten at bytes (content p area))
+      → Turns area ok P Q p r
+  write_syncs ok p q r wrote synced within has becomes =
+      let between = wrote_has P area at bytes bears true p q wrote within has in
+      let after = sync_has P ok area q r synced between in
+      record {
+        runs = runs_then P area p q r (runs_change P area (Wrote true at bytes) p q wrote has between) (runs_change P area (Synced ok) q r synced between after);
+        done = λ h. synced_has Q area q r (subst (λ (b : Bool). Changes area (Synced b) q r) h synced) (subst Q (sym (wrote_content area at bytes p q wrote)) becomes);
+        failed = λ h. after;
+      }
+
+pub turns_weaker : (P P' Q Q' : List ℕ → Type 0) (area : Area) (ok : Bool) (p q : Past) → ((bytes : List ℕ) → P bytes → P' bytes) → ((bytes : List ℕ) → Q bytes → Q' bytes) → Turns area ok P Q p q → Turns area ok P' Q' p q
+turns_weaker P P' Q Q' area ok p q weaker done_weaker turns = record {
+  runs = runs_weaker P P' area p q weaker turns.runs;
+  done = λ h. has_weaker Q Q' (now q area) done_weaker (turns.done h);
+  failed = λ h. has_weaker P P' (now q area) weaker (turns.failed h);
+}
+
+-- one turn that succeeds, and then another, each weakened to what a stop may leave during both
+pub turns_then : (P P' Q Q' R : List ℕ → Type 0) (area : Area) (ok : Bool) (p q r : Past) → ((bytes : List ℕ) → P bytes → R bytes) → ((bytes : List ℕ) → P' bytes → R bytes) → Turns area true P Q p q → Turns area ok P' Q' q r
+    → Turns area ok R Q' p r
+turns_then P P' Q Q' R area ok p q r first_weaker second_weaker first second = record {
+  runs = runs_then R area p q r (runs_weaker P R area p q first_weaker first.runs) (runs_weaker P' R area q r second_weaker second.runs);
+  done = second.done;
+  failed = λ h. has_weaker P' R (now r area) second_weaker (second.failed h);
+}
+
+-- Images.
+
+pub images_now : (p : Past) (since : ℕ) (image : Image) → since ≤ p.clock → Images p image → ImagesSince p since image
+images_now p since image le images = record { moment = p.clock; from = le; to = omega arith; leaves = images }
+
+-- an image of a longer past is one of the earlier past, or one of the moments since
+pub images_split : (p q : Past) (since : ℕ) (image : Image) → Extends p q → ImagesSince q since image → ImagesSince p since image ⊎ ImagesSince q p.clock image
+images_split p q since image extends images = elim (leb_tells images.moment p.clock) [
+  | inl early ↦ inl (record {
+    moment = images.moment;
+    from = images.from;
+    to = early.1;
+    leaves = λ area. subst (λ (h : Held). Leaves h (image area)) (was_held p q extends area images.moment early.1) (images.leaves area);
+  })
+  | inr late ↦ inr (record { moment = images.moment; from = omega (arith, late.1); to = images.to; leaves = images.leaves })
+]
+
+-- what a stop in a run leaves: of that area what has P, of the other what it could leave before the run
+pub runs_image : (P : List ℕ → Type 0) (area : Area) (p q : Past) (image : Image) → Runs area P p q → ImagesSince q p.clock image → P (image area) × Leaves (now p (other area)) (image (other area))
+runs_image P area p q image runs images = (
+  runs.each images.moment images.from images.to (image area) (images.leaves area),
+  subst (λ (h : Held). Leaves h (image (other area))) (runs.there images.moment images.from images.to) (images.leaves (other area)),
+)
+
+pub has_image : (P : List ℕ → Type 0) (area : Area) (p : Past) (image : Image) → Has P (now p area) → Images p image → P (image area)
+has_image P area p image has images = has.leaves (image area) (images area)

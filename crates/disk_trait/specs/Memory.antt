@@ -11,13 +11,15 @@ use Rattle.disk_trait.specs.declared.memory_disk.MemoryDisk.{MemoryDisk}
 abbrev pub memory_past : MemoryDisk → Past
 memory_past disk = past_of disk.areas disk.meter.clock
 
--- the number of its device calls, that of its faults, and that of the calls for which it had no memory
+-- how many device calls were made of it
 abbrev pub calls_of : MemoryDisk → ℕ
 calls_of disk = disk.meter.clock
 
+-- how many of them failed
 abbrev pub faults_of : MemoryDisk → ℕ
 faults_of disk = disk.meter.faults
 
+-- how many failed for want of memory alone
 abbrev pub starved_of : MemoryDisk → ℕ
 starved_of disk = disk.starved
 

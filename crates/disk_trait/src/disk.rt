@@ -1,5 +1,5 @@
 // A disk as its users see it. Its past tells what a read gives and what a stop may leave, at each
-// moment so far; a disk may also tell nothing, and then only the causes of faults and the clock are known.
+// moment so far. A disk may also tell nothing: then the causes of its faults and its clock are known.
 ghost use Rattle.std.specs.Prelude.{◌≡◌, ℕ, ◌≤◌, Option, Some, length, is_ok, is_err, IfOk};
 ghost use Rattle.std.specs.Option.{ForSome};
 ghost use Rattle.byte_ports.specs.Cause.{HasCause};
@@ -28,7 +28,7 @@ pub trait Disk {
         ensures cause { HasCause (is_err result) (fault_count self.old) (fault_count self.new) };
 
     /// Fills the room with the area's bytes from `at` on, and answers how many there were: fewer than
-    /// the room holds where the area ends, and 0 past its end. After `Failed` the room may hold anything.
+    /// it holds where the area ends, and 0 past its end. After `Failed` the room may hold anything.
     fn read_at(&mut self, area: Area, at: u64, room: &mut [u8]) -> Result<usize, Failed>
         ensures bound { IfOk result (λ n. n ≤ length room.old) }
         ensures bytes { IfOk result

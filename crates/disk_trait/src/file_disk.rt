@@ -20,8 +20,8 @@ pub struct FileDisk<R: Files<File = File> + Drop> {
 impl<R: Files<File = File> + Drop> FileDisk<R> {
     /// A disk of the files of these names. No file is touched yet.
     pub fn new(rt: R, a: String, b: String) -> FileDisk<R>
-        ensures clock { result.meter.clock ≡ 0 }
-        ensures faults { result.meter.faults ≡ 0 }
+        ensures clock { ⟦<FileDisk<R> as Disk>⟧.moment result ≡ 0 }
+        ensures faults { ⟦<FileDisk<R> as Disk>⟧.fault_count result ≡ 0 }
     {
         FileDisk {
             files: TwoFiles::new(rt, a, b),

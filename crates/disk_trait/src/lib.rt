@@ -15,3 +15,6 @@ pub use area::Area;
 pub use disk::Disk;
 pub use file_disk::FileDisk;
 pub use memory_disk::MemoryDisk;
+
+#[cfg(test)]
+mod tests;

@@ -110,7 +110,8 @@ impl MemoryDisk {
     fn try_write(&mut self, area: Area, at: u64, bytes: &[u8]) -> Result<(), Failed>
         requires room { calls_of self.old < 2 ^ 64 - 1 }
         requires at { at ≤ length (content (memory_past self.old) area) }
-        ensures does { Changes area (Wrote (is_ok result) at bytes.now) (memory_past self.old) (memory_past self.new) }
+        ensures does { Changes area (Wrote (is_ok result) at bytes.now)
+            (memory_past self.old) (memory_past self.new) }
         ensures calls { calls_of self.new ≡ calls_of self.old + 1 }
         ensures cause { HasCause (is_err result) (faults_of self.old) (faults_of self.new) }
         ensures starved { HasCause (is_err result) (starved_of self.old) (starved_of self.new) }
@@ -127,7 +128,8 @@ impl MemoryDisk {
 
     fn try_sync(&mut self, area: Area) -> Result<(), Failed>
         requires { calls_of self.old < 2 ^ 64 - 1 }
-        ensures does { Changes area (Synced (is_ok result)) (memory_past self.old) (memory_past self.new) }
+        ensures does { Changes area (Synced (is_ok result))
+            (memory_past self.old) (memory_past self.new) }
         ensures calls { calls_of self.new ≡ calls_of self.old + 1 }
         ensures cause { HasCause (is_err result) (faults_of self.old) (faults_of self.new) }
         ensures starved { HasCause (is_err result) (starved_of self.old) (starved_of self.new) }
@@ -141,7 +143,8 @@ impl MemoryDisk {
 
     /// A write that was to fail. Where there is memory to note it, its range is pending.
     fn fail_write(&mut self, area: Area, at: u64, bytes: &[u8]) -> Failed
-        ensures does { Changes area (Wrote false at bytes.now) (memory_past self.old) (memory_past self.new) }
+        ensures does { Changes area (Wrote false at bytes.now)
+            (memory_past self.old) (memory_past self.new) }
         ensures time { Ticks false (calls_of self.old) (calls_of self.new) }
         ensures cause { HasCause true (faults_of self.old) (faults_of self.new) }
         ensures starved { starved_of self.new ≡ starved_of self.old }
@@ -199,7 +202,8 @@ impl Disk for MemoryDisk {
     fn read_at(&mut self, area: Area, at: u64, room: &mut [u8]) -> Result<usize, Failed>
         ensures bound { IfOk result (λ n. n ≤ length room.old) }
         ensures bytes { IfOk result
-            (λ n. ForSome (Some (memory_past self.old)) (λ p. Filled (content p area) at n room.old room.new)) }
+            (λ n. ForSome (Some (memory_past self.old))
+            (λ p. Filled (content p area) at n room.old room.new)) }
         ensures does { Goes (Some (memory_past self.old)) (Some (memory_past self.new)) Looks }
         ensures time { Ticks (is_ok result) (calls_of self.old) (calls_of self.new) }
         ensures cause { HasCause (is_err result) (faults_of self.old) (faults_of self.new) }
