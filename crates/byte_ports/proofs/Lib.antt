@@ -1,1 +1,2 @@
 pub mod CauseLemmas
+mod Moves

@@ -3,10 +3,14 @@
 
 mod failed;
 mod gate;
+mod reading;
 mod sink;
 mod source;
+mod writing;
 
 pub use failed::Failed;
 pub use gate::{Gate, OpenGate};
+pub use reading::{ReadFault, read_whole};
 pub use sink::Sink;
 pub use source::Source;
+pub use writing::write_whole;
