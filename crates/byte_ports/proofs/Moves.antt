@@ -1,6 +1,6 @@
 -- Pieces moved one after another.
-use Rattle.std.specs.Prelude.{◌≡◌, ℕ, ◌+◌, ◌-◌, ◌≤◌, List, ◌++◌, length, take, drop, Option}
-use Rattle.std.proofs.Common.{arith, sym, ap, ◌∙◌, append_assoc, take-append-drop, length-append, length-take}
+use Rattle.std.specs.Prelude.{◌≡◌, ℕ, ◌+◌, ◌-◌, ◌<◌, ◌≤◌, min, List, [], ◌++◌, length, take, drop, Option}
+use Rattle.std.proofs.Common.{arith, sym, ap, ◌∙◌, append_assoc, take-append-drop, length-append, length-take, length-drop, drop-drop, take_at, drop_of_length-le}
 use Rattle.std.proofs.lemmas.List.{take_rest}
 use Rattle.std.specs.Io.KnownBytes.{Consumes}
 use Rattle.std.proofs.KnownBytes.{Consumes-trans}
@@ -21,3 +21,17 @@ lost_more a b c bytes room m fits first second =
     let long : length (bytes ++ take m room) ≡ length bytes + m =
     omega (arith, length-append bytes (take m room), length-take m room) in
     (bytes ++ take m room, long, Consumes-trans a b c _ _ first second)
+
+-- the first n bytes from a place on were copied to the front of a room, as many as there are or fit
+pub copied_front : (bytes rest room copied : List ℕ) (at n : ℕ) → rest ≡ drop at bytes
+    → n ≡ min (length rest) (length room) → copied ≡ take n rest
+    → (drop at bytes ≡ take n (copied ++ drop n room) ++ drop (at + n) bytes)
+    × (n ≡ 0 → 0 < length (copied ++ drop n room) → drop (at + n) bytes ≡ [])
+copied_front bytes rest room copied at n whole count copy =
+    let long : length copied ≡ n = omega (arith, ap length copy, length-take n rest) in
+    let back : drop (at + n) bytes ≡ drop n rest = sym (drop-drop n at bytes) ∙ ap (drop n) (sym whole) in
+    let front : take n (copied ++ drop n room) ≡ take n rest = take_at copied (drop n room) n long ∙ copy in (
+      sym whole ∙ sym (take-append-drop n rest) ∙ ap (λ l. l ++ drop n rest) (sym front)
+          ∙ ap (λ l. take n (copied ++ drop n room) ++ l) (sym back),
+      λ none free. back ∙ drop_of_length-le rest (omega (arith, length-append copied (drop n room), length-drop n room)),
+    )
