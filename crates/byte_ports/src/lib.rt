@@ -23,3 +23,6 @@ pub use source::Source;
 pub use std_sink::StdSink;
 pub use std_source::StdSource;
 pub use writing::write_whole;
+
+#[cfg(test)]
+mod tests;
