@@ -29,9 +29,12 @@ pub copied_front : (bytes rest room copied : List ℕ) (at n : ℕ) → rest ≡
     × (n ≡ 0 → 0 < length (copied ++ drop n room) → drop (at + n) bytes ≡ [])
 copied_front bytes rest room copied at n whole count copy =
     let long : length copied ≡ n = omega (arith, ap length copy, length-take n rest) in
-    let back : drop (at + n) bytes ≡ drop n rest = sym (drop-drop n at bytes) ∙ ap (drop n) (sym whole) in
-    let front : take n (copied ++ drop n room) ≡ take n rest = take_at copied (drop n room) n long ∙ copy in (
+    let behind : List ℕ = drop n room in
+    let back : drop (at + n) bytes ≡ drop n rest =
+    sym (drop-drop n at bytes) ∙ ap (drop n) (sym whole) in
+    let front : take n (copied ++ behind) ≡ take n rest = take_at copied behind n long ∙ copy in (
       sym whole ∙ sym (take-append-drop n rest) ∙ ap (λ l. l ++ drop n rest) (sym front)
-          ∙ ap (λ l. take n (copied ++ drop n room) ++ l) (sym back),
-      λ none free. back ∙ drop_of_length-le rest (omega (arith, length-append copied (drop n room), length-drop n room)),
+          ∙ ap (λ l. take n (copied ++ behind) ++ l) (sym back),
+      λ none free. back ∙ drop_of_length-le rest
+          (omega (arith, length-append copied behind, length-drop n room)),
     )

@@ -22,4 +22,5 @@ HoldsFront old new text =
 -- a front of the text was appended, and not the whole of it
 abbrev pub HoldsPart : Option (List ℕ) → Option (List ℕ) → List ℕ → Type 0
 HoldsPart old new text =
-    (front : List ℕ) × (rest : List ℕ) × (text ≡ front ++ rest) × (0 < length rest) × Appends old new front
+    (front : List ℕ) × (rest : List ℕ) × (text ≡ front ++ rest) × (0 < length rest)
+    × Appends old new front

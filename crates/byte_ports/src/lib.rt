@@ -2,15 +2,16 @@
 #![tactic(auto)]
 
 mod failed;
+mod failing_calls;
 mod gate;
 mod memory_sink;
 mod memory_source;
 mod reading;
-mod schedule;
 mod sink;
 mod source;
 mod std_sink;
 mod std_source;
+mod tries;
 mod writing;
 
 pub use failed::Failed;

@@ -4,10 +4,10 @@ ghost use Rattle.std.specs.Io.{WritesAtMost};
 ghost use Rattle.std.specs.Io.KnownBytes.{WriteAppends};
 ghost use Rattle.byte_ports.specs.Cause.{HasCause};
 ghost use Rattle.byte_ports.specs.Content.{TakesSome};
-ghost use Rattle.byte_ports.specs.Memory.{sink_bytes, sink_faults, sink_schedule, sink_starved};
-ghost use Rattle.byte_ports.specs.Schedule.{IsNew, FailsOrStarves};
+ghost use Rattle.byte_ports.specs.Memory.{sink_bytes, sink_faults, sink_failing, sink_starved};
+ghost use Rattle.byte_ports.specs.FailingCalls.{IsNew, FailsOrStarves};
 
-use crate::schedule::Schedule;
+use crate::failing_calls::FailingCalls;
 use crate::{Failed, Sink};
 use std::alloc::Global;
 
@@ -15,7 +15,7 @@ use std::alloc::Global;
 #[derive(Drop)]
 pub struct MemorySink {
     bytes: Vec<u8>,
-    schedule: Schedule,
+    failing: FailingCalls,
     faults: u64,
     starved: u64,
 }
@@ -25,12 +25,12 @@ impl MemorySink {
     pub fn new(alloc: Global, failing: Vec<u64>) -> Self
         ensures bytes { sink_bytes result ≡ [] }
         ensures faults { sink_faults result ≡ 0 }
-        ensures schedule { IsNew failing.items (sink_schedule result) }
+        ensures failing { IsNew failing.items (sink_failing result) }
         ensures starved { sink_starved result ≡ 0 }
     {
         MemorySink {
             bytes: Vec::new(alloc),
-            schedule: Schedule::new(failing),
+            failing: FailingCalls::new(failing),
             faults: 0,
             starved: 0,
         }
@@ -62,10 +62,10 @@ impl Sink for MemorySink {
         ensures bytes { WriteAppends (Some (sink_bytes self.old)) (Some (sink_bytes self.new))
             result piece.now }
         ensures cause { HasCause (is_err result) (sink_faults self.old) (sink_faults self.new) }
-        ensures failing { FailsOrStarves (is_err result) (sink_schedule self.old)
-            (sink_schedule self.new) (sink_starved self.old) (sink_starved self.new) }
+        ensures failing { FailsOrStarves (is_err result) (sink_failing self.old)
+            (sink_failing self.new) (sink_starved self.old) (sink_starved self.new) }
     {
-        if self.schedule.next_fails() {
+        if self.failing.next_fails() {
             self.faults = self.faults.saturating_add(1);
             return Err(Failed);
         }

@@ -1,7 +1,7 @@
 // A source of bytes that are given beforehand, for tests.
 ghost use Rattle.std.specs.Prelude.{◌≤◌, vec_len};
 
-use crate::schedule::Schedule;
+use crate::failing_calls::FailingCalls;
 use crate::{Failed, Source};
 
 /// A source in memory. It fails exactly at the calls that are listed.
@@ -9,26 +9,26 @@ use crate::{Failed, Source};
 pub struct MemorySource {
     bytes: Vec<u8>,
     at: usize,
-    schedule: Schedule,
+    failing: FailingCalls,
     faults: u64,
     ghost within: { at ≤ vec_len bytes },
 }
 
 impl MemorySource {
     ghost use Rattle.std.specs.Prelude.{◌≡◌};
-    ghost use Rattle.byte_ports.specs.Memory.{source_bytes, source_faults, source_schedule};
-    ghost use Rattle.byte_ports.specs.Schedule.{IsNew};
+    ghost use Rattle.byte_ports.specs.Memory.{source_bytes, source_faults, source_failing};
+    ghost use Rattle.byte_ports.specs.FailingCalls.{IsNew};
 
     /// `failing` numbers the calls of `take` that fail, from 1.
     pub fn new(bytes: Vec<u8>, failing: Vec<u64>) -> Self
         ensures left { source_bytes result ≡ bytes.items }
         ensures faults { source_faults result ≡ 0 }
-        ensures schedule { IsNew failing.items (source_schedule result) }
+        ensures failing { IsNew failing.items (source_failing result) }
     {
         MemorySource {
             bytes,
             at: 0,
-            schedule: Schedule::new(failing),
+            failing: FailingCalls::new(failing),
             faults: 0,
         }
     }
@@ -39,8 +39,8 @@ impl Source for MemorySource {
     ghost use Rattle.std.specs.Io.{ReadsAtMost};
     ghost use Rattle.std.specs.Io.KnownBytes.{ReadConsumes};
     ghost use Rattle.byte_ports.specs.Cause.{HasCause};
-    ghost use Rattle.byte_ports.specs.Memory.{source_bytes, source_faults, source_schedule};
-    ghost use Rattle.byte_ports.specs.Schedule.{FailsAsListed};
+    ghost use Rattle.byte_ports.specs.Memory.{source_bytes, source_faults, source_failing};
+    ghost use Rattle.byte_ports.specs.FailingCalls.{FailsAsListed};
 
     ghost left = { λ source. Some (source_bytes source) };
 
@@ -52,9 +52,9 @@ impl Source for MemorySource {
             result room.new }
         ensures cause { HasCause (is_err result) (source_faults self.old) (source_faults self.new) }
         ensures failing { FailsAsListed (is_err result)
-            (source_schedule self.old) (source_schedule self.new) }
+            (source_failing self.old) (source_failing self.new) }
     {
-        if self.schedule.next_fails() {
+        if self.failing.next_fails() {
             self.faults = self.faults.saturating_add(1);
             return Err(Failed);
         }

@@ -1,5 +1,5 @@
 // A source read to its end, up to a limit.
-ghost use Rattle.std.specs.Prelude.{◌≡◌, ◌+◌, ◌^◌, ◌<◌, ◌≤◌, IfOk, OnOk, IsErrOf, vec_len, alloc_error};
+ghost use Rattle.std.specs.Prelude.{◌≡◌, ◌+◌, ◌^◌, ◌<◌, ◌≤◌, IfOk, OnOk, IsErrOf, vec_len};
 ghost use Rattle.std.specs.Io.KnownBytes.{Consumes, IsAtEnd};
 ghost use Rattle.byte_ports.specs.declared.reading.ReadFault.TheVariants as Fault;
 ghost use Rattle.byte_ports.specs.Cause.{HasCause};
@@ -46,7 +46,8 @@ pub fn read_whole<S: Source>(
 ) -> Result<Vec<u8>, ReadFault>
     requires { limit < 2 ^ 63 }
 
-    ensures whole { IfOk result (λ bytes. Consumes (S.left source.old) (S.left source.new) bytes.items) }
+    ensures whole { IfOk result
+        (λ bytes. Consumes (S.left source.old) (S.left source.new) bytes.items) }
     ensures end { OnOk result (IsAtEnd (S.left source.new)) }
     ensures fits { IfOk result (λ bytes. vec_len bytes ≤ limit) }
 

@@ -4,15 +4,13 @@ ghost use Rattle.std.specs.Io.{WritesAtMost};
 ghost use Rattle.std.specs.Io.KnownBytes.{WriteAppends};
 ghost use Rattle.byte_ports.specs.Content.{TakesSome};
 
+use crate::tries::TRIES;
 use crate::{Failed, Sink};
 use std::io::{ErrorKind, Write};
 
-// A write that a signal interrupted put nothing and is no fault: it is made again, but not for ever.
-const TRIES: u32 = 100;
-
-/// A sink over a writer. It tells the bytes held where the writer does, so of standard output and of
-/// files it tells nothing. A writer that takes nothing of a piece, and a write that was interrupted
-/// 100 times on end, are faults. Hand in a writer without a buffer: the sink never flushes it.
+/// A sink over a writer. It tells the bytes held where the writer does, so of standard output and
+/// of files it tells nothing. A writer that takes nothing of a piece, and a write that was
+/// interrupted 100 times on end, are faults. Hand in a writer without a buffer: it is never flushed.
 #[derive(Drop)]
 pub struct StdSink<W> {
     writer: W,

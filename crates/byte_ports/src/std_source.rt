@@ -3,11 +3,9 @@ ghost use Rattle.std.specs.Prelude.{◌≡◌};
 ghost use Rattle.std.specs.Io.{ReadsAtMost};
 ghost use Rattle.std.specs.Io.KnownBytes.{ReadConsumes};
 
+use crate::tries::TRIES;
 use crate::{Failed, Source};
 use std::io::{ErrorKind, Read};
-
-// A read that a signal interrupted took nothing and is no fault: it is made again, but not for ever.
-const TRIES: u32 = 100;
 
 /// A source over a reader. It tells the bytes left where the reader does, so of standard input and
 /// of files it tells nothing. A read that was interrupted 100 times on end is a fault.

@@ -1,4 +1,4 @@
--- What is gone from the source is in the bytes, which are within the limit, and no fault was counted.
+-- What is gone from the source is in the bytes, within the limit, and no fault was counted.
 use Rattle.std.proofs.Common.{◌≤◌, ◌-◌, length, false}
 use Rattle.std.specs.Io.KnownBytes.{Consumes}
 use Rattle.byte_ports.specs.Cause.{HasCause}

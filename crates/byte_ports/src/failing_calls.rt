@@ -1,18 +1,19 @@
 // The calls of an object in memory that are to fail.
 ghost use Rattle.std.specs.Prelude.{◌↔◌, IsTrue};
-ghost use Rattle.byte_ports.specs.Schedule.{IsNew, NextFails, CountsCall};
+ghost use Rattle.byte_ports.specs.FailingCalls.{IsNew, NextFails, CountsCall};
 
 #[derive(Drop)]
-pub(crate) struct Schedule {
-    failing: Vec<u64>,
+pub(crate) struct FailingCalls {
+    listed: Vec<u64>,
     calls: u64,
 }
 
-impl Schedule {
-    pub(crate) fn new(failing: Vec<u64>) -> Self
-        ensures { IsNew failing.items result }
+impl FailingCalls {
+    // `listed` has the numbers of the calls that fail, from 1.
+    pub(crate) fn new(listed: Vec<u64>) -> Self
+        ensures { IsNew listed.items result }
     {
-        Schedule { failing, calls: 0 }
+        FailingCalls { listed, calls: 0 }
     }
 
     // Counts a call, and says whether it is to fail.
@@ -21,6 +22,6 @@ impl Schedule {
         ensures counted { CountsCall self.old self.new }
     {
         self.calls = self.calls.saturating_add(1);
-        self.failing.contains(&self.calls)
+        self.listed.contains(&self.calls)
     }
 }
