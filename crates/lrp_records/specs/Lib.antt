@@ -1,1 +1,5 @@
 pub mod Presence
+pub mod States
+pub mod Steps
+pub mod Moves
+pub mod Laws

@@ -5,14 +5,17 @@ mod actual;
 mod desired;
 mod lrp_move;
 mod move_end;
+mod moves;
 mod presence;
 mod refusal;
 mod state;
+mod steps;
 
 pub use actual::Actual;
 pub use desired::Desired;
 pub use lrp_move::LrpMove;
 pub use move_end::MoveEnd;
+pub use moves::move_of;
 pub use presence::Presence;
 pub use refusal::LrpRefusal;
 pub use state::LrpState;

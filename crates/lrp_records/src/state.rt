@@ -1,4 +1,7 @@
-use diego_names::{Instance, Name};
+ghost use Rattle.std.specs.Prelude.{◌≡◌};
+ghost use Rattle.lrp_records.specs.States.{name_of, holder_of};
+
+use diego_names::{Instance, Name, StateName};
 
 /// What became of an instance. A claimed or running one says which container holds it, and where.
 #[derive(Clone, Copy, Debug, PartialEq, Eq)]
@@ -10,4 +13,29 @@ pub enum LrpState {
     Running { instance: Instance, cell: Name },
     /// It crashed too often to be tried again at once.
     Crashed,
+}
+
+impl LrpState {
+    pub fn name(&self) -> StateName
+        ensures { result ≡ name_of self.now }
+    {
+        match self {
+            LrpState::Unclaimed => StateName::Unclaimed,
+            LrpState::Claimed { .. } => StateName::Claimed,
+            LrpState::Running { .. } => StateName::Running,
+            LrpState::Crashed => StateName::Crashed,
+        }
+    }
+
+    /// The container that has the row.
+    pub fn holder(&self) -> Option<Instance>
+        ensures { result ≡ holder_of self.now }
+    {
+        match self {
+            LrpState::Claimed { instance, .. } | LrpState::Running { instance, .. } => {
+                Some(*instance)
+            }
+            LrpState::Unclaimed | LrpState::Crashed => None,
+        }
+    }
 }
