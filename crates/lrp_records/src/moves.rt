@@ -120,3 +120,6 @@ fn from_crashed(row: &Actual, mv: &LrpMove, now: Moment) -> MoveEnd
         LrpMove::Remove { instance: Some(_) } => MoveEnd::Refused(LrpRefusal::NotRunning),
     }
 }
+
+#[cfg(test)]
+mod tests;

@@ -39,3 +39,36 @@ impl LrpState {
         }
     }
 }
+
+#[cfg(test)]
+mod tests {
+    use super::*;
+    use std::test::Fail;
+
+    #[test]
+    fn a_state_tells_its_name_and_its_container(rt: HostRuntime) -> Result<(), Fail> {
+        let instance = Instance {
+            epoch: 3,
+            number: 2,
+        };
+        let cell = Name::read(b"c1")?;
+        for (state, name, holder) in [
+            (LrpState::Unclaimed, StateName::Unclaimed, None),
+            (
+                LrpState::Claimed { instance, cell },
+                StateName::Claimed,
+                Some(instance),
+            ),
+            (
+                LrpState::Running { instance, cell },
+                StateName::Running,
+                Some(instance),
+            ),
+            (LrpState::Crashed, StateName::Crashed, None),
+        ] {
+            assert_eq!(rt; state.name(), name);
+            assert_eq!(rt; state.holder(), holder, "in {state:?}");
+        }
+        Ok(())
+    }
+}

@@ -1,0 +1,2 @@
+pub mod PresenceOrder
+pub mod MoveLaws
