@@ -37,4 +37,5 @@ ChangesByRestart move (Refused refusal) = Unit {0}
 -- a claim of a row that another container has is refused, naming that container
 abbrev pub NeverTakesAClaim : Actual → LrpMove → MoveEnd → Type 0
 NeverTakesAClaim row move end =
-    (instance held : Instance) (cell : List ℕ) → move ≡ Claim instance cell → holder_of row.state ≡ Some held → instance ≢ held → end ≡ Refused (Held held)
+    (instance held : Instance) (cell : List ℕ) → move ≡ Claim instance cell →
+    holder_of row.state ≡ Some held → instance ≢ held → end ≡ Refused (Held held)

@@ -27,8 +27,10 @@ from_unclaimed row PlaceFail now = not_placed row
 abbrev pub from_claimed : Actual → Instance → LrpMove → Moment → MoveEnd
 from_claimed row held (Claim instance cell) now = if_own instance held Same (Held held)
 from_claimed row held (Start instance cell) now = turned row (Running instance cell) now
-from_claimed row held (Crash instance) now = if_own instance held (crashed row None now) (WrongInstance held)
-from_claimed row held (Unclaim instance) now = if_own instance held (turned row Unclaimed now) (WrongInstance held)
+from_claimed row held (Crash instance) now =
+    if_own instance held (crashed row None now) (WrongInstance held)
+from_claimed row held (Unclaim instance) now =
+    if_own instance held (turned row Unclaimed now) (WrongInstance held)
 from_claimed row held Restart now = wrong_state row
 from_claimed row held (Remove None) now = Refused (Held held)
 from_claimed row held (Remove (Some instance)) now = if_own instance held Gone (WrongInstance held)
@@ -38,8 +40,10 @@ from_claimed row held PlaceFail now = wrong_state row
 abbrev pub from_running : Actual → Instance → LrpMove → Moment → MoveEnd
 from_running row held (Claim instance cell) now = if_own instance held (wrong_state row) (Held held)
 from_running row held (Start instance cell) now = if_own instance held Same (Held held)
-from_running row held (Crash instance) now = if_own instance held (crashed row (Some (now.0 - row.since.0)) now) (WrongInstance held)
-from_running row held (Unclaim instance) now = if_own instance held (turned row Unclaimed now) (WrongInstance held)
+from_running row held (Crash instance) now =
+    if_own instance held (crashed row (Some (now.0 - row.since.0)) now) (WrongInstance held)
+from_running row held (Unclaim instance) now =
+    if_own instance held (turned row Unclaimed now) (WrongInstance held)
 from_running row held Restart now = wrong_state row
 from_running row held (Remove None) now = Refused (Held held)
 from_running row held (Remove (Some instance)) now = if_own instance held Gone (WrongInstance held)

@@ -60,7 +60,9 @@ impl Ord for Presence {
 impl PartialOrd for Presence {
     ghost partial_cmp = { as_partial_cmp presence_order };
 
-    ghost laws = { partial_order_from_own_ties (Prim.search (comparing, rules)) (Prim.search (comparing, rules)) };
+    ghost laws = { partial_order_from_own_ties
+        (Prim.search (comparing, rules))
+        (Prim.search (comparing, rules)) };
 
     fn partial_cmp(&self, other: &Presence) -> Option<Ordering> {
         Some(self.cmp(other))
