@@ -1,19 +1,20 @@
 //! A name is kept in place, so that it is copied and takes no memory.
 
-ghost use Rattle.std.specs.Prelude.{◌≡◌, ◌↔◌, ◌≤◌, ◌-◌, ◌++◌, length, replicate, IfOk, IsNone, Ok, nat_eq};
+ghost use Rattle.std.specs.Prelude.{◌≡◌, ◌↔◌, ◌≤◌, ◌-◌, ◌++◌, length, replicate, IfOk, IsNone, Ok, Some, nat_eq};
 ghost use Rattle.std.specs.List.{AllPass};
 ghost use Rattle.std.specs.Hash as fed;
-ghost use Rattle.std.specs.Ordering.{nat_cmp, as_partial_cmp};
+ghost use Rattle.std.specs.Ordering.{as_partial_cmp};
 ghost use Rattle.std.specs.Cmp.{partial_order_from_own_ties};
-ghost use Rattle.std.specs.Cmp.Lexicographic.{pointwise, slice_cmp};
+ghost use Rattle.std.specs.Cmp.Lexicographic.{pointwise};
 ghost use Rattle.std.specs.Cmp.Rules.{comparing, hashing};
 ghost use Rattle.diego_names.specs.Name.{is_name_byte, first_bad_byte};
+ghost use Rattle.diego_names.specs.Order.{name_order};
 ghost use Rattle.std.proofs.Common.{rules};
 
 use std::cmp::Ordering;
-use std::fmt;
 use std::hash::{Hash, Hasher};
 use std::marker::Model;
+use std::{fmt, str};
 use thiserror::Error;
 
 /// The most bytes that a name has.
@@ -113,6 +114,16 @@ impl Name {
     {
         &self.bytes[..self.len as usize]
     }
+
+    /// The name as text: its bytes are ASCII.
+    pub fn as_str(&self) -> &str
+        ensures { result.now ≡ self.now }
+    {
+        match str::from_utf8(self.bytes()) {
+            Ok(text) => text,
+            Err(_) => unreachable!(),
+        }
+    }
 }
 
 impl PartialEq for Name {
@@ -130,7 +141,7 @@ impl Eq for Name {
 }
 
 impl Ord for Name {
-    ghost cmp = { slice_cmp nat_cmp };
+    ghost cmp = { name_order };
 
     ghost total = { Prim.search (comparing, rules) };
 
@@ -144,7 +155,7 @@ impl Ord for Name {
 }
 
 impl PartialOrd for Name {
-    ghost partial_cmp = { as_partial_cmp (slice_cmp nat_cmp) };
+    ghost partial_cmp = { as_partial_cmp (name_order) };
 
     ghost laws = { partial_order_from_own_ties (Prim.search (comparing, rules)) (Prim.search (comparing, rules)) };
 
@@ -165,6 +176,14 @@ impl Hash for Name {
 
 impl fmt::Debug for Name {
     fn fmt<W: fmt::Write>(&self, f: &mut fmt::Formatter<W>) -> fmt::Result {
-        self.bytes().fmt(f)
+        fmt::Debug::fmt(&self.as_str(), f)
+    }
+}
+
+impl fmt::Display for Name {
+    ghost output = { λ name. Some name };
+
+    fn fmt<W: fmt::Write>(&self, f: &mut fmt::Formatter<W>) -> fmt::Result {
+        f.write_str(self.as_str())
     }
 }
