@@ -1,2 +1,2 @@
-pub mod PresenceOrder
+pub mod Ties
 pub mod MoveLaws

@@ -1,12 +1,12 @@
 -- The laws of moves, for whoever speaks of the table alone.
-use Rattle.std.proofs.Common.{◌≡◌, ℕ, Bool, true, false, Option, Some, None, subst, arith}
+use Rattle.std.proofs.Common.{◌≡◌, subst, arith}
 use Rattle.std.proofs.lemmas.Grind.{common_steps}
 use Rattle.crash_backoff.specs.declared.moment.Moment.{Moment}
-use Rattle.lrp_records.specs.Laws.{SamePlace, KeepsPlace, ChangesByRestart, NeverTakesAClaim}
+use Rattle.lrp_records.specs.Laws.{KeepsPlace, ChangesByRestart, NeverTakesAClaim}
 use Rattle.lrp_records.specs.Moves.{lrp_move}
+use Rattle.lrp_records.specs.Place.{place_of}
 use Rattle.lrp_records.specs.declared.actual.Actual.{Actual}
 use Rattle.lrp_records.specs.declared.lrp_move.LrpMove.{LrpMove}
-use Rattle.lrp_records.specs.declared.move_end.MoveEnd.{MoveEnd}
 use Rattle.lrp_records.specs.declared.move_end.MoveEnd.TheVariants.{Changed}
 use Rattle.lrp_records.specs.declared.state.LrpState.TheVariants.{Crashed}
 
@@ -14,8 +14,8 @@ use Rattle.lrp_records.specs.declared.state.LrpState.TheVariants.{Crashed}
 pub KeepsPlace-lrp_move : (row : Actual) (move : LrpMove) (now : Moment) → KeepsPlace row (lrp_move row move now)
 KeepsPlace-lrp_move row move now = grind (arith, common_steps)
 
-pub SamePlace-changed : (row new : Actual) (move : LrpMove) (now : Moment) → lrp_move row move now ≡ Changed new → SamePlace row new
-SamePlace-changed row new move now is = subst (KeepsPlace row) is (KeepsPlace-lrp_move row move now)
+pub place_of-changed : (row new : Actual) (move : LrpMove) (now : Moment) → lrp_move row move now ≡ Changed new → place_of new ≡ place_of row
+place_of-changed row new move now is = subst (KeepsPlace row) is (KeepsPlace-lrp_move row move now)
 
 -- a crashed row changes by a restart alone
 pub ChangesByRestart-lrp_move : (row : Actual) (move : LrpMove) (now : Moment) → row.state ≡ Crashed → ChangesByRestart move (lrp_move row move now)

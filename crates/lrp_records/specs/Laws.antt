@@ -1,6 +1,7 @@
 -- What holds of every move, whatever its cell in the table says.
-use Rattle.std.specs.Prelude.{◌≡◌, ◌≢◌, ℕ, List, Option, Some}
+use Rattle.std.specs.Prelude.{◌≡◌, ◌≢◌, ℕ, List, Some}
 use Rattle.diego_names.specs.declared.instance.Instance.{Instance}
+use Rattle.lrp_records.specs.Place.{place_of}
 use Rattle.lrp_records.specs.States.{holder_of}
 use Rattle.lrp_records.specs.declared.actual.Actual.{Actual}
 use Rattle.lrp_records.specs.declared.lrp_move.LrpMove.{LrpMove}
@@ -10,14 +11,9 @@ use Rattle.lrp_records.specs.declared.move_end.MoveEnd.TheVariants.{Changed, Gon
 use Rattle.lrp_records.specs.declared.refusal.LrpRefusal.TheVariants.{Held}
 use Rattle.lrp_records.specs.declared.state.LrpState.TheVariants.{Unclaimed}
 
--- the two rows stand at the same key
-pub record SamePlace (old new : Actual) : Type 0 where
-  pub key : new.key ≡ old.key
-  pub presence : new.presence ≡ old.presence
-
 -- a changed row keeps its key and its presence
 abbrev pub KeepsPlace : Actual → MoveEnd → Type 0
-KeepsPlace row (Changed new) = SamePlace row new
+KeepsPlace row (Changed new) = place_of new ≡ place_of row
 KeepsPlace row Gone = Unit {0}
 KeepsPlace row Same = Unit {0}
 KeepsPlace row (Refused refusal) = Unit {0}

@@ -1,4 +1,5 @@
 pub mod Presence
+pub mod Place
 pub mod States
 pub mod Steps
 pub mod Moves

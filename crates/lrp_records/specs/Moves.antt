@@ -1,5 +1,5 @@
 -- The moves on an ORDINARY row, state by state. The states are Diego's, the cases this project's own.
-use Rattle.std.specs.Prelude.{ℕ, ◌-◌, Option, Some, None}
+use Rattle.std.specs.Prelude.{◌-◌, Some, None}
 use Rattle.crash_backoff.specs.declared.moment.Moment.{Moment}
 use Rattle.diego_names.specs.declared.instance.Instance.{Instance}
 use Rattle.lrp_records.specs.Steps.{turned, cleared, crashed, restarted, not_placed, wrong_state, if_own}

@@ -1,5 +1,5 @@
 -- What a state is called, and who has a row in it.
-use Rattle.std.specs.Prelude.{ℕ, ◌==◌, ◌&&◌, Bool, Option, Some, None}
+use Rattle.std.specs.Prelude.{◌==◌, ◌&&◌, Bool, Option, Some, None}
 use Rattle.diego_names.specs.declared.instance.Instance.{Instance}
 use Rattle.diego_names.specs.declared.state_name.StateName.{StateName}
 use Rattle.diego_names.specs.declared.state_name.StateName.TheVariants as names

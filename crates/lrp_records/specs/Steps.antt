@@ -1,5 +1,5 @@
 -- What a move makes of a row. Each field that is not named stays.
-use Rattle.std.specs.Prelude.{ℕ, Bool, true, false, nat_le, Option, Some, None, if◌then◌else◌}
+use Rattle.std.specs.Prelude.{ℕ, true, false, nat_le, Option, Some, None, if◌then◌else◌}
 use Rattle.crash_backoff.specs.Backoff.{due_from, count_after}
 use Rattle.crash_backoff.specs.declared.moment.Moment.{Moment}
 use Rattle.diego_names.specs.declared.instance.Instance.{Instance}

@@ -1,6 +1,5 @@
 //! The laws that tables obey, for each type of rows and each order of keys that tells keys apart.
 //! None of these functions does anything: each is there for what it ensures.
-ghost use Rattle.std.specs.Prelude.{◌≡◌};
 ghost use Rattle.std.specs.declared.cmp.Ordering.{Ordering};
 ghost use Rattle.row_tables.specs.Table.{IsKeyOrder};
 ghost use Rattle.row_tables.specs.Laws.{FindsAfterPut, FindsAfterRemoval, KeepRising, CountRows, SumRows, SameRows, FindsItsRows};
