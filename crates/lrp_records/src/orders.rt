@@ -1,6 +1,6 @@
 //! The laws of the orders, which crates above cite.
 ghost use Rattle.std.specs.Prelude.{◌≡◌};
-ghost use Rattle.diego_names.specs.Order.{IsOrder};
+ghost use Rattle.row_tables.specs.Table.{IsKeyOrder};
 ghost use Rattle.diego_names.specs.declared.key.Key.{Key as AKey};
 ghost use Rattle.lrp_records.specs.Place.{place_order};
 ghost use Rattle.lrp_records.specs.Presence.{presence_order};
@@ -12,14 +12,14 @@ use diego_names::Key;
 /// The ORDINARY row comes before the EVACUATING one, and only equal presences tie.
 pub fn presences_are_ordered()
     ensures compared { (a b : APresence) → ⟦<Presence as Ord>⟧.cmp a b ≡ presence_order a b }
-    ensures order { IsOrder presence_order }
+    ensures order { IsKeyOrder presence_order }
 {}
 
 /// The places of actual rows stand in a total order, and only equal places tie.
 pub fn places_are_ordered()
     ensures compared { (a b : AKey × APresence)
         → ⟦<(Key, Presence) as Ord>⟧.cmp a b ≡ place_order a b }
-    ensures order { IsOrder place_order }
+    ensures order { IsKeyOrder place_order }
 {}
 
 #[cfg(test)]
