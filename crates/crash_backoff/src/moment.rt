@@ -1,0 +1,3 @@
+/// A moment of the board's clock, in seconds.
+#[derive(Clone, Copy, Debug, PartialEq, Eq, PartialOrd, Ord, Hash)]
+pub struct Moment(pub u32);

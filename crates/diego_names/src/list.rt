@@ -1,0 +1,86 @@
+ghost use Rattle.std.specs.Prelude.{◌≡◌, ◌≤◌, ◌==◌, [], ◌∷◌, ◌++◌, length, insert, OnOk, OnErr};
+
+use crate::memory::OutOfMemory;
+use std::alloc::Global;
+use std::marker::Model;
+
+/// Items in a row, which contracts see as a list.
+#[derive(Debug, Drop)]
+pub struct List<T> {
+    items: Vec<T>,
+}
+
+impl<T> Model for List<T> {
+    ghost use Rattle.std.specs.Prelude as plain;
+
+    ghost Value = { plain.List T };
+
+    ghost view = { λ list. list.items.items };
+}
+
+impl<T> List<T> {
+    /// A list of nothing, which takes no memory yet.
+    pub fn new(alloc: Global) -> List<T>
+        ensures { result ≡ [] }
+    {
+        List {
+            items: Vec::new(alloc),
+        }
+    }
+
+    pub fn items(&self) -> &[T]
+        ensures { result.now ≡ self.now }
+    {
+        self.items.as_slice()
+    }
+
+    pub fn len(&self) -> usize
+        ensures { result ≡ length self.now }
+    {
+        self.items.len()
+    }
+
+    pub fn is_empty(&self) -> bool
+        ensures { result ≡ (length self.now == 0) }
+    {
+        self.items.is_empty()
+    }
+}
+
+impl<T: Drop> List<T> {
+    /// Adds an item at the end.
+    pub fn push(&mut self, item: T) -> Result<(), OutOfMemory>
+        ensures ok { OnOk result (self.new ≡ self.old ++ item ∷ []) }
+        ensures err { OnErr result (self.new ≡ self.old) }
+    {
+        self.items.push(item)?;
+        Ok(())
+    }
+
+    /// Puts an item in front of the one at `at`, or at the end.
+    pub fn insert(&mut self, at: usize, item: T) -> Result<(), OutOfMemory>
+        requires { at ≤ length self.old }
+        ensures ok { OnOk result (self.new ≡ insert self.old at item) }
+        ensures err { OnErr result (self.new ≡ self.old) }
+    {
+        self.items.insert(at, item)?;
+        Ok(())
+    }
+}
+
+impl<T> From<Vec<T>> for List<T> {
+    ghost from_gives = { λ items list. list ≡ items.items };
+
+    fn from(items: Vec<T>) -> List<T> {
+        List { items }
+    }
+}
+
+impl<T> From<List<T>> for Vec<T> {
+    ghost from_gives = { λ list items. items.items ≡ list };
+
+    fn from(list: List<T>) -> Vec<T> {
+        let List { items } = list;
+        items
+    }
+}

@@ -1,0 +1,7 @@
+pub mod Keyed
+pub mod Lookups
+pub mod Rising
+pub mod Lengths
+pub mod Sums
+pub mod Elements
+pub mod Parts

@@ -1,0 +1,4 @@
+pub mod Field
+pub mod Front
+pub mod Reading
+pub mod Laws
