@@ -5,8 +5,7 @@ use Rattle.std.specs.List.{sum_by}
 use Rattle.std.specs.Option.{option_map_or}
 use Rattle.std.proofs.lemmas.Bool.Decides.{nat_tests}
 use Rattle.diego_names.specs.Order.{name_order}
-use Rattle.diego_names.proofs.Ties.{IsOrder-name_order}
-use Rattle.row_tables.specs.Table.{IsKeyOrder}
+use Rattle.diego_names.proofs.Ties.{IsKeyOrder-name_order}
 use Rattle.row_tables.proofs.Rising.{IsRising-put_row}
 use Rattle.row_tables.proofs.Lengths.{length-put_row_new}
 use Rattle.row_tables.proofs.Sums.{sum_by-put_row}
@@ -26,20 +25,9 @@ passed : (b : Bool) (why : BoardRefusal) (v : Verdict) → cond b (verdict.Refus
 passed true why v h = cc
 passed false why v h = (refl, h)
 
--- the refusals that a legal command passed, from one of them on
-rest : (cs : List (Bool × BoardRefusal)) (b : Bool) (why : BoardRefusal) → cond b (verdict.Refused why) (unless_refused cs) ≡ verdict.Ok
-    → (b ≡ false) × (unless_refused cs ≡ verdict.Ok)
-rest cs b why h = passed b why (unless_refused cs) h
-
 none_from : {X : Type 0} (o : Option X) → is_some o ≡ false → o ≡ None
 none_from None h = refl
 none_from (Some x) h = cc
-
-process : Desired → List ℕ
-process d = d.process
-
-key_order : IsKeyOrder name_order
-key_order = record { total = IsOrder-name_order.total; exact = IsOrder-name_order.exact }
 
 -- what a legal desire has passed
 pub record Passes (rows : Rows) (d : Desired) : Type 0 where
@@ -67,10 +55,10 @@ passes rows d h =
 pub IsValid-op_after : (rows : Rows) (op : Op) → IsValid rows → op_verdict rows op ≡ verdict.Ok → IsValid (op_after rows op)
 IsValid-op_after rows (Desire d) valid legal =
     let p = passes rows d legal in
-    let count = length-put_row_new name_order (λ (e : Desired). e.process) key_order d rows.desired valid.processes p.new in
-    let sum = sum_by-put_row name_order (λ (e : Desired). e.process) key_order (λ (e : Desired). e.instances) d rows.desired valid.processes in
+    let count = length-put_row_new name_order (λ (e : Desired). e.process) IsKeyOrder-name_order d rows.desired valid.processes p.new in
+    let sum = sum_by-put_row name_order (λ (e : Desired). e.process) IsKeyOrder-name_order (λ (e : Desired). e.instances) d rows.desired valid.processes in
     record {
-      processes = IsRising-put_row name_order (λ (e : Desired). e.process) key_order d rows.desired valid.processes;
+      processes = IsRising-put_row name_order (λ (e : Desired). e.process) IsKeyOrder-name_order d rows.desired valid.processes;
       few_processes = omega (arith, count, p.processes);
       few_instances = omega (arith, sum, p.in_sum);
       next = omega (arith, p.not_full);

@@ -1,1 +1,3 @@
 pub mod CauseLemmas
+pub mod ContentLemmas
+mod Moves

@@ -1,3 +1,6 @@
+ghost use Rattle.std.specs.Prelude.{◌≡◌};
+ghost use Rattle.lrp_records.specs.Place.{place_of};
+
 use crate::presence::Presence;
 use crate::state::LrpState;
 use crash_backoff::Moment;
@@ -15,4 +18,13 @@ pub struct Actual {
     pub since: Moment,
     /// Whether it could not be placed when that was last tried.
     pub error: bool,
+}
+
+impl Actual {
+    /// What the rows are ordered by.
+    pub fn place(&self) -> (Key, Presence)
+        ensures { result ≡ place_of self.now }
+    {
+        (self.key, self.presence)
+    }
 }

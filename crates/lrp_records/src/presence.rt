@@ -2,8 +2,8 @@ ghost use Rattle.std.specs.Prelude.{◌≡◌, nat_eq};
 ghost use Rattle.std.specs.Cmp.{partial_order_from_own_ties};
 ghost use Rattle.std.specs.Cmp.Rules.{comparing, hashing};
 ghost use Rattle.std.specs.Hash as fed;
-ghost use Rattle.std.specs.Ordering.{nat_cmp, as_partial_cmp, on};
-ghost use Rattle.lrp_records.specs.Presence.{rank_of};
+ghost use Rattle.std.specs.Ordering.{as_partial_cmp, on};
+ghost use Rattle.lrp_records.specs.Presence.{rank_of, presence_order};
 ghost use Rattle.std.proofs.Common.{rules};
 
 use std::cmp::Ordering;
@@ -44,7 +44,7 @@ impl Eq for Presence {
 }
 
 impl Ord for Presence {
-    ghost cmp = { on rank_of nat_cmp };
+    ghost cmp = { presence_order };
 
     ghost total = { Prim.search (comparing, rules) };
 
@@ -58,9 +58,11 @@ impl Ord for Presence {
 }
 
 impl PartialOrd for Presence {
-    ghost partial_cmp = { as_partial_cmp (on rank_of nat_cmp) };
+    ghost partial_cmp = { as_partial_cmp presence_order };
 
-    ghost laws = { partial_order_from_own_ties (Prim.search (comparing, rules)) (Prim.search (comparing, rules)) };
+    ghost laws = { partial_order_from_own_ties
+        (Prim.search (comparing, rules))
+        (Prim.search (comparing, rules)) };
 
     fn partial_cmp(&self, other: &Presence) -> Option<Ordering> {
         Some(self.cmp(other))
@@ -74,5 +76,18 @@ impl Hash for Presence {
 
     fn hash<H: Hasher>(&self, state: &mut H) {
         self.rank().hash(state);
+    }
+}
+
+#[cfg(test)]
+mod tests {
+    use super::*;
+
+    #[test]
+    fn the_ordinary_row_stands_first(rt: HostRuntime) {
+        let rows = (Presence::Ordinary, Presence::Evacuating);
+        assert!(rt; rows.0 < rows.1);
+        assert_ne!(rt; rows.0, rows.1);
+        assert_eq!(rt; (rows.0.rank(), rows.1.rank()), (0, 1));
     }
 }

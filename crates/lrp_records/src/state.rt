@@ -1,4 +1,7 @@
-use diego_names::{Instance, Name};
+ghost use Rattle.std.specs.Prelude.{◌≡◌};
+ghost use Rattle.lrp_records.specs.States.{name_of, holder_of};
+
+use diego_names::{Instance, Name, StateName};
 
 /// What became of an instance. A claimed or running one says which container holds it, and where.
 #[derive(Clone, Copy, Debug, PartialEq, Eq)]
@@ -10,4 +13,62 @@ pub enum LrpState {
     Running { instance: Instance, cell: Name },
     /// It crashed too often to be tried again at once.
     Crashed,
+}
+
+impl LrpState {
+    pub fn name(&self) -> StateName
+        ensures { result ≡ name_of self.now }
+    {
+        match self {
+            LrpState::Unclaimed => StateName::Unclaimed,
+            LrpState::Claimed { .. } => StateName::Claimed,
+            LrpState::Running { .. } => StateName::Running,
+            LrpState::Crashed => StateName::Crashed,
+        }
+    }
+
+    /// The container that has the row.
+    pub fn holder(&self) -> Option<Instance>
+        ensures { result ≡ holder_of self.now }
+    {
+        match self {
+            LrpState::Claimed { instance, .. } | LrpState::Running { instance, .. } => {
+                Some(*instance)
+            }
+            LrpState::Unclaimed | LrpState::Crashed => None,
+        }
+    }
+}
+
+#[cfg(test)]
+mod tests {
+    use super::*;
+    use std::test::Fail;
+
+    #[test]
+    fn a_state_tells_its_name_and_its_container(rt: HostRuntime) -> Result<(), Fail> {
+        let instance = Instance {
+            epoch: 3,
+            number: 2,
+        };
+        let cell = Name::read(b"c1")?;
+        for (state, name, holder) in [
+            (LrpState::Unclaimed, StateName::Unclaimed, None),
+            (
+                LrpState::Claimed { instance, cell },
+                StateName::Claimed,
+                Some(instance),
+            ),
+            (
+                LrpState::Running { instance, cell },
+                StateName::Running,
+                Some(instance),
+            ),
+            (LrpState::Crashed, StateName::Crashed, None),
+        ] {
+            assert_eq!(rt; state.name(), name);
+            assert_eq!(rt; state.holder(), holder, "in {state:?}");
+        }
+        Ok(())
+    }
 }

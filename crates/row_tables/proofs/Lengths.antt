@@ -1,7 +1,7 @@
 -- How many rows a put and a removal leave.
-use Rattle.std.proofs.Common.{◌≡◌, ℕ, ◌+◌, Bool, true, false, cond, not, List, [], ◌∷◌, length, Option, Some, None, is_some, refl, sym, ap, ◌∙◌, arith}
+use Rattle.std.proofs.Common.{◌≡◌, ◌+◌, true, false, cond, List, [], ◌∷◌, length, Option, Some, None, is_some, refl, sym, ap, ◌∙◌, arith}
 use Rattle.std.specs.declared.cmp.Ordering.{Ordering}
-use Rattle.std.specs.FinMap.Entries.{find, put, where_key, length-put, length_without}
+use Rattle.std.specs.FinMap.Entries.{find, length-put, length_without}
 use Rattle.std.specs.Ordering.{eq_by_cmp}
 use Rattle.row_tables.specs.Table.{IsKeyOrder, find_row, put_row, without_row, keyed, IsRising}
 use Rattle.row_tables.proofs.Keyed.{find_row-keyed, keyed-put_row, keyed-without_row, length-keyed}

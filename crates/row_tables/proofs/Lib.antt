@@ -3,3 +3,5 @@ pub mod Lookups
 pub mod Rising
 pub mod Lengths
 pub mod Sums
+pub mod Elements
+pub mod Parts

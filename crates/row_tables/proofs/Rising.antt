@@ -1,5 +1,5 @@
 -- What keeps the keys rising.
-use Rattle.std.proofs.Common.{◌≡◌, Bool, true, false, ◌&&◌, not, T, List, [], ◌∷◌, Option, Some, None, refl, sym, ap, subst, ◌∙◌, cond}
+use Rattle.std.proofs.Common.{◌≡◌, Bool, true, false, ◌&&◌, not, T, List, [], ◌∷◌, Some, None, refl, sym, ap, subst, ◌∙◌, cond}
 use Rattle.std.specs.declared.cmp.Ordering.{Ordering}
 use Rattle.std.specs.declared.cmp.Ordering.TheVariants.{Less}
 use Rattle.std.specs.FinMap.Entries.{is_sorted, below_all, is_sorted-put, is_sorted-where_key}

@@ -1,5 +1,5 @@
 -- What a put and a removal do to a sum over the rows.
-use Rattle.std.proofs.Common.{◌≡◌, ℕ, ◌+◌, Bool, true, false, cond, T, List, [], ◌∷◌, Option, Some, None, refl, sym, ap, subst, ◌∙◌, arith}
+use Rattle.std.proofs.Common.{◌≡◌, ℕ, ◌+◌, true, false, cond, T, List, [], ◌∷◌, Some, refl, sym, ap, subst, arith}
 use Rattle.std.specs.declared.cmp.Ordering.{Ordering}
 use Rattle.std.specs.declared.cmp.Ordering.TheVariants.{Less, Equal, Greater}
 use Rattle.std.specs.FinMap.Entries.{by_order, below_all}
@@ -40,7 +40,7 @@ module _ {K X : Type 0} (R : K → K → Ordering) (key : X → K) (o : IsKeyOrd
       elim (eq_by_cmp R k (key x)) as (λ b. eq_by_cmp R k (key x) ≡ b → sum_by f (cond b (without_row R key k xs) (x ∷ without_row R key k xs)) + option_map_or f (cond b (Some x) (find_row R key k xs)) 0 ≡ sum_by f (x ∷ xs)) [
         | true ↦ λ t.
             let none : option_map_or f (find_row R key k xs) 0 ≡ 0 =
-                ap (λ s. option_map_or f s 0) (find_row-below_all R key k xs (subst (λ q. T (below_all R q (keyed R key xs))) (sym (same_from_tie R o k (key x) t)) (below_rest R key x xs h))) in
+            ap (λ s. option_map_or f s 0) (find_row-below_all R key k xs (subst (λ q. T (below_all R q (keyed R key xs))) (sym (same_from_tie R o k (key x) t)) (below_rest R key x xs h))) in
             omega arith
         | false ↦ λ t.
             let more : sum_by f (x ∷ without_row R key k xs) ≡ f x + sum_by f (without_row R key k xs) = sum_by-cons f x (without_row R key k xs) in

@@ -1,5 +1,6 @@
--- A table is the list of its rows in the order of their keys, which strictly rise. So two tables with the same rows are one value.
-use Rattle.std.specs.Prelude.{◌≡◌, Bool, true, cond, T, List, [], ◌∷◌, map, Option, Some, None}
+-- A table is the list of its rows in the order of their keys, which strictly rise.
+-- So two tables with the same rows are one value.
+use Rattle.std.specs.Prelude.{cond, T, List, [], ◌∷◌, map, Option, Some, None}
 use Rattle.std.specs.declared.cmp.Ordering.{Ordering}
 use Rattle.std.specs.Cmp.{IsTotalOrder}
 use Rattle.std.specs.FinMap.{IsAntisymmetric}

@@ -4,6 +4,6 @@
 mod laws;
 
 pub use laws::{
-    finds_after_put, finds_after_removal, finds_its_key, keeps_rising, length_after_change,
+    finds_after_put, finds_after_removal, finds_its_rows, keeps_rising, length_after_change,
     same_rows, sum_after_change,
 };
