@@ -1,4 +1,5 @@
 pub mod Board
 pub mod Frames
+pub mod OpenFault
 pub mod Printed
 pub mod Spelling

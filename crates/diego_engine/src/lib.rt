@@ -3,9 +3,11 @@
 
 mod following;
 mod frames;
+mod header;
+mod opening;
 mod printing;
 mod spelling;
 
 pub use spelling::{put_command, read_command};
-pub use following::{Followed, follow};
+pub use opening::{OpenFault, Opened, open};
 pub use printing::{Counts, answer_text, event_text, summary_text};
