@@ -27,7 +27,7 @@ pub record IsMade {X Y Z : Type 0} (make : X → Y → Z) (one : Z → X) (other
   pub other_of : (x : X) (y : Y) → other (make x y) ≡ y
 
 -- a text that is cut off in its back
-take-append_back : (a b : List ℕ) (k : ℕ) → length a ≤ k → take k (a ++ b) ≡ a ++ take (k - length a) b
+pub take-append_back : (a b : List ℕ) (k : ℕ) → length a ≤ k → take k (a ++ b) ≡ a ++ take (k - length a) b
 take-append_back a b k le =
     let k-is : k ≡ length a + (k - length a) = omega arith in
     ap (λ (m : ℕ). take m (a ++ b)) k-is ∙ take-append-add a b (k - length a)
