@@ -1,5 +1,5 @@
 -- Fields read one after another, as a row or a command reads them.
-use Rattle.std.proofs.Common.{◌≡◌, ℕ, ◌+◌, ◌-◌, ◌<◌, ◌≤◌, List, ◌++◌, length, take, drop, Result, Ok, Err, refl, sym, ap, subst, ◌∙◌, arith, inl, inr}
+use Rattle.std.proofs.Common.{◌≡◌, ℕ, ◌+◌, ◌-◌, ◌<◌, List, ◌++◌, length, take, drop, Result, Ok, Err, refl, sym, ap, subst, ◌∙◌, arith, inl, inr}
 use Rattle.std.proofs.lemmas.Bool.{cases_lt}
 use Rattle.std.proofs.lemmas.List.{take-append-le, drop_at, drop-drop, length-append}
 use Rattle.wire_fields.specs.declared.fault.FieldFault.{FieldFault}
@@ -7,7 +7,7 @@ use Rattle.wire_fields.specs.declared.fault.FieldFault.TheVariants.{Short}
 use Rattle.wire_fields.specs.Laws.{IsBytes, StandsAt, IsField}
 use Rattle.wire_fields.specs.Reading.{◌>>=◌}
 use Rattle.wire_fields.proofs.Places.{StandsAt-append, StandsAt-front, StandsAt-back}
-use Rattle.wire_fields.proofs.Fronts.{IsRead, IsRead-written, ok_is}
+use Rattle.wire_fields.proofs.Fronts.{IsRead-written, ok_is}
 use Rattle.wire_fields.proofs.Pairs.{bind_ok, take-append_back}
 
 -- the readings that are left once the fields before them gave `c`: they give a value whose fields before are `c`

@@ -1,5 +1,5 @@
 -- How many bytes a field takes.
-use Rattle.std.proofs.Common.{◌≡◌, ℕ, zero, suc, ◌+◌, ◌≤◌, Bool, true, false, List, length, Option, Some, None, refl, ap, arith}
+use Rattle.std.proofs.Common.{◌≡◌, ℕ, zero, suc, ◌+◌, ◌≤◌, Bool, List, length, Option, Some, None, refl, ap, arith}
 use Rattle.std.specs.Prelude.{IfSome}
 use Rattle.std.specs.Int.{Width, w8, w16, w32, w64, byte_len, bytes_high_first}
 use Rattle.diego_names.specs.Name.{IsName}

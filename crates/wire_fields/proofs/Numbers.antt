@@ -1,15 +1,15 @@
 -- A number is a field.
-use Rattle.std.proofs.Common.{◌≡◌, ℕ, zero, suc, ◌+◌, ◌%◌, ◌^◌, ◌<◌, ◌≤◌, Bool, true, false, cond, ltb, List, [], ◌∷◌, ◌++◌, length, get_or, take, drop, refl, sym, ap, ◌∙◌, arith}
+use Rattle.std.proofs.Common.{◌≡◌, ℕ, ◌%◌, ◌^◌, ◌<◌, ◌≤◌, true, false, ltb, List, [], ◌∷◌, ◌++◌, length, take, drop, refl, sym, ap, ◌∙◌, arith}
 use Rattle.std.specs.Int.{Width, w8, w16, w32, w64, byte_len, from_be_bytes, to_be_bytes}
 use Rattle.std.proofs.lemmas.Bool.{ltb-false, le-ltb, lt-ltb}
 use Rattle.std.proofs.lemmas.List.{take_at, take-append-drop, length-append, length-take}
 use Rattle.std.proofs.lemmas.Nat.{be_bytes_2, be_bytes_4, be_bytes_8, from_be_bytes-to_be_bytes_2, from_be_bytes-to_be_bytes_4, from_be_bytes-to_be_bytes_8}
 use Rattle.wire_fields.specs.Field.{field_number}
-use Rattle.wire_fields.specs.Front.{Front, Holds, Ends, Bad, number_front}
+use Rattle.wire_fields.specs.Front.{Holds, number_front}
 use Rattle.wire_fields.specs.Laws.{IsBytes, IsField}
 use Rattle.wire_fields.specs.Reading.{number_at}
 use Rattle.wire_fields.proofs.Places.{IsBytes-take}
-use Rattle.wire_fields.proofs.Fronts.{Takes, IsFront, not_ended, held, IsField-from_front}
+use Rattle.wire_fields.proofs.Fronts.{IsFront, not_ended, held, IsField-from_front}
 
 -- what is used of a width
 pub record IsWide (w : Width) (limit : ℕ) : Type 0 where

@@ -1,11 +1,10 @@
 -- Two fields, one behind the other, are a field.
-use Rattle.std.proofs.Common.{◌≡◌, ℕ, ◌+◌, ◌-◌, ◌<◌, ◌≤◌, List, ◌++◌, length, take, drop, Result, Ok, Err, refl, sym, ap, subst, ◌∙◌, arith, inl, inr}
+use Rattle.std.proofs.Common.{◌≡◌, ℕ, ◌+◌, ◌-◌, ◌≤◌, List, ◌++◌, length, take, drop, Result, Ok, Err, refl, sym, ap, subst, ◌∙◌, arith, inl, inr}
 use Rattle.std.proofs.lemmas.Bool.{cases_lt}
-use Rattle.std.proofs.lemmas.List.{take-append-le, take-append-drop, drop_at, drop-drop, length-append, length-take}
+use Rattle.std.proofs.lemmas.List.{take-append-le, drop_at, drop-drop, length-append}
 use Rattle.std.proofs.Math.Seq.{take-append-add}
 use Rattle.wire_fields.specs.declared.fault.FieldFault.{FieldFault}
-use Rattle.wire_fields.specs.declared.fault.FieldFault.TheVariants.{Short}
-use Rattle.wire_fields.specs.Laws.{IsBytes, StandsAt, IsField}
+use Rattle.wire_fields.specs.Laws.{StandsAt, IsField}
 use Rattle.wire_fields.specs.Reading.{◌>>=◌}
 use Rattle.wire_fields.proofs.Places.{StandsAt-append, StandsAt-front, StandsAt-back}
 use Rattle.wire_fields.proofs.Fronts.{IsRead, IsRead-written, ok_is}

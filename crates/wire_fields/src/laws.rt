@@ -21,7 +21,8 @@ pub fn numbers_are_fields()
 #[tactic(auto, using(crate::proofs::Rules::fields))]
 pub fn names_and_truths_are_fields()
     ensures name { IsField IsName field_name name_at }
-    ensures optional_name { IsField (λ o. IfSome o IsName) field_optional_name optional_name_at }
+    ensures optional_name { IsField (λ o. IfSome o IsName)
+        field_optional_name optional_name_at }
     ensures truth { IsField (λ _. Unit {0}) field_truth truth_at }
 {}
 
@@ -29,7 +30,8 @@ pub fn names_and_truths_are_fields()
 #[tactic(auto, using(crate::proofs::Rules::fields))]
 pub fn instances_are_fields()
     ensures instance { IsField FitsInstance field_instance instance_at }
-    ensures optional_instance { IsField (λ o. IfSome o FitsInstance) field_optional_instance optional_instance_at }
+    ensures optional_instance { IsField (λ o. IfSome o FitsInstance)
+        field_optional_instance optional_instance_at }
 {}
 
 /// How many bytes a field of one length takes.
