@@ -8,7 +8,7 @@ use Rattle.diego_names.specs.Name.{IsName}
 use Rattle.lrp_records.specs.declared.desired.Desired.{Desired}
 use Rattle.wire_fields.specs.Field.{field_number, field_name, field_optional_name}
 use Rattle.wire_fields.specs.Laws.{IsBytes}
-use Rattle.wire_fields.proofs.Numbers.{length-field_number}
+use Rattle.wire_fields.proofs.Lengths.{length-field_number}
 use Rattle.wire_fields.proofs.Places.{IsBytes-take, IsBytes-drop}
 use Rattle.bbs_model.specs.declared.command.Command.{Command}
 use Rattle.bbs_model.specs.declared.command.Op.{Op}

@@ -8,6 +8,6 @@ mod opening;
 mod printing;
 mod spelling;
 
-pub use spelling::{put_command, read_command};
+pub use spelling::{payload_len, put_command, read_command};
 pub use opening::{OpenFault, Opened, open};
 pub use printing::{Counts, answer_text, event_text, summary_text};

@@ -1,6 +1,6 @@
 //! A command in bytes.
 ghost use Rattle.std.specs.Prelude.{◌≡◌, ◌+◌, ◌≤◌, length, IfOk};
-ghost use Rattle.wire_fields.specs.Field.{written};
+ghost use Rattle.wire_fields.specs.Field.{Puts};
 ghost use Rattle.diego_engine.specs.Spelling.{body_at, command_at, command_in, payload_of, body_of, field_op};
 
 use crate::spelling::reading::read_desired;
@@ -53,8 +53,7 @@ pub fn read_command(payload: &[u8]) -> Option<Command>
 
 fn put_op(out: &mut [u8], at: usize, op: &Op) -> usize
     requires { at + length (field_op op.now) ≤ length out.old }
-    ensures bytes { out.new ≡ written out.old at (field_op op.entry.now) }
-    ensures after { result ≡ at + length (field_op op.entry.now) }
+    ensures { Puts out.old at (field_op op.entry.now) out.new result }
 {
     match op {
         Op::Desire { desired } => put_desired(out, at, desired),
@@ -64,8 +63,7 @@ fn put_op(out: &mut [u8], at: usize, op: &Op) -> usize
 #[tactic(auto, unfolding(crate::specs::Spelling::body_of))]
 fn put_body(out: &mut [u8], at: usize, command: &Command) -> usize
     requires { at + length (body_of command.now) ≤ length out.old }
-    ensures bytes { out.new ≡ written out.old at (body_of command.entry.now) }
-    ensures after { result ≡ at + length (body_of command.entry.now) }
+    ensures { Puts out.old at (body_of command.entry.now) out.new result }
 {
     let after = put_u32(out, at, command.now.0);
     put_op(out, after, &command.op)
@@ -75,8 +73,7 @@ fn put_body(out: &mut [u8], at: usize, command: &Command) -> usize
 #[tactic(auto, unfolding(crate::specs::Spelling::payload_of))]
 pub fn put_command(out: &mut [u8], at: usize, command: &Command) -> usize
     requires { at + length (payload_of command.now) ≤ length out.old }
-    ensures bytes { out.new ≡ written out.old at (payload_of command.entry.now) }
-    ensures after { result ≡ at + length (payload_of command.entry.now) }
+    ensures { Puts out.old at (payload_of command.entry.now) out.new result }
 {
     let after = put_u8(out, at, DESIRE);
     put_body(out, after, command)

@@ -1,8 +1,8 @@
 use Rattle.std.proofs.Common.{arith}
 use Rattle.diego_engine.specs.Spelling.{field_names}
-use Rattle.wire_fields.proofs.Places.{written-then}
+use Rattle.wire_fields.proofs.Places.{Puts-then}
 use Rattle.diego_engine.proofs.spelling.writing.put_names.Goals as goal
 
-pub returns-clause-bytes : goal.returns-clause-bytes
+pub returns : goal.returns
 unfolding field_names
-returns-clause-bytes c = written-then _ _ _ _ _ _ _ c.put_name-after.ensures.bytes c.put_name-after.ensures.after c.put_name.ensures.bytes (omega arith)
+returns c = Puts-then (omega arith) c.put_name-after.ensures c.put_name.ensures
