@@ -1,3 +1,5 @@
 pub mod Spellings
 pub mod FrameLaws
 pub mod FollowLaws
+pub mod Bodies
+pub mod AppendLaws

@@ -1,3 +1,4 @@
+pub mod Appending
 pub mod Board
 pub mod Frames
 pub mod OpenFault

@@ -1,0 +1,31 @@
+-- What an append and a prepare leave on a disk.
+use Rattle.std.specs.Prelude.{◌≡◌, ℕ, Bool, true, false, List, [], ◌∷◌, ◌++◌, length, take}
+use Rattle.disk_trait.specs.Past.{Past, Image, content}
+use Rattle.disk_trait.specs.Steps.{overwritten}
+use Rattle.disk_trait.specs.Runs.{Extends}
+use Rattle.disk_trait.specs.declared.area.Area.{Area}
+use Rattle.disk_trait.specs.declared.area.Area.TheVariants.{A, B}
+use Rattle.bbs_model.specs.declared.command.Command.{Command}
+use Rattle.diego_engine.specs.Board.{header}
+use Rattle.diego_engine.specs.Frames.{framed}
+
+-- the image with a frame in the place of the closed gate, and a closed gate behind it
+abbrev pub with_frame : ℕ → Command → Image → Image
+with_frame end command image A = overwritten end (1 ∷ (framed command ++ 0 ∷ [])) (image A)
+with_frame end command image B = image B
+
+-- the frame stands on the disk
+pub record Appends (end : ℕ) (command : Command) (p q : Past) : Type 0 where
+  pub extends : Extends p q
+  pub done : (area : Area) → content q area ≡ with_frame end command (content p) area
+
+-- what stands before the frame, and the other area, are as they were
+pub record Tears (end : ℕ) (p q : Past) : Type 0 where
+  pub extends : Extends p q
+  pub front : take end (content q A) ≡ take end (content p A)
+  pub there : content q B ≡ content p B
+
+-- whether it was acknowledged or not
+abbrev pub Ends : Bool → ℕ → Command → Past → Past → Type 0
+Ends true end command p q = Appends end command p q
+Ends false end command p q = Tears end p q
