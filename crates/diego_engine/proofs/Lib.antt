@@ -1,5 +1,8 @@
-pub mod Spellings
-pub mod FrameLaws
-pub mod FollowLaws
-pub mod Bodies
+pub mod Among
 pub mod AppendLaws
+pub mod Bodies
+pub mod Cutting
+pub mod FollowLaws
+pub mod FrameLaws
+pub mod JsonText
+pub mod Spellings

@@ -2,14 +2,18 @@
 #![tactic(auto)]
 
 mod appending;
+mod ending;
 mod following;
 mod frames;
 mod header;
 mod opening;
+mod phase;
+mod preparing;
 mod printing;
+mod running;
+mod script;
 mod spelling;
+mod top;
+mod words;
 
-pub use spelling::{payload_len, put_command, read_command};
-pub use appending::append;
-pub use opening::{OpenFault, Opened, open};
-pub use printing::{Counts, answer_text, event_text, summary_text};
+pub use top::{TopEnd, diego_top, still_top};
