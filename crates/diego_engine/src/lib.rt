@@ -2,18 +2,19 @@
 #![tactic(auto)]
 
 mod appending;
-mod ending;
 mod following;
 mod frames;
 mod header;
 mod opening;
-mod phase;
 mod preparing;
 mod printing;
-mod running;
 mod script;
 mod spelling;
-mod top;
 mod words;
 
-pub use top::{TopEnd, diego_top, still_top};
+pub use preparing::{PrepareFault, prepare};
+pub use appending::append;
+pub use opening::{OpenFault, Opened, open};
+pub use printing::{Counts, answer_text, event_text, summary_text};
+pub use script::{Script, ScriptFault, read_script};
+pub use words::{Asked, read_words};
