@@ -1,10 +1,12 @@
 pub mod Appending
 pub mod Board
+pub mod Ending
 pub mod Frames
 pub mod LineKinds
 pub mod Lines
 pub mod Member
 pub mod OpenFault
+pub mod Phase
 pub mod Preparing
 pub mod Printed
 pub mod Script

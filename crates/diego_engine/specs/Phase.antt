@@ -1,0 +1,91 @@
+-- The phase of a script: its one call, how it ends, and what is told of it.
+use Rattle.std.specs.Prelude.{◌≡◌, ℕ, ◌+◌, Bool, true, false, List, [], ◌∷◌, ◌++◌, length, Option, Some}
+use Rattle.disk_trait.specs.Past.{Past}
+use Rattle.bbs_model.specs.declared.answered.Answered.{Answered}
+use Rattle.bbs_model.specs.declared.command.Command.{Command}
+use Rattle.bbs_model.specs.declared.command.Op.{Op}
+use Rattle.bbs_model.specs.declared.command.Op.TheVariants.{Desire}
+use Rattle.bbs_model.specs.declared.event.Change.TheVariants.{Created}
+use Rattle.bbs_model.specs.declared.event.Event.{Event}
+use Rattle.bbs_model.specs.declared.event.Row.TheVariants as row
+use Rattle.bbs_model.specs.declared.item.Item.{Item}
+use Rattle.bbs_model.specs.declared.item.Item.TheVariants.{Done, Doubt}
+use Rattle.bbs_model.specs.declared.reply.CallEnd.{CallEnd}
+use Rattle.bbs_model.specs.declared.reply.CallEnd.TheVariants.{Got, Fault}
+use Rattle.bbs_model.specs.declared.reply.CallFault.TheVariants as fault
+use Rattle.bbs_model.specs.declared.reply.Reply.TheVariants as reply
+use Rattle.bbs_model.specs.declared.rows.Rows.{Rows}
+use Rattle.bbs_model.specs.declared.verdict.Verdict.{Verdict}
+use Rattle.bbs_model.specs.declared.verdict.Verdict.TheVariants as verdict
+use Rattle.bbs_model.specs.Step.{verdict_of}
+use Rattle.diego_engine.specs.Appending.{Appends, Tears}
+use Rattle.diego_engine.specs.Board.{Rests}
+use Rattle.diego_engine.specs.Printed.{line_text, answer_data, event_data, summary_data}
+use Rattle.diego_engine.specs.declared.phase.Phase.{Phase}
+use Rattle.diego_engine.specs.declared.printing.summary.Counts.{Counts}
+use Rattle.diego_engine.specs.declared.script.Script.{Script}
+
+-- the command that the script's line makes
+abbrev pub command_of : Script → Command
+command_of script = record { now = script.at; op = Desire script.desired }
+
+-- how a call ends whose step comes to this verdict, at a board with so many transitions: a legal one by whether the disk stored it
+abbrev pub end_of : Verdict → ℕ → Bool → CallEnd
+end_of verdict.Ok next true = Got (reply.Ok 0 next)
+end_of verdict.Ok next false = Fault (fault.Disk 0)
+end_of verdict.Same next stored = Got (reply.Same 0)
+end_of (verdict.Refused why) next stored = Got (reply.Refused why 0)
+
+-- the items of the log that a call of the first actor makes
+abbrev pub log_of : CallEnd → Command → List Item
+log_of (Got (reply.Ok place stamp)) command = Done 1 command ∷ []
+log_of (Got (reply.Same place)) command = []
+log_of (Got (reply.Refused why place)) command = []
+log_of (Fault (fault.Disk place)) command = Doubt 1 command ∷ []
+log_of (Fault fault.OutOfMemory) command = []
+
+-- the disk failed in the call
+abbrev pub is_doubt : CallEnd → Bool
+is_doubt (Got reply) = false
+is_doubt (Fault (fault.Disk place)) = true
+is_doubt (Fault fault.OutOfMemory) = false
+
+-- what became of the row that a command names
+abbrev pub event_of : Op → Event
+event_of (Desire d) = record { change = Created; row = row.Desired d }
+
+-- the lines of the events of a call
+abbrev pub events_text : CallEnd → Op → List ℕ
+events_text (Got (reply.Ok place stamp)) op = line_text (event_data (event_of op))
+events_text end op = []
+
+-- the counts of a run of this one call, at a board with so many transitions
+abbrev pub counts_of : CallEnd → ℕ → Counts
+counts_of (Got (reply.Ok place stamp)) next = record { done = 1; doubts = 0; next = next + 1; phases = 1 }
+counts_of (Fault (fault.Disk place)) next = record { done = 0; doubts = 1; next = next; phases = 1 }
+counts_of end next = record { done = 0; doubts = 0; next = next; phases = 1 }
+
+-- the text of a run: the answer, the events and the summary
+abbrev pub run_text : Script → CallEnd → ℕ → List ℕ
+run_text script end next =
+    line_text (answer_data script.client script.line (Desire script.desired) end)
+    ++ (events_text end (Desire script.desired) ++ line_text (summary_data (counts_of end next)))
+
+-- the answer to the script's line
+abbrev pub answered_of : Script → CallEnd → Answered
+answered_of script end = record { actor = 1; line = script.line; command = Some (command_of script); end = end }
+
+-- what is told of a phase whose call ended so, at a board with so many transitions
+pub record Tells (script : Script) (end : CallEnd) (next : ℕ) (phase : Phase) : Type 0 where
+  pub text : phase.text.items ≡ run_text script end next
+  pub log : phase.log.items ≡ log_of end (command_of script)
+  pub marks : length phase.marks.items ≡ length phase.log.items
+  pub answers : phase.answers.items ≡ answered_of script end ∷ []
+  pub doubt : phase.doubt ≡ is_doubt end
+
+-- what a call does to a disk whose frames end at this place
+abbrev pub StoresBy : Verdict → Bool → ℕ → Command → Past → Past → Type 0
+StoresBy verdict.Ok true end command p q = Appends end command p q
+StoresBy verdict.Ok false end command p q = Tears end p q
+StoresBy verdict.Same stored end command p q = Rests p q
+StoresBy (verdict.Refused why) stored end command p q = Rests p q

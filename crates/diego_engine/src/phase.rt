@@ -1,0 +1,149 @@
+//! One phase: its call, and what is told of it.
+ghost use Rattle.std.specs.Prelude.{◌≡◌, ◌+◌, ◌<◌, ◌^◌, [], ◌∷◌, length, IfOk, OnErr, replicate, Bool, ℕ};
+ghost use Rattle.diego_engine.specs.Phase.{Tells, events_text, counts_of, log_of, run_text, event_of, is_doubt, command_of};
+
+use crate::printing::{Counts, answer_text, event_text, summary_text};
+use crate::script::Script;
+use bbs_model::{
+    Answered, CallEnd, CallFault, Change, Command, Event, Item, Op, Reply, Row,
+};
+use std::alloc::{AllocError, Global};
+
+/// The number of the script's one actor.
+pub const ACTOR: u32 = 1;
+
+/// What is told of a phase.
+#[derive(Drop)]
+pub struct Phase {
+    pub text: Vec<u8>,
+    pub log: Vec<Item>,
+    /// The disk's clock at the end of the call of each item.
+    pub marks: Vec<u64>,
+    pub answers: Vec<Answered>,
+    /// The disk failed in a call.
+    pub doubt: bool,
+}
+
+/// The command that the script's line makes.
+pub fn command_of(script: &Script) -> Command
+    ensures { result ≡ command_of script.now }
+{
+    Command {
+        now: script.at,
+        op: Op::Desire {
+            desired: script.desired,
+        },
+    }
+}
+
+fn event_of(op: &Op) -> Event
+    ensures { result ≡ event_of op.now }
+{
+    match op {
+        Op::Desire { desired } => Event {
+            change: Change::Created,
+            row: Row::Desired(*desired),
+        },
+    }
+}
+
+fn events_text(alloc: Global, end: &CallEnd, op: &Op) -> Result<Vec<u8>, AllocError>
+    ensures { IfOk result (λ v. v.items ≡ events_text end.now op.now) }
+{
+    match end {
+        CallEnd::Got(Reply::Ok { place: _, stamp: _ }) => event_text(alloc, &event_of(op)),
+        _ => Ok(Vec::new(alloc)),
+    }
+}
+
+fn counts_of(end: &CallEnd, next: u64) -> Counts
+    requires { next < 2 ^ 63 }
+    ensures { result ≡ counts_of end.now next }
+{
+    let (done, doubts) = match end {
+        CallEnd::Got(Reply::Ok { place: _, stamp: _ }) => (1, 0),
+        CallEnd::Fault(CallFault::Disk { place: _ }) => (0, 1),
+        _ => (0, 0),
+    };
+    Counts {
+        done,
+        doubts,
+        next: next + done,
+        phases: 1,
+    }
+}
+
+fn one<T: Drop>(alloc: Global, item: T) -> Result<Vec<T>, AllocError>
+    ensures { IfOk result (λ v. v.items ≡ item ∷ []) }
+{
+    let mut items = Vec::new(alloc);
+    items.push(item)?;
+    Ok(items)
+}
+
+fn log_of(alloc: Global, end: &CallEnd, command: Command) -> Result<Vec<Item>, AllocError>
+    ensures { IfOk result (λ v. v.items ≡ log_of end.now command) }
+{
+    match end {
+        CallEnd::Got(Reply::Ok { place: _, stamp: _ }) => one(alloc, Item::Done(ACTOR, command)),
+        CallEnd::Fault(CallFault::Disk { place: _ }) => one(alloc, Item::Doubt(ACTOR, command)),
+        _ => Ok(Vec::new(alloc)),
+    }
+}
+
+fn is_doubt(end: &CallEnd) -> bool
+    ensures { result ≡ is_doubt end.now }
+{
+    matches!(end, CallEnd::Fault(CallFault::Disk { place: _ }))
+}
+
+fn run_text(
+    alloc: Global,
+    script: &Script,
+    command: &Command,
+    end: &CallEnd,
+    next: u64,
+) -> Result<Vec<u8>, AllocError>
+    requires next { next < 2 ^ 63 }
+    requires command { command.now ≡ command_of script.now }
+    ensures { IfOk result (λ v. v.items ≡ run_text script.now end.now next) }
+{
+    let mut text = answer_text(alloc, &script.client, script.line, &command.op, end)?;
+    let events = events_text(alloc, end, &command.op)?;
+    let summary = summary_text(alloc, counts_of(end, next))?;
+    text.extend_from_slice(&events)?;
+    text.extend_from_slice(&summary)?;
+    Ok(text)
+}
+
+/// What is told of a phase whose call ended so, at a board with so many transitions. The marks are
+/// still to be set.
+pub fn phase_of(
+    alloc: Global,
+    script: &Script,
+    end: CallEnd,
+    next: u64,
+) -> Result<Phase, AllocError>
+    requires { next < 2 ^ 63 }
+    ensures { IfOk result (Tells script.now end next) }
+{
+    let command = command_of(script);
+    let text = run_text(alloc, script, &command, &end, next)?;
+    let log = log_of(alloc, &end, command)?;
+    let marks = vec![in alloc; 0u64; log.len()]?;
+    let answer = Answered {
+        actor: ACTOR,
+        line: script.line,
+        command: Some(command),
+        end,
+    };
+    let answers = one(alloc, answer)?;
+    let doubt = is_doubt(&end);
+    Ok(Phase {
+        text,
+        log,
+        marks,
+        answers,
+        doubt,
+    })
+}
