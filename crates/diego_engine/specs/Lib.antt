@@ -9,6 +9,7 @@ pub mod OpenFault
 pub mod Phase
 pub mod Preparing
 pub mod Printed
+pub mod Running
 pub mod Script
 pub mod Spelling
 pub mod Words

@@ -2,6 +2,7 @@
 #![tactic(auto)]
 
 mod appending;
+mod calling;
 mod ending;
 mod following;
 mod frames;
@@ -10,12 +11,14 @@ mod opening;
 mod phase;
 mod preparing;
 mod printing;
+mod running;
 mod script;
 mod spelling;
 mod words;
 
 pub use ending::{Ending, line_of, number_of};
-pub use phase::phase_of;
+pub use calling::call;
+pub use running::Ended;
 pub use preparing::{PrepareFault, prepare};
 pub use appending::append;
 pub use opening::{OpenFault, Opened, open};

@@ -1,0 +1,92 @@
+-- How the run of a script ends, by what the ports and the disk did.
+use Rattle.std.specs.Prelude.{◌≡◌, ℕ, Bool, true, false, not, List, [], ◌∷◌, length, All, Option, Result, Ok, Err}
+use Rattle.std.specs.Io.KnownBytes.{Appends}
+use Rattle.byte_ports.specs.Cause.{HasCause}
+use Rattle.byte_ports.specs.Content.{HoldsFront}
+use Rattle.disk_trait.specs.Past.{Past, Image}
+use Rattle.disk_trait.specs.Steps.{Goes}
+use Rattle.std.specs.declared.alloc.AllocError.{AllocError}
+use Rattle.bbs_model.specs.declared.reply.CallEnd.{CallEnd}
+use Rattle.bbs_model.specs.declared.rows.Rows.{Rows}
+use Rattle.bbs_model.specs.Step.{verdict_of}
+use Rattle.diego_engine.specs.Board.{Shows, Rests, Opens, IsNoBoard}
+use Rattle.diego_engine.specs.Ending.{line_of}
+use Rattle.diego_engine.specs.Phase.{Tells, StoresBy, command_of, end_of, log_of, is_doubt, run_text, answered_of}
+use Rattle.diego_engine.specs.declared.ending.Ending.{Ending}
+use Rattle.diego_engine.specs.declared.ending.Ending.TheVariants as ending
+use Rattle.diego_engine.specs.declared.phase.Phase.{Phase}
+use Rattle.diego_engine.specs.declared.running.Ended.{Ended}
+use Rattle.diego_engine.specs.declared.script.Script.{Script}
+
+-- what is told of the sink and the disk at one moment
+pub record Ports : Type 0 where
+  pub held : Option (List ℕ)
+  pub write_faults : ℕ
+  pub told : Option Past
+  pub disk_faults : ℕ
+  pub clock : ℕ
+
+-- a text was put into the sink, whole or up to a fault
+pub record Prints (whole : Bool) (text : List ℕ) (v w : Ports) : Type 0 where
+  pub cause : HasCause (not whole) v.write_faults w.write_faults
+  pub front : HoldsFront v.held w.held text
+  pub all : whole ≡ true → Appends v.held w.held text
+
+-- the disk failed in the call of a phase
+abbrev pub is_doubtful : Result Phase AllocError → Bool
+is_doubtful (Ok phase) = phase.doubt
+is_doubtful (Err e) = false
+
+-- the call of a script at a board with these rows, whose frames end at this place
+pub record Calls (script : Script) (rows : Rows) (end : ℕ) (phase : Phase) (before after : Option Past) (clock : ℕ) : Type 0 where
+  pub stored : Bool
+  pub tells : Tells script (end_of (verdict_of rows (command_of script)) rows.next stored) rows.next phase
+  pub does : Goes before after (StoresBy (verdict_of rows (command_of script)) stored end (command_of script))
+  pub marks : All (λ m. m ≡ clock) phase.marks.items
+
+-- no call was made
+pub record IsEmpty (e : Ended) : Type 0 where
+  pub log : e.log.items ≡ []
+  pub marks : e.marks.items ≡ []
+  pub answers : e.answers.items ≡ []
+
+-- the run ended before a call, with a line; the disk failed or not, and a read gives what it gave
+pub record EndsEarly (failed : Bool) (e : Ended) (v w : Ports) : Type 0 where
+  pub empty : IsEmpty e
+  pub rests : Goes v.told w.told Rests
+  pub cause : HasCause failed v.disk_faults w.disk_faults
+  pub whole : Bool
+  pub prints : Prints whole (line_of e.ending) v w
+
+-- the run made its call; the disk failed in it or not, and its text was written whole or not
+pub record EndsLate (script : Script) (whole failed : Bool) (e : Ended) (v w : Ports) : Type 0 where
+  pub rows : Rows
+  pub end : ℕ
+  pub stored : Bool
+  pub call_end : CallEnd
+  pub between : Option Past
+  pub opens : (image : Image) → Shows v.told image → Opens rows end image
+  pub end_is : call_end ≡ end_of (verdict_of rows (command_of script)) rows.next stored
+  pub rests : Goes v.told between Rests
+  pub stores : Goes between w.told (StoresBy (verdict_of rows (command_of script)) stored end (command_of script))
+  pub failed_is : failed ≡ is_doubt call_end
+  pub cause : HasCause failed v.disk_faults w.disk_faults
+  pub log : e.log.items ≡ log_of call_end (command_of script)
+  pub answers : e.answers.items ≡ answered_of script call_end ∷ []
+  pub mark_each : length e.marks.items ≡ length e.log.items
+  pub marks : All (λ m. m ≡ w.clock) e.marks.items
+  pub prints : Prints whole (run_text script call_end rows.next) v w
+
+-- how the run of a script ends
+abbrev pub ScriptEnds : Ending → Script → Ended → Ports → Ports → Type 0
+ScriptEnds ending.Done script e v w = EndsLate script true false e v w
+ScriptEnds ending.Doubt script e v w = EndsLate script true true e v w
+ScriptEnds ending.Unwritten script e v w = (failed : Bool) × EndsLate script false failed e v w
+ScriptEnds ending.Unopened script e v w = EndsEarly true e v w
+ScriptEnds ending.NotABoard script e v w = EndsEarly false e v w × ((image : Image) → Shows v.told image → IsNoBoard image)
+ScriptEnds ending.OutOfMemory script e v w = EndsEarly false e v w
+ScriptEnds ending.Usage script e v w = ⊥
+ScriptEnds ending.Script script e v w = ⊥
+ScriptEnds ending.Read script e v w = ⊥
+ScriptEnds ending.TooLong script e v w = ⊥
+ScriptEnds ending.Exists script e v w = ⊥
