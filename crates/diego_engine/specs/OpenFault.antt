@@ -1,5 +1,7 @@
 -- The faults of an opening.
-use Rattle.std.specs.Prelude.{Bool, true, false, Result, Ok, Err}
+use Rattle.std.specs.Prelude.{Bool, true, false, Option, Result, Ok, Err}
+use Rattle.disk_trait.specs.Past.{Past, Image}
+use Rattle.diego_engine.specs.Board.{Shows, IsNoBoard}
 use Rattle.diego_engine.specs.declared.opening.OpenFault.{OpenFault}
 use Rattle.diego_engine.specs.declared.opening.OpenFault.TheVariants.{Disk, NotABoard, OutOfMemory}
 
@@ -9,3 +11,9 @@ is_disk_fault (Ok x) = false
 is_disk_fault (Err Disk) = true
 is_disk_fault (Err NotABoard) = false
 is_disk_fault (Err OutOfMemory) = false
+
+-- what the disk shows explains the fault: where the board is refused, no commands lead to it
+abbrev pub Explains : OpenFault → Option Past → Type 0
+Explains NotABoard told = (image : Image) → Shows told image → IsNoBoard image
+Explains Disk told = Unit {0}
+Explains OutOfMemory told = Unit {0}

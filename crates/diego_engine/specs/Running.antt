@@ -26,11 +26,27 @@ pub record Ports : Type 0 where
   pub disk_faults : ℕ
   pub clock : ℕ
 
--- a text was put into the sink, whole or up to a fault
-pub record Prints (whole : Bool) (text : List ℕ) (v w : Ports) : Type 0 where
-  pub cause : HasCause (not whole) v.write_faults w.write_faults
-  pub front : HoldsFront v.held w.held text
-  pub all : whole ≡ true → Appends v.held w.held text
+-- a text was put into a sink that held this, whole or up to a fault
+pub record PrintsTo (whole : Bool) (text : List ℕ) (held held' : Option (List ℕ)) (faults faults' : ℕ) : Type 0 where
+  pub cause : HasCause (not whole) faults faults'
+  pub front : HoldsFront held held' text
+  pub all : whole ≡ true → Appends held held' text
+
+-- the same, of all ports
+abbrev pub Prints : Bool → List ℕ → Ports → Ports → Type 0
+Prints whole text v w = PrintsTo whole text v.held w.held v.write_faults w.write_faults
+
+-- how a run ends that made its call
+abbrev pub ending_of : Bool → Bool → Ending
+ending_of false doubt = ending.Unwritten
+ending_of true true = ending.Doubt
+ending_of true false = ending.Done
+
+-- the lists of a phase are those of the run
+pub record Keeps (phase : Phase) (e : Ended) : Type 0 where
+  pub log : e.log.items ≡ phase.log.items
+  pub marks : e.marks.items ≡ phase.marks.items
+  pub answers : e.answers.items ≡ phase.answers.items
 
 -- the disk failed in the call of a phase
 abbrev pub is_doubtful : Result Phase AllocError → Bool
@@ -58,17 +74,13 @@ pub record EndsEarly (failed : Bool) (e : Ended) (v w : Ports) : Type 0 where
   pub whole : Bool
   pub prints : Prints whole (line_of e.ending) v w
 
--- the run made its call; the disk failed in it or not, and its text was written whole or not
-pub record EndsLate (script : Script) (whole failed : Bool) (e : Ended) (v w : Ports) : Type 0 where
-  pub rows : Rows
-  pub end : ℕ
+-- the run made its call at a board with these rows, whose frames end at this place; the disk failed in it or not, and its text was
+-- written whole or not
+pub record EndsCall (script : Script) (rows : Rows) (end : ℕ) (whole failed : Bool) (e : Ended) (v w : Ports) : Type 0 where
   pub stored : Bool
   pub call_end : CallEnd
-  pub between : Option Past
-  pub opens : (image : Image) → Shows v.told image → Opens rows end image
   pub end_is : call_end ≡ end_of (verdict_of rows (command_of script)) rows.next stored
-  pub rests : Goes v.told between Rests
-  pub stores : Goes between w.told (StoresBy (verdict_of rows (command_of script)) stored end (command_of script))
+  pub stores : Goes v.told w.told (StoresBy (verdict_of rows (command_of script)) stored end (command_of script))
   pub failed_is : failed ≡ is_doubt call_end
   pub cause : HasCause failed v.disk_faults w.disk_faults
   pub log : e.log.items ≡ log_of call_end (command_of script)
@@ -76,6 +88,31 @@ pub record EndsLate (script : Script) (whole failed : Bool) (e : Ended) (v w : P
   pub mark_each : length e.marks.items ≡ length e.log.items
   pub marks : All (λ m. m ≡ w.clock) e.marks.items
   pub prints : Prints whole (run_text script call_end rows.next) v w
+
+-- how the run ends of a script at a board that was opened
+abbrev pub CallEnds : Ending → Script → Rows → ℕ → Ended → Ports → Ports → Type 0
+CallEnds ending.Done script rows end e v w = EndsCall script rows end true false e v w
+CallEnds ending.Doubt script rows end e v w = EndsCall script rows end true true e v w
+CallEnds ending.Unwritten script rows end e v w = (failed : Bool) × EndsCall script rows end false failed e v w
+CallEnds ending.OutOfMemory script rows end e v w = EndsEarly false e v w
+CallEnds ending.Unopened script rows end e v w = ⊥
+CallEnds ending.NotABoard script rows end e v w = ⊥
+CallEnds ending.Usage script rows end e v w = ⊥
+CallEnds ending.Script script rows end e v w = ⊥
+CallEnds ending.Read script rows end e v w = ⊥
+CallEnds ending.TooLong script rows end e v w = ⊥
+CallEnds ending.Exists script rows end e v w = ⊥
+
+-- the run opened a board, and made its call
+pub record EndsLate (script : Script) (whole failed : Bool) (e : Ended) (v w : Ports) : Type 0 where
+  pub rows : Rows
+  pub end : ℕ
+  pub between : Ports
+  pub opens : (image : Image) → Shows v.told image → Opens rows end image
+  pub rests : Goes v.told between.told Rests
+  pub same_sink : (between.held ≡ v.held) × (between.write_faults ≡ v.write_faults)
+  pub no_fault : between.disk_faults ≡ v.disk_faults
+  pub call : EndsCall script rows end whole failed e between w
 
 -- how the run of a script ends
 abbrev pub ScriptEnds : Ending → Script → Ended → Ports → Ports → Type 0

@@ -18,7 +18,7 @@ mod words;
 
 pub use ending::{Ending, line_of, number_of};
 pub use calling::call;
-pub use running::Ended;
+pub use running::{Ended, run_script};
 pub use preparing::{PrepareFault, prepare};
 pub use appending::append;
 pub use opening::{OpenFault, Opened, open};

@@ -1,12 +1,12 @@
 //! Reading a board from a disk.
-ghost use Rattle.std.specs.Prelude.{◌≡◌, ◌<◌, ◌^◌, ◌++◌, List, ℕ, length, IfOk, IsErrOf, Bool, true, false};
+ghost use Rattle.std.specs.Prelude.{◌≡◌, ◌<◌, ◌^◌, ◌++◌, List, ℕ, length, IfOk, IfErr, IsErrOf, Bool, true, false};
 ghost use Rattle.byte_ports.specs.Cause.{HasCause};
 ghost use Rattle.disk_trait.specs.Past.{Image};
 ghost use Rattle.disk_trait.specs.Steps.{Goes};
 ghost use Rattle.disk_trait.specs.declared.area.Area.TheVariants.{A};
 ghost use Rattle.bbs_model.specs.Valid.{IsValid};
-ghost use Rattle.diego_engine.specs.Board.{Shows, Rests, Opens, IsNoBoard, OpensArea, IsNoArea};
-ghost use Rattle.diego_engine.specs.OpenFault.{is_disk_fault};
+ghost use Rattle.diego_engine.specs.Board.{Shows, Rests, Opens, OpensArea, IsNoArea};
+ghost use Rattle.diego_engine.specs.OpenFault.{is_disk_fault, Explains};
 ghost use Rattle.diego_engine.specs.declared.opening.OpenFault.TheVariants as faults;
 
 use crate::following::follow;
@@ -94,8 +94,7 @@ fn board_of(alloc: Global, bytes: &[u8]) -> Result<Opened, OpenFault>
 pub fn open<D: Disk>(alloc: Global, disk: &mut D) -> Result<Opened, OpenFault>
     ensures found { IfOk result (λ o. (c : Image) → Shows (D.told disk.old) c → Opens o.rows o.end c) }
     ensures valid { IfOk result (λ o. IsValid o.rows × (o.end < 2 ^ 63)) }
-    ensures refused { IsErrOf result OpenFault.NotABoard
-        → (c : Image) → Shows (D.told disk.old) c → IsNoBoard c }
+    ensures refused { IfErr result (λ e. Explains e (D.told disk.old)) }
     ensures rests { Goes (D.told disk.old) (D.told disk.new) Rests }
     ensures cause { HasCause (is_disk_fault result) (D.fault_count disk.old) (D.fault_count disk.new) }
 {
