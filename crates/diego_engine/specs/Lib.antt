@@ -12,4 +12,5 @@ pub mod Printed
 pub mod Running
 pub mod Script
 pub mod Spelling
+pub mod Top
 pub mod Words

@@ -14,13 +14,7 @@ mod printing;
 mod running;
 mod script;
 mod spelling;
+mod top;
 mod words;
 
-pub use ending::{Ending, line_of, number_of};
-pub use calling::call;
-pub use running::{Ended, run_script};
-pub use preparing::{PrepareFault, prepare};
-pub use appending::append;
-pub use opening::{OpenFault, Opened, open};
-pub use script::{Script, ScriptFault, read_script};
-pub use words::{Asked, read_words};
+pub use top::{TopEnd, diego_top, still_top};

@@ -1,0 +1,168 @@
+//! The whole of what the program does.
+ghost use Rattle.std.specs.Prelude.{◌≡◌, ◌≢◌, ◌==◌, Some, map, string_bytes};
+ghost use Rattle.byte_ports.specs.Cause.{HasCause};
+ghost use Rattle.diego_engine.specs.Ending.{number_of};
+ghost use Rattle.diego_engine.specs.Top.{Reads, RunEnds, StillEnds, Ends, is_read, is_unread};
+ghost use Rattle.diego_engine.specs.Words.{asked_of};
+ghost use Rattle.diego_engine.specs.declared.ending.Ending.{Ending as AnEnding};
+ghost use Rattle.diego_engine.specs.declared.words.Asked.TheVariants as wanted;
+
+use crate::ending::{Ending, number_of};
+use crate::preparing::{PrepareFault, prepare};
+use crate::running::{Ended, ended_early, run_script};
+use crate::script::{Script, ScriptFault, read_script};
+use crate::words::{Asked, read_words};
+use bbs_model::{Answered, Item};
+use byte_ports::{Gate, ReadFault, Sink, Source, read_whole};
+use disk_trait::Disk;
+use std::alloc::Global;
+
+/// The most bytes that a script may have.
+const LIMIT: usize = 16_777_216;
+
+/// How the program ended: its status, what it was given, and what its run did.
+pub struct TopEnd<S, K, D> {
+    pub status: u8,
+    pub source: S,
+    pub sink: K,
+    pub disk: D,
+    /// The items of this run, in the order of the board's log.
+    pub log: Vec<Item>,
+    /// The disk's clock at the end of the call of each item.
+    pub marks: Vec<u64>,
+    /// The calls of the phases that ran, and how each ended.
+    pub answers: Vec<Answered>,
+}
+
+/// The script that the source gives.
+fn read<S: Source>(alloc: Global, source: &mut S) -> Result<Script, Ending>
+    ensures reads { Reads result (S.left source.old) (S.left source.new) }
+    ensures cause { HasCause (is_unread result) (S.faults source.old) (S.faults source.new) }
+{
+    match read_whole(alloc, source, LIMIT) {
+        Ok(bytes) => match read_script(alloc, &bytes) {
+            Ok(script) => Ok(script),
+            Err(ScriptFault::Malformed) => Err(Ending::Script),
+            Err(ScriptFault::OutOfMemory) => Err(Ending::OutOfMemory),
+        },
+        Err(ReadFault::Failed) => Err(Ending::Read),
+        Err(ReadFault::TooLong) => Err(Ending::TooLong),
+        Err(ReadFault::OutOfMemory) => Err(Ending::OutOfMemory),
+    }
+}
+
+/// Reads a script, and runs it.
+fn run<S: Source, K: Sink, D: Disk, G: Gate>(
+    alloc: Global,
+    source: &mut S,
+    sink: &mut K,
+    disk: &mut D,
+    gate: &G,
+) -> Ended
+    ensures ends { RunEnds result.ending result (S.left source.old) (S.left source.new)
+        (record { held = K.held sink.old; write_faults = K.faults sink.old; told = D.told disk.old;
+            disk_faults = D.fault_count disk.old; clock = D.moment disk.old })
+        (record { held = K.held sink.new; write_faults = K.faults sink.new; told = D.told disk.new;
+            disk_faults = D.fault_count disk.new; clock = D.moment disk.new }) }
+    ensures cause { HasCause (is_read result.ending) (S.faults source.old) (S.faults source.new) }
+{
+    match read(alloc, source) {
+        Ok(script) => run_script(alloc, &script, sink, disk, gate),
+        Err(ending) => ended_early(alloc, sink, ending),
+    }
+}
+
+/// Does what waits for nobody.
+fn still<K: Sink, D: Disk>(
+    alloc: Global,
+    asked: Option<Asked>,
+    sink: &mut K,
+    disk: &mut D,
+) -> Ended
+    requires { asked ≢ Some wanted.Run }
+    ensures { StillEnds result.ending asked result
+        (record { held = K.held sink.old; write_faults = K.faults sink.old; told = D.told disk.old;
+            disk_faults = D.fault_count disk.old; clock = D.moment disk.old })
+        (record { held = K.held sink.new; write_faults = K.faults sink.new; told = D.told disk.new;
+            disk_faults = D.fault_count disk.new; clock = D.moment disk.new }) }
+{
+    match asked {
+        Some(Asked::Prepare) => match prepare(disk) {
+            Ok(()) => ended_early(alloc, sink, Ending::Done),
+            Err(PrepareFault::Disk) => ended_early(alloc, sink, Ending::Unopened),
+            Err(PrepareFault::NotEmpty) => ended_early(alloc, sink, Ending::Exists),
+        },
+        _ => ended_early(alloc, sink, Ending::Usage),
+    }
+}
+
+fn top_end<S, K, D>(ended: Ended, source: S, sink: K, disk: D) -> TopEnd<S, K, D>
+    ensures status { result.status ≡ number_of ended.ending }
+    ensures ports { (result.source ≡ source) × (result.sink ≡ sink) × (result.disk ≡ disk) }
+    ensures lists { (result.log ≡ ended.log) × (result.marks ≡ ended.marks)
+        × (result.answers ≡ ended.answers) }
+{
+    let Ended {
+        ending,
+        log,
+        marks,
+        answers,
+    } = ended;
+    TopEnd {
+        status: number_of(ending),
+        source,
+        sink,
+        disk,
+        log,
+        marks,
+        answers,
+    }
+}
+
+/// Does what the words ask for, where they don't ask for a run. It waits for nobody.
+pub fn still_top<S: Source, K: Sink, D: Disk>(
+    alloc: Global,
+    words: &[String],
+    source: S,
+    mut sink: K,
+    mut disk: D,
+) -> TopEnd<S, K, D>
+    requires { asked_of (map (λ w. string_bytes w) words.now) ≢ Some wanted.Run }
+    ensures source { result.source ≡ source }
+    ensures ends { (how : AnEnding) × (result.status ≡ number_of how)
+        × StillEnds how (asked_of (map (λ w. string_bytes w) words.now))
+            (record { ending = how; log = result.log; marks = result.marks; answers = result.answers })
+            (record { held = K.held sink; write_faults = K.faults sink; told = D.told disk;
+                disk_faults = D.fault_count disk; clock = D.moment disk })
+            (record { held = K.held result.sink; write_faults = K.faults result.sink; told = D.told result.disk;
+                disk_faults = D.fault_count result.disk; clock = D.moment result.disk }) }
+{
+    let ended = still(alloc, read_words(words), &mut sink, &mut disk);
+    top_end(ended, source, sink, disk)
+}
+
+/// All that the program does.
+pub fn diego_top<S: Source, K: Sink, D: Disk, G: Gate>(
+    alloc: Global,
+    words: &[String],
+    mut source: S,
+    mut sink: K,
+    mut disk: D,
+    gate: &G,
+) -> TopEnd<S, K, D>
+    ensures ends { (how : AnEnding) × (result.status ≡ number_of how)
+        × Ends how (asked_of (map (λ w. string_bytes w) words.now))
+            (record { ending = how; log = result.log; marks = result.marks; answers = result.answers })
+            (S.left source) (S.left result.source)
+            (record { held = K.held sink; write_faults = K.faults sink; told = D.told disk;
+                disk_faults = D.fault_count disk; clock = D.moment disk })
+            (record { held = K.held result.sink; write_faults = K.faults result.sink; told = D.told result.disk;
+                disk_faults = D.fault_count result.disk; clock = D.moment result.disk }) }
+    ensures read { HasCause (result.status == 3) (S.faults source) (S.faults result.source) }
+{
+    if read_words(words) != Some(Asked::Run) {
+        return still_top(alloc, words, source, sink, disk);
+    }
+    let ended = run(alloc, &mut source, &mut sink, &mut disk, gate);
+    top_end(ended, source, sink, disk)
+}
