@@ -1,5 +1,5 @@
 //! The whole of what the program does.
-ghost use Rattle.std.specs.Prelude.{◌≡◌, ◌≢◌, ◌==◌, Some, map, string_bytes};
+ghost use Rattle.std.specs.Prelude.{◌≡◌, ◌≢◌, ◌==◌, ◌↔◌, Some, IsTrue, map, string_bytes};
 ghost use Rattle.byte_ports.specs.Cause.{HasCause};
 ghost use Rattle.diego_engine.specs.Ending.{number_of};
 ghost use Rattle.diego_engine.specs.Top.{Reads, RunEnds, StillEnds, Ends, is_read, is_unread};
@@ -96,6 +96,12 @@ fn still<K: Sink, D: Disk>(
     }
 }
 
+fn asks_for_a_run(words: &[String]) -> bool
+    ensures { IsTrue result ↔ (asked_of (map (λ w. string_bytes w) words.now) ≡ Some wanted.Run) }
+{
+    matches!(read_words(words), Some(Asked::Run))
+}
+
 fn top_end<S, K, D>(ended: Ended, source: S, sink: K, disk: D) -> TopEnd<S, K, D>
     ensures status { result.status ≡ number_of ended.ending }
     ensures ports { (result.source ≡ source) × (result.sink ≡ sink) × (result.disk ≡ disk) }
@@ -160,7 +166,7 @@ pub fn diego_top<S: Source, K: Sink, D: Disk, G: Gate>(
                 disk_faults = D.fault_count result.disk; clock = D.moment result.disk }) }
     ensures read { HasCause (result.status == 3) (S.faults source) (S.faults result.source) }
 {
-    if read_words(words) != Some(Asked::Run) {
+    if !asks_for_a_run(words) {
         return still_top(alloc, words, source, sink, disk);
     }
     let ended = run(alloc, &mut source, &mut sink, &mut disk, gate);
