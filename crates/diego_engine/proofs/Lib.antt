@@ -6,3 +6,4 @@ pub mod FollowLaws
 pub mod FrameLaws
 pub mod JsonText
 pub mod Spellings
+pub mod TopLaws

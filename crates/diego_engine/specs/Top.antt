@@ -3,11 +3,14 @@ use Rattle.std.specs.Prelude.{◌≡◌, ℕ, ◌+◌, ◌≤◌, ◌==◌, ◌|
 use Rattle.std.specs.Io.KnownBytes.{Consumes, IsAtEnd}
 use Rattle.byte_ports.specs.Cause.{HasCause}
 use Rattle.byte_ports.specs.Content.{Lost, LostAtMost}
+use Rattle.disk_trait.specs.Past.{Past, Image}
 use Rattle.disk_trait.specs.Runs.{Extends}
+use Rattle.bbs_model.specs.declared.command.Command.{Command}
+use Rattle.diego_engine.specs.Board.{Shows, IsBoard}
 use Rattle.disk_trait.specs.Steps.{Goes}
 use Rattle.diego_engine.specs.Ending.{line_of}
 use Rattle.diego_engine.specs.Preparing.{Prepares, FindsBytes}
-use Rattle.diego_engine.specs.Running.{Ports, IsEmpty, Prints, EndsEarly, ScriptEnds}
+use Rattle.diego_engine.specs.Running.{Ports, IsEmpty, Prints, EndsEarly, EndsLate, ScriptEnds}
 use Rattle.diego_engine.specs.Script.{script_of}
 use Rattle.diego_engine.specs.declared.ending.Ending.{Ending}
 use Rattle.diego_engine.specs.declared.ending.Ending.TheVariants as ending
@@ -95,3 +98,23 @@ abbrev pub Ends : Ending → Option Asked → Ended → Option (List ℕ) → Op
 Ends how (Some asked.Run) e left left' v w = RunEnds how e left left' v w
 Ends how (Some asked.Prepare) e left left' v w = StillEnds how (Some asked.Prepare) e v w × (left' ≡ left)
 Ends how None e left left' v w = StillEnds how None e v w × (left' ≡ left)
+
+-- with this status the program ends before it looks at the disk
+abbrev pub is_before_board : ℕ → Bool
+is_before_board status = (status == 1) || ((status == 2) || ((status == 3) || (status == 8)))
+
+-- the source tells a script that isn't too long, and the disk a board that took these commands
+pub record Meets (left : Option (List ℕ)) (told : Option Past) : Type 0 where
+  pub bytes : List ℕ
+  pub script : Script
+  pub commands : List Command
+  pub image : Image
+  pub left_is : left ≡ Some bytes
+  pub few : length bytes ≤ limit
+  pub script_is : script_of bytes ≡ Some script
+  pub shows : Shows told image
+  pub board : IsBoard commands image
+
+-- a script was read, its call was made, and its text was written whole, and no fault was met
+abbrev pub RunsWhole : Ended → Option (List ℕ) → Option (List ℕ) → Ports → Ports → Type 0
+RunsWhole e left left' v w = (script : Script) × ReadsWhole left left' (λ bytes. script_of bytes ≡ Some script) × EndsLate script true false e v w

@@ -1,8 +1,14 @@
 //! The whole of what the program does.
-ghost use Rattle.std.specs.Prelude.{◌≡◌, ◌≢◌, ◌==◌, ◌↔◌, Some, IsTrue, map, string_bytes};
-ghost use Rattle.byte_ports.specs.Cause.{HasCause};
+ghost use Rattle.std.specs.Prelude.{◌≡◌, ◌≢◌, ◌⊎◌, ◌+◌, ◌==◌, ◌↔◌, true, None, Some, IsTrue, List, ℕ, map, string_bytes};
+ghost use Rattle.byte_ports.specs.Cause.{HasCause, Rose};
+ghost use Rattle.byte_ports.specs.Content.{Lost};
+ghost use Rattle.disk_trait.specs.Past.{Image};
+ghost use Rattle.disk_trait.specs.Steps.{Goes};
+ghost use Rattle.diego_engine.specs.Board.{Shows, IsNoBoard};
+ghost use Rattle.diego_engine.specs.Preparing.{FindsBytes};
+ghost use Rattle.diego_engine.specs.Script.{script_of};
 ghost use Rattle.diego_engine.specs.Ending.{number_of};
-ghost use Rattle.diego_engine.specs.Top.{Reads, RunEnds, StillEnds, Ends, is_read, is_unread};
+ghost use Rattle.diego_engine.specs.Top.{Reads, ReadsWhole, RunEnds, StillEnds, Ends, Meets, RunsWhole, is_read, is_unread, is_before_board, limit};
 ghost use Rattle.diego_engine.specs.Words.{asked_of};
 ghost use Rattle.diego_engine.specs.declared.ending.Ending.{Ending as AnEnding};
 ghost use Rattle.diego_engine.specs.declared.words.Asked.TheVariants as wanted;
@@ -147,8 +153,7 @@ pub fn still_top<S: Source, K: Sink, D: Disk>(
     top_end(ended, source, sink, disk)
 }
 
-/// All that the program does.
-pub fn diego_top<S: Source, K: Sink, D: Disk, G: Gate>(
+fn whole_top<S: Source, K: Sink, D: Disk, G: Gate>(
     alloc: Global,
     words: &[String],
     mut source: S,
@@ -171,4 +176,60 @@ pub fn diego_top<S: Source, K: Sink, D: Disk, G: Gate>(
     }
     let ended = run(alloc, &mut source, &mut sink, &mut disk, gate);
     top_end(ended, source, sink, disk)
+}
+
+/// All that the program does. What it prints and does to the disk is told by `ends`: the other clauses
+/// say of each status where it comes from.
+pub fn diego_top<S: Source, K: Sink, D: Disk, G: Gate>(
+    alloc: Global,
+    words: &[String],
+    source: S,
+    sink: K,
+    disk: D,
+    gate: &G,
+) -> TopEnd<S, K, D>
+    ensures ends { (how : AnEnding) × (result.status ≡ number_of how)
+        × Ends how (asked_of (map (λ w. string_bytes w) words.now))
+            (record { ending = how; log = result.log; marks = result.marks; answers = result.answers })
+            (S.left source) (S.left result.source)
+            (record { held = K.held sink; write_faults = K.faults sink; told = D.told disk;
+                disk_faults = D.fault_count disk; clock = D.moment disk })
+            (record { held = K.held result.sink; write_faults = K.faults result.sink; told = D.told result.disk;
+                disk_faults = D.fault_count result.disk; clock = D.moment result.disk }) }
+
+    // Each status exactly where, or only where, this holds.
+    ensures usage { (result.status ≡ 1) ↔ (asked_of (map (λ w. string_bytes w) words.now) ≡ None) }
+    ensures script { result.status ≡ 2
+        → ReadsWhole (S.left source) (S.left result.source) (λ bytes. script_of bytes ≡ None) }
+    ensures read { HasCause (result.status == 3) (S.faults source) (S.faults result.source) }
+    ensures unwritten { result.status ≡ 4 → Rose (K.faults sink) (K.faults result.sink) }
+    ensures unstored { result.status ≡ 5 → Rose (D.fault_count disk) (D.fault_count result.disk) }
+    ensures refused { result.status ≡ 6
+        → (image : Image) → Shows (D.told disk) image → IsNoBoard image }
+    ensures too_long { result.status ≡ 8 → Lost (S.left source) (S.left result.source) (limit + 1) }
+    ensures exists { result.status ≡ 9 → Goes (D.told disk) (D.told result.disk) FindsBytes }
+    ensures untouched { is_before_board result.status ≡ true
+        → (D.told result.disk ≡ D.told disk) × (D.fault_count result.disk ≡ D.fault_count disk) }
+
+    // A run that ends with 0 read a script, opened a board, and made the call: its answer is the step's
+    // verdict at that board, and the log, the disk and the text say the same.
+    ensures done { result.status ≡ 0
+        → asked_of (map (λ w. string_bytes w) words.now) ≡ Some wanted.Run
+        → (how : AnEnding) × RunsWhole
+            (record { ending = how; log = result.log; marks = result.marks; answers = result.answers })
+            (S.left source) (S.left result.source)
+            (record { held = K.held sink; write_faults = K.faults sink; told = D.told disk;
+                disk_faults = D.fault_count disk; clock = D.moment disk })
+            (record { held = K.held result.sink; write_faults = K.faults result.sink; told = D.told result.disk;
+                disk_faults = D.fault_count result.disk; clock = D.moment result.disk }) }
+
+    // With a script and a board, and without a fault, all is done unless memory runs out.
+    ensures complete { asked_of (map (λ w. string_bytes w) words.now) ≡ Some wanted.Run
+        → Meets (S.left source) (D.told disk)
+        → (Rose (S.faults source) (S.faults result.source) → ⊥)
+        → (Rose (K.faults sink) (K.faults result.sink) → ⊥)
+        → (Rose (D.fault_count disk) (D.fault_count result.disk) → ⊥)
+        → (result.status ≡ 0) ⊎ (result.status ≡ 7) }
+{
+    whole_top(alloc, words, source, sink, disk, gate)
 }

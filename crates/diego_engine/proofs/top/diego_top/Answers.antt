@@ -1,13 +1,44 @@
-use Rattle.std.proofs.Common.{◌≡◌, List, ℕ, Some, map, string_bytes, rules}
-use Rattle.diego_engine.specs.Words.{asked_of}
-use Rattle.diego_engine.specs.declared.words.Asked.TheVariants.{Run}
+use Rattle.std.proofs.Common.{◌≡◌, sym, subst, ◌∙◌, ap, true, ◌⊎◌, ℕ, inl, inr, Bool}
+use Rattle.std.specs.Prelude.{◌==◌}
+use Rattle.diego_engine.specs.Top.{is_before_board}
+use Rattle.diego_engine.proofs.TopLaws.{usage_from, usage_to, script_from, unwritten_from, unstored_from, refused_from, too_long_from, exists_from, untouched_from, done_from, complete_from}
 use Rattle.diego_engine.proofs.top.diego_top.Goals as goal
 
-pub returns-clause-ends : goal.returns-clause-ends
-returns-clause-ends g c =
-    let is_run : asked_of (map (λ w. string_bytes w) c.args.words.now) ≡ Some Run = search rules in
-    (
-      c.run-ended.result.ending,
-      c.top_end.ensures.status,
-      rw (is_run, c.top_end.ensures.lists.0, c.top_end.ensures.lists.1, c.top_end.ensures.lists.2, c.top_end.ensures.ports.0, c.top_end.ensures.ports.1, c.top_end.ensures.ports.2) c.run-ended.ensures.ends,
-    )
+pub returns-clause-usage : goal.returns-clause-usage
+returns-clause-usage g c =
+    let (how, status, ends) = c.whole_top.ensures.ends in
+    (λ n. usage_from _ _ _ _ _ how _ (sym status ∙ n) ends, λ is. status ∙ usage_to _ _ _ _ _ how _ is ends)
+
+pub returns-clause-script : goal.returns-clause-script
+returns-clause-script g c n = let (how, status, ends) = c.whole_top.ensures.ends in script_from _ _ _ _ _ how _ (sym status ∙ n) ends
+
+pub returns-clause-unwritten : goal.returns-clause-unwritten
+returns-clause-unwritten g c n = let (how, status, ends) = c.whole_top.ensures.ends in unwritten_from _ _ _ _ _ how _ (sym status ∙ n) ends
+
+pub returns-clause-unstored : goal.returns-clause-unstored
+returns-clause-unstored g c n = let (how, status, ends) = c.whole_top.ensures.ends in unstored_from _ _ _ _ _ how _ (sym status ∙ n) ends
+
+pub returns-clause-refused : goal.returns-clause-refused
+returns-clause-refused g c n = let (how, status, ends) = c.whole_top.ensures.ends in refused_from _ _ _ _ _ how _ (sym status ∙ n) ends
+
+pub returns-clause-too_long : goal.returns-clause-too_long
+returns-clause-too_long g c n = let (how, status, ends) = c.whole_top.ensures.ends in too_long_from _ _ _ _ _ how _ (sym status ∙ n) ends
+
+pub returns-clause-exists : goal.returns-clause-exists
+returns-clause-exists g c n = let (how, status, ends) = c.whole_top.ensures.ends in exists_from _ _ _ _ _ how _ (sym status ∙ n) ends
+
+pub returns-clause-untouched : goal.returns-clause-untouched
+returns-clause-untouched g c n =
+    let (how, status, ends) = c.whole_top.ensures.ends in
+    untouched_from _ _ _ _ _ how _ (ap is_before_board (sym status) ∙ n) ends
+
+pub returns-clause-complete : goal.returns-clause-complete
+returns-clause-complete g c is meets source sink disk =
+    let (how, status, ends) = c.whole_top.ensures.ends in
+    elim (complete_from _ _ _ _ _ how _ is ends meets (λ n. source (c.whole_top.ensures.read.rose (ap (λ (m : ℕ). m == 3) (status ∙ n)))) sink disk) [
+      inl n ↦ inl (status ∙ n)
+      | inr n ↦ inr (status ∙ n)
+    ]
+
+pub returns-clause-done : goal.returns-clause-done
+returns-clause-done g c n is = let (how, status, ends) = c.whole_top.ensures.ends in (how, done_from _ _ _ _ _ how _ (sym status ∙ n) is ends)
