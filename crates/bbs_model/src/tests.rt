@@ -110,6 +110,12 @@ fn a_desire_is_refused_by_the_first_cause(rt: HostRuntime) -> Result<(), Fail> {
         new,
         &[(1, too_many(5_000)), (1_001, too_many(5_000))],
     );
+    Ok(())
+}
+
+#[test]
+fn a_full_board_refuses_last(rt: HostRuntime) -> Result<(), Fail> {
+    let (first, new) = (name(rt.alloc(), 0)?, name(rt.alloc(), NEW)?);
 
     let rows = board(rt.alloc(), 50, 999, 50)?;
     answers(
