@@ -1,7 +1,6 @@
 -- The laws of a field, from those of its front.
-use Rattle.std.proofs.Common.{◌≡◌, ℕ, ◌+◌, ◌≤◌, ◌<◌, Bool, true, false, cond, List, ◌++◌, length, take, drop, Result, Ok, Err, refl, sym, ap, ◌∙◌, arith}
+use Rattle.std.proofs.Common.{◌≡◌, ℕ, ◌+◌, ◌≤◌, ◌<◌, Bool, true, false, cond, List, ◌++◌, length, take, drop, Result, Ok, refl, sym, ap, ◌∙◌, arith}
 use Rattle.wire_fields.specs.declared.fault.FieldFault.{FieldFault}
-use Rattle.wire_fields.specs.declared.fault.FieldFault.TheVariants.{Short}
 use Rattle.wire_fields.specs.Field.{written}
 use Rattle.wire_fields.specs.Front.{Front, Holds, Ends, Bad}
 use Rattle.wire_fields.specs.Laws.{IsBytes, StandsAt, IsField}

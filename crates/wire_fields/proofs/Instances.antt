@@ -1,19 +1,18 @@
 -- An instance is a field, and so is an optional one.
-use Rattle.std.proofs.Common.{◌≡◌, ℕ, zero, suc, ◌+◌, ◌^◌, ◌<◌, Bool, true, false, cond, List, [], ◌∷◌, length, take, drop, Option, Some, None, Result, Ok, Err, refl, sym, ap, subst, ◌∙◌, arith}
+use Rattle.std.proofs.Common.{◌≡◌, ℕ, zero, suc, ◌+◌, ◌<◌, Bool, true, false, cond, List, [], ◌∷◌, length, take, drop, Option, Some, None, Result, Ok, Err, refl, sym, ap, subst, ◌∙◌, arith}
 use Rattle.std.specs.Prelude.{IfSome}
 use Rattle.std.proofs.lemmas.List.{drop-drop}
-use Rattle.std.specs.Int.{w32, w64}
 use Rattle.diego_names.specs.declared.instance.Instance.{Instance}
 use Rattle.wire_fields.specs.declared.fault.FieldFault.{FieldFault}
 use Rattle.wire_fields.specs.declared.fault.FieldFault.TheVariants.{Short}
-use Rattle.wire_fields.specs.Field.{field_number, field_truth, field_instance, field_optional_instance}
+use Rattle.wire_fields.specs.Field.{field_truth, field_instance, field_optional_instance}
 use Rattle.wire_fields.specs.Laws.{IsBytes, StandsAt, FitsInstance, IsField}
-use Rattle.wire_fields.specs.Reading.{◌>>=◌, number_at, truth_at, instance_at, optional_instance_at}
+use Rattle.wire_fields.specs.Reading.{◌>>=◌, truth_at, instance_at, optional_instance_at}
 use Rattle.wire_fields.proofs.Numbers.{IsField-u32, IsField-u64}
 use Rattle.wire_fields.proofs.Places.{StandsAt-append, StandsAt-front, StandsAt-back}
-use Rattle.wire_fields.proofs.Fronts.{IsRead, IsRead-written, ok_is}
+use Rattle.wire_fields.proofs.Fronts.{IsRead-written, ok_is}
 use Rattle.wire_fields.proofs.Truths.{IsField-truth}
-use Rattle.wire_fields.proofs.Pairs.{bind_ok, IsMade, IsField-pair}
+use Rattle.wire_fields.proofs.Pairs.{bind_ok, IsField-pair}
 
 pub IsField-instance : IsField FitsInstance field_instance instance_at
 unfolding field_instance instance_at

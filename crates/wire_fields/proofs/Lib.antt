@@ -5,4 +5,6 @@ pub mod Names
 pub mod Truths
 pub mod Pairs
 pub mod Instances
+pub mod Chains
+pub mod Lengths
 pub mod Rules

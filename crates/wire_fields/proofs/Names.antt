@@ -1,5 +1,5 @@
 -- A name is a field, and so is an optional one.
-use Rattle.std.proofs.Common.{◌≡◌, ℕ, zero, suc, ◌+◌, ◌<◌, ◌≤◌, Bool, true, false, cond, ltb, eqb, ◌||◌, List, [], ◌∷◌, ◌++◌, length, take, drop, Option, Some, None, Result, Ok, Err, refl, sym, ap, subst, ◌∙◌, arith, inl, inr}
+use Rattle.std.proofs.Common.{◌≡◌, ℕ, zero, suc, ◌+◌, ◌<◌, ◌≤◌, Bool, true, false, cond, ltb, eqb, ◌||◌, List, [], ◌∷◌, ◌++◌, length, take, drop, Option, Some, None, Result, Ok, Err, refl, sym, ap, subst, ◌∙◌, arith}
 use Rattle.std.specs.Prelude.{IfSome, IfOk}
 use Rattle.std.specs.Result.{result_ok}
 use Rattle.diego_names.specs.declared.name.NameFault.{NameFault}
@@ -10,7 +10,7 @@ use Rattle.std.proofs.lemmas.List.Sums.{AllPass-from_list_all, list_all-from_All
 use Rattle.diego_names.specs.Name.{is_name_byte, IsName}
 use Rattle.wire_fields.specs.Field.{field_name, field_optional_name}
 use Rattle.wire_fields.specs.Front.{Front, Holds, Ends, Bad, front_map, name_bytes_front, name_front, optional_name_front}
-use Rattle.wire_fields.specs.Laws.{IsBytes, IsField}
+use Rattle.wire_fields.specs.Laws.{IsField}
 use Rattle.wire_fields.specs.Reading.{name_at, optional_name_at}
 use Rattle.wire_fields.proofs.Fronts.{Takes, IsFront, not_bad, not_ended, held, IsField-from_front}
 

@@ -1,11 +1,10 @@
 -- Two fields, one behind the other, are a field.
-use Rattle.std.proofs.Common.{◌≡◌, ℕ, ◌+◌, ◌-◌, ◌<◌, ◌≤◌, List, ◌++◌, length, take, drop, Result, Ok, Err, refl, sym, ap, subst, ◌∙◌, arith, inl, inr}
+use Rattle.std.proofs.Common.{◌≡◌, ℕ, ◌+◌, ◌-◌, ◌≤◌, List, ◌++◌, length, take, drop, Result, Ok, Err, refl, sym, ap, subst, ◌∙◌, arith, inl, inr}
 use Rattle.std.proofs.lemmas.Bool.{cases_lt}
-use Rattle.std.proofs.lemmas.List.{take-append-le, take-append-drop, drop_at, drop-drop, length-append, length-take}
+use Rattle.std.proofs.lemmas.List.{take-append-le, drop_at, drop-drop, length-append}
 use Rattle.std.proofs.Math.Seq.{take-append-add}
 use Rattle.wire_fields.specs.declared.fault.FieldFault.{FieldFault}
-use Rattle.wire_fields.specs.declared.fault.FieldFault.TheVariants.{Short}
-use Rattle.wire_fields.specs.Laws.{IsBytes, StandsAt, IsField}
+use Rattle.wire_fields.specs.Laws.{StandsAt, IsField}
 use Rattle.wire_fields.specs.Reading.{◌>>=◌}
 use Rattle.wire_fields.proofs.Places.{StandsAt-append, StandsAt-front, StandsAt-back}
 use Rattle.wire_fields.proofs.Fronts.{IsRead, IsRead-written, ok_is}
@@ -27,7 +26,7 @@ pub record IsMade {X Y Z : Type 0} (make : X → Y → Z) (one : Z → X) (other
   pub other_of : (x : X) (y : Y) → other (make x y) ≡ y
 
 -- a text that is cut off in its back
-take-append_back : (a b : List ℕ) (k : ℕ) → length a ≤ k → take k (a ++ b) ≡ a ++ take (k - length a) b
+pub take-append_back : (a b : List ℕ) (k : ℕ) → length a ≤ k → take k (a ++ b) ≡ a ++ take (k - length a) b
 take-append_back a b k le =
     let k-is : k ≡ length a + (k - length a) = omega arith in
     ap (λ (m : ℕ). take m (a ++ b)) k-is ∙ take-append-add a b (k - length a)

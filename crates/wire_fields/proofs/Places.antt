@@ -1,8 +1,8 @@
 -- Texts at places, one behind the other, and what is written there.
-use Rattle.std.proofs.Common.{◌≡◌, ℕ, ◌+◌, ◌≤◌, ◌<◌, List, ◌++◌, length, take, drop, refl, sym, ap, ◌∙◌, append_assoc, arith, inl, inr}
+use Rattle.std.proofs.Common.{◌≡◌, ℕ, ◌+◌, ◌≤◌, List, ◌++◌, length, take, drop, refl, sym, ap, ◌∙◌, append_assoc, arith, inl, inr}
 use Rattle.std.proofs.lemmas.Bool.{cases_lt}
 use Rattle.std.proofs.lemmas.List.{take_at, drop_at, drop-drop, length-append, length-take-le, get_or-drop, get_or-take, get_or_past, length-take}
-use Rattle.wire_fields.specs.Field.{written}
+use Rattle.wire_fields.specs.Field.{written, Puts}
 use Rattle.wire_fields.specs.Laws.{IsBytes, StandsAt}
 
 pub IsBytes-drop : (n : ℕ) (bytes : List ℕ) → IsBytes bytes → IsBytes (drop n bytes)
@@ -45,8 +45,8 @@ StandsAt-written out at text fits = record {
   parts = drop_at (take at out) (text ++ drop (at + length text) out) at (length-take-le at out fits);
 }
 
--- two writes, one behind the other, are one
-pub written-then : (out mid new : List ℕ) (at after : ℕ) (a b : List ℕ) → mid ≡ written out at a → after ≡ at + length a → new ≡ written mid after b
+-- two writes, one behind the other, leave what one leaves
+written-then : (out mid new : List ℕ) (at after : ℕ) (a b : List ℕ) → mid ≡ written out at a → after ≡ at + length a → new ≡ written mid after b
     → at ≤ length out → new ≡ written out at (a ++ b)
 unfolding written
 written-then out mid new at after a b mid-is after-is new-is fits =
@@ -62,3 +62,11 @@ written-then out mid new at after a b mid-is after-is new-is fits =
     ∙ ap (λ (d : List ℕ). (take at out ++ a) ++ (b ++ d)) dropped
     ∙ append_assoc (take at out) a (b ++ drop (at + length (a ++ b)) out)
     ∙ ap (λ (t : List ℕ). take at out ++ t) (sym (append_assoc a b (drop (at + length (a ++ b)) out)))
+
+-- two writes, one behind the other, are one
+pub Puts-then : {old mid new : List ℕ} {at middle after : ℕ} {a b : List ℕ} → at ≤ length old → Puts old at a mid middle → Puts mid middle b new after
+    → Puts old at (a ++ b) new after
+Puts-then {old} {mid} {new} {at} {middle} {after} {a} {b} fits first second = record {
+  bytes = written-then old mid new at middle a b first.bytes first.place second.bytes fits;
+  place = omega (arith, length-append a b, first.place, second.place);
+}

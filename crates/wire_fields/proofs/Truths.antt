@@ -1,11 +1,11 @@
 -- A truth value is a field.
-use Rattle.std.proofs.Common.{◌≡◌, ℕ, zero, suc, ◌<◌, Bool, true, false, cond, eqb, List, [], ◌∷◌, ◌++◌, length, take, refl, sym, ◌∙◌, arith}
+use Rattle.std.proofs.Common.{◌≡◌, ℕ, zero, suc, ◌<◌, Bool, true, false, List, [], ◌∷◌, ◌++◌, length, take, refl, sym, ◌∙◌, arith}
 use Rattle.std.proofs.lemmas.Bool.{ne_eqb}
 use Rattle.wire_fields.specs.Field.{field_truth}
 use Rattle.wire_fields.specs.Front.{Front, Holds, Ends, Bad, truth_front}
-use Rattle.wire_fields.specs.Laws.{IsBytes, IsField}
+use Rattle.wire_fields.specs.Laws.{IsField}
 use Rattle.wire_fields.specs.Reading.{truth_at}
-use Rattle.wire_fields.proofs.Fronts.{Takes, IsFront, held, IsField-from_front}
+use Rattle.wire_fields.proofs.Fronts.{Takes, held, IsField-from_front}
 
 truth_spelled : (bytes : List ℕ) (b : Bool) (n : ℕ) → truth_front bytes ≡ Holds b n → Takes (λ _. Unit {0}) field_truth bytes b n
 unfolding field_truth

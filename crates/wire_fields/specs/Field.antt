@@ -1,5 +1,5 @@
 -- How the value of each field is spelled.
-use Rattle.std.specs.Prelude.{ℕ, ◌+◌, ◌<◌, ◌^◌, Bool, List, [], ◌∷◌, ◌++◌, length, take, drop, Option, Some, None, if◌then◌else◌}
+use Rattle.std.specs.Prelude.{◌≡◌, ℕ, ◌+◌, Bool, List, [], ◌∷◌, ◌++◌, length, take, drop, Option, Some, None, if◌then◌else◌}
 use Rattle.std.specs.Int.{Width, w32, w64, to_be_bytes}
 use Rattle.diego_names.specs.declared.instance.Instance.{Instance}
 
@@ -32,3 +32,8 @@ field_optional_instance (Some i) = 1 ∷ field_instance i
 -- these bytes with the text in place of those from `at` on
 unfoldable pub written : List ℕ → ℕ → List ℕ → List ℕ
 written out at text = take at out ++ (text ++ drop (at + length text) out)
+
+-- the text was written over the old bytes from `at` on, and ends at the place after it
+pub record Puts (old : List ℕ) (at : ℕ) (text : List ℕ) (new : List ℕ) (after : ℕ) : Type 0 where
+  pub bytes : new ≡ written old at text
+  pub place : after ≡ at + length text

@@ -6,8 +6,8 @@ use Rattle.wire_fields.specs.declared.fault.FieldFault.{FieldFault}
 use Rattle.wire_fields.specs.declared.fault.FieldFault.TheVariants.{Short, BadField}
 use Rattle.wire_fields.specs.Front.{Front, Holds, Ends, Bad, number_front, name_front, optional_name_front, truth_front}
 
--- one reading after another, up to the first fault
 infixl 10 ◌>>=◌
+-- one reading after another, up to the first fault
 abbrev pub ◌>>=◌ : {A B E : Type 0} → Result A E → (A → Result B E) → Result B E
 (Ok x) >>= f = f x
 (Err e) >>= f = Err e

@@ -1,11 +1,11 @@
-use Rattle.std.proofs.Common.{◌∷◌, [], Option, sym, ap, ◌∙◌, arith}
+use Rattle.std.proofs.Common.{Option, sym, subst, arith}
 use Rattle.diego_names.specs.declared.instance.Instance.{Instance}
-use Rattle.wire_fields.specs.Field.{field_truth, field_instance, field_optional_instance, written}
-use Rattle.wire_fields.proofs.Places.{written-then}
+use Rattle.wire_fields.specs.Field.{field_truth, field_optional_instance, Puts}
+use Rattle.wire_fields.proofs.Places.{Puts-then}
 use Rattle.wire_fields.proofs.writing.put_optional_instance.Goals as goal
 
-pub returns-in-Some-clause-bytes : goal.returns-in-Some-clause-bytes
+pub returns-in-Some : goal.returns-in-Some
 unfolding field_truth field_optional_instance
-returns-in-Some-clause-bytes c =
-    written-then _ _ _ _ _ (1 ∷ []) (field_instance c.in-Some.instance) c.put_truth-at.ensures.bytes c.put_truth-at.ensures.after c.put_instance.ensures.bytes (omega arith)
-    ∙ ap (λ (o : Option Instance). written c.args.out.now c.args.at (field_optional_instance o)) (sym c.in-Some.is)
+returns-in-Some c =
+    subst (λ (o : Option Instance). Puts c.args.out.now c.args.at (field_optional_instance o) c.put_instance.new.out c.put_instance.result)
+    (sym c.in-Some.is) (Puts-then (omega arith) c.put_truth-at.ensures c.put_instance.ensures)
