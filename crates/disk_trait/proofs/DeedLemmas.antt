@@ -22,10 +22,10 @@ numbered_push m [] entry numbered le = (le, tt)
 numbered_push m (e ∷ entries) entry numbered le = (numbered.0, numbered_push m entries entry numbered.1 le)
 
 -- a deed that was done by then counts, and one that wasn't doesn't
-done : (call m : ℕ) (x y : Held) → call ≤ m → (if nat_le call m then x else y) ≡ x
+pub done : (call m : ℕ) (x y : Held) → call ≤ m → (if nat_le call m then x else y) ≡ x
 done call m x y le = grind (arith, nat_tests)
 
-not_done : (call m : ℕ) (x y : Held) → m < call → (if nat_le call m then x else y) ≡ y
+pub not_done : (call m : ℕ) (x y : Held) → m < call → (if nat_le call m then x else y) ≡ y
 not_done call m x y lt = grind (arith, nat_tests)
 
 module _ (entry : Entry) (old new : List ℕ) (undoes : undone entry.deed new ≡ old) where

@@ -83,7 +83,7 @@ impl MemoryArea {
     }
 }
 
-fn lay(target: &mut Vec<u8>, at: usize, bytes: &[u8]) -> Result<(), AllocError>
+pub(crate) fn lay(target: &mut Vec<u8>, at: usize, bytes: &[u8]) -> Result<(), AllocError>
     requires { at ≤ length target.old.items }
     ensures ok { OnOk result (target.new.items ≡ overwritten at bytes.now target.old.items) }
     ensures err { OnErr result (target.new.items ≡ target.old.items) }

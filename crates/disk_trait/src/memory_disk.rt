@@ -16,7 +16,7 @@ use std::alloc::Global;
 #[derive(Drop)]
 pub struct MemoryDisk {
     alloc: Global,
-    areas: Areas,
+    pub(crate) areas: Areas,
     failing: Vec<u64>,
     meter: Meter,
     starved: u64,
