@@ -1,11 +1,8 @@
 -- One more deed at the end of those done to an area.
-use Rattle.std.proofs.Common.{◌≡◌, ◌⊎◌, inl, inr, ℕ, ◌+◌, ◌<◌, ◌≤◌, Bool, true, false, nat_le, if◌then◌else◌, List, [], ◌∷◌, ◌++◌, length, take, drop, refl, sym, ◌∙◌, ap, subst, arith}
+use Rattle.std.proofs.Common.{◌≡◌, ℕ, ◌<◌, ◌≤◌, nat_le, if◌then◌else◌, List, [], ◌∷◌, ◌++◌, refl, sym, ◌∙◌, ap, subst, arith}
 use Rattle.std.proofs.lemmas.Bool.Decides.{nat_tests}
-use Rattle.disk_trait.specs.Held.{Held, Torn, Leaves, AreBytes}
-use Rattle.disk_trait.specs.Steps.{pend, settle}
-use Rattle.disk_trait.specs.Deeds.{undone, before, range_named, Sound, held_after, held_until, settled_on, NumberedTo}
-use Rattle.disk_trait.specs.declared.deed.Deed.{Deed}
-use Rattle.disk_trait.specs.declared.deed.Deed.TheVariants.{Write, Tear, Sync}
+use Rattle.disk_trait.specs.Held.{Held, Torn, AreBytes}
+use Rattle.disk_trait.specs.Deeds.{undone, before, range_named, Sound, held_after, held_until, NumberedTo}
 use Rattle.disk_trait.specs.declared.deed.Entry.{Entry}
 use Rattle.disk_trait.specs.Possible.{reads_after}
 

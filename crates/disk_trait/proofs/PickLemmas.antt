@@ -1,12 +1,12 @@
 -- How a stop's image follows the deeds.
-use Rattle.std.proofs.Common.{◌≡◌, ◌∙◌, ⊎_elim, ℕ, ◌≤◌, ◌<◌, List, [], ◌∷◌, length, replicate, Result, Ok, Err, IfOk, Vec, nat_le, refl, sym, ap, subst, arith}
+use Rattle.std.proofs.Common.{◌≡◌, ◌∙◌, ⊎_elim, ℕ, ◌≤◌, ◌<◌, List, [], ◌∷◌, length, replicate, Result, Ok, Err, IfOk, Vec, refl, sym, ap, subst}
 use Rattle.std.proofs.lemmas.List.{length-replicate}
 use Rattle.std.proofs.lemmas.List.Elements.{All-replicate}
 use Rattle.std.specs.declared.alloc.Global.{Global}
 use Rattle.disk_trait.proofs.Ranges.{torn_overwritten, bytes_overwritten}
 use Rattle.disk_trait.specs.Steps.{overwritten, range_of}
 use Rattle.disk_trait.specs.Held.{Held, Torn, AreBytes, Leaves}
-use Rattle.disk_trait.specs.Deeds.{undone, before, range_named, Sound, held_after, held_until, settled_on}
+use Rattle.disk_trait.specs.Deeds.{before, held_after, settled_on}
 use Rattle.disk_trait.specs.Possible.{reads_after, possible_after, sound_before}
 use Rattle.disk_trait.specs.Picks.{image_of, Tears, Picked, Follows, Reaches}
 use Rattle.disk_trait.specs.MemoryPast.{held_at}
@@ -16,7 +16,7 @@ use Rattle.disk_trait.specs.declared.area.Area.TheVariants.{A, B}
 use Rattle.disk_trait.specs.declared.areas.Areas.{Areas}
 use Rattle.disk_trait.specs.declared.memory_area.MemoryArea.{MemoryArea}
 use Rattle.disk_trait.specs.declared.deed.Deed.{Deed}
-use Rattle.disk_trait.specs.declared.deed.Deed.TheVariants.{Write, Tear, Sync}
+use Rattle.disk_trait.specs.declared.deed.Deed.TheVariants.{Write, Tear}
 use Rattle.disk_trait.specs.declared.deed.Entry.{Entry}
 use Rattle.disk_trait.proofs.DeedLemmas.{done, not_done}
 

@@ -1,5 +1,5 @@
 -- Why what an area in memory reads is always one of the things that a stop may leave of it.
-use Rattle.std.specs.Prelude.{◌≡◌, ℕ, ◌+◌, Bool, true, false, nat_le, if◌then◌else◌, List, [], ◌∷◌, refl}
+use Rattle.std.specs.Prelude.{◌≡◌, ℕ, Bool, true, false, nat_le, if◌then◌else◌, List, [], ◌∷◌, refl}
 use Rattle.std.proofs.Common.{sym, subst, arith}
 use Rattle.disk_trait.specs.Held.{Held, Range, Torn, Leaves, AreBytes}
 use Rattle.disk_trait.specs.Deeds.{undone, before, range_named, Sound, held_after, held_until, settled_on}

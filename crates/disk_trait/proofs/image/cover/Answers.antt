@@ -1,5 +1,4 @@
-use Rattle.std.proofs.Common.{◌≡◌, List, ℕ, ◌∙◌, ap, arith, rules}
-use Rattle.disk_trait.specs.Steps.{overwritten}
+use Rattle.std.proofs.Common.{◌∙◌, arith, rules}
 use Rattle.disk_trait.proofs.PickLemmas.{cover_tears}
 use Rattle.disk_trait.proofs.image.cover.Goals as goal
 

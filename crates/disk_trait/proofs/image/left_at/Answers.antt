@@ -1,4 +1,4 @@
-use Rattle.std.proofs.Common.{◌≡◌, List, ℕ, ◌∙◌, ap}
+use Rattle.std.proofs.Common.{List, ℕ, ◌∙◌, ap}
 use Rattle.disk_trait.specs.Deeds.{before}
 use Rattle.disk_trait.specs.declared.deed.Entry.{Entry}
 use Rattle.disk_trait.proofs.PickLemmas.{leaves_ok}
