@@ -1,0 +1,8 @@
+mod DeedLemmas
+mod MoveLemmas
+mod AreaLemmas
+mod Bytes
+pub mod Ranges
+pub mod Steps
+pub mod Told
+mod PickLemmas

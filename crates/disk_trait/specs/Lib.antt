@@ -1,0 +1,10 @@
+pub mod Held
+pub mod Past
+pub mod Steps
+pub mod Runs
+pub mod Deeds
+pub mod MemoryPast
+pub mod Possible
+pub mod MemoryAreas
+pub mod Memory
+pub mod Picks

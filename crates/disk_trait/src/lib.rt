@@ -1,0 +1,22 @@
+//! Two areas of bytes on a disk: what a read gives now, and what a stop at any moment may leave.
+#![tactic(auto)]
+
+mod area;
+mod areas;
+mod deed;
+mod disk;
+mod file_disk;
+mod image;
+mod memory_area;
+mod memory_disk;
+mod meter;
+mod two_files;
+
+pub use area::Area;
+pub use disk::Disk;
+pub use file_disk::FileDisk;
+pub use image::Torn;
+pub use memory_disk::MemoryDisk;
+
+#[cfg(test)]
+mod tests;
