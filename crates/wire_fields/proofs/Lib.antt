@@ -5,4 +5,5 @@ pub mod Names
 pub mod Truths
 pub mod Pairs
 pub mod Instances
+pub mod Lengths
 pub mod Rules

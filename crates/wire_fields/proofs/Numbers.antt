@@ -1,6 +1,6 @@
 -- A number is a field.
 use Rattle.std.proofs.Common.{◌≡◌, ℕ, zero, suc, ◌+◌, ◌%◌, ◌^◌, ◌<◌, ◌≤◌, Bool, true, false, cond, ltb, List, [], ◌∷◌, ◌++◌, length, get_or, take, drop, refl, sym, ap, ◌∙◌, arith}
-use Rattle.std.specs.Int.{Width, w8, w16, w32, w64, byte_len, from_be_bytes, to_be_bytes, bytes_high_first}
+use Rattle.std.specs.Int.{Width, w8, w16, w32, w64, byte_len, from_be_bytes, to_be_bytes}
 use Rattle.std.proofs.lemmas.Bool.{ltb-false, le-ltb, lt-ltb}
 use Rattle.std.proofs.lemmas.List.{take_at, take-append-drop, length-append, length-take}
 use Rattle.std.proofs.lemmas.Nat.{be_bytes_2, be_bytes_4, be_bytes_8, from_be_bytes-to_be_bytes_2, from_be_bytes-to_be_bytes_4, from_be_bytes-to_be_bytes_8}
@@ -97,12 +97,3 @@ IsField-u32 = IsField-number w32 (2 ^ 32) wide32
 
 pub IsField-u64 : IsField (λ n. n < 2 ^ 64) (field_number w64) (number_at w64)
 IsField-u64 = IsField-number w64 (2 ^ 64) wide64
-
-length_high_first : (k n : ℕ) → length (bytes_high_first k n) ≡ k
-length_high_first zero n = refl
-length_high_first (suc k) n = ap suc (length_high_first k n)
-
--- how many bytes a number takes
-pub length-field_number : (w : Width) (n : ℕ) → length (field_number w n) ≡ byte_len w
-unfolding field_number
-length-field_number w n = length_high_first (byte_len w) n
