@@ -21,6 +21,19 @@ fn cell() -> Result<CellRow, Fail> {
     })
 }
 
+fn completed(job: &Job) -> Container {
+    Container {
+        instance: Instance {
+            epoch: 4,
+            number: 1,
+        },
+        job: job.job,
+        memory: job.memory,
+        disk: job.disk,
+        state: ContainerState::Completed { failed: true },
+    }
+}
+
 #[test]
 fn a_cell_is_present_until_its_lease_ends(rt: HostRuntime) -> Result<(), Fail> {
     let row = cell()?;
@@ -40,28 +53,15 @@ fn a_cell_is_present_until_its_lease_ends(rt: HostRuntime) -> Result<(), Fail> {
 #[test]
 fn a_cell_answers_with_its_containers(rt: HostRuntime) -> Result<(), Fail> {
     let row = cell()?;
-    let key = Key {
-        process: Name::read(b"web")?,
-        index: 2,
-    };
+    let process = Name::read(b"web")?;
     let job = Job {
-        job: JobName::Lrp(key),
+        job: JobName::Lrp(Key { process, index: 2 }),
         memory: 256,
         disk: 1024,
         tag: None,
     };
-    let container = Container {
-        instance: Instance {
-            epoch: 4,
-            number: 1,
-        },
-        job: job.job,
-        memory: job.memory,
-        disk: job.disk,
-        state: ContainerState::Completed { failed: true },
-    };
     let mut containers = List::new(rt.alloc());
-    containers.push(container)?;
+    containers.push(completed(&job))?;
     let answer = Answer {
         cell: row.cell,
         zone: row.zone,
@@ -77,17 +77,6 @@ fn a_cell_answers_with_its_containers(rt: HostRuntime) -> Result<(), Fail> {
         last: 1,
         containers,
     };
-    assert_eq!(rt; answer.containers.items(), [container].as_slice());
-    Ok(())
-}
-
-#[test]
-fn work_is_told_apart_by_its_kind(rt: HostRuntime) -> Result<(), Fail> {
-    let name = Name::read(b"web")?;
-    let lrp = JobName::Lrp(Key {
-        process: name,
-        index: 0,
-    });
-    assert_ne!(rt; lrp, JobName::Task(name));
+    assert_eq!(rt; answer.containers.items(), [completed(&job)].as_slice());
     Ok(())
 }
