@@ -1,5 +1,5 @@
 -- What a call does to an area held in memory, from what it does to its deeds.
-use Rattle.std.proofs.Common.{◌≡◌, ℕ, ◌+◌, ◌<◌, ◌≤◌, Bool, true, false, Result, Ok, Err, is_ok, IsErr, List, [], ◌∷◌, ◌++◌, length, Vec, slice_index_or, Fits, w8, refl, sym, ◌∙◌, ap, subst, arith}
+use Rattle.std.proofs.Common.{◌≡◌, ℕ, ◌+◌, Bool, true, false, Result, Ok, Err, is_ok, IsErr, List, [], ◌∷◌, ◌++◌, length, Vec, slice_index_or, Fits, w8, refl, sym, ◌∙◌, ap, subst, arith}
 use Rattle.std.proofs.lemmas.List.{get_or_default}
 use Rattle.std.specs.declared.alloc.Global.{Global}
 use Rattle.disk_trait.specs.Held.{Held, AreBytes, Torn}

@@ -1,5 +1,5 @@
 -- A write to an area in memory can be undone by what it was laid over.
-use Rattle.std.proofs.Common.{◌≡◌, ℕ, ◌+◌, ◌-◌, ◌<◌, ◌≤◌, min, List, [], ◌∷◌, ◌++◌, length, take, drop, refl, sym, ◌∙◌, ap, arith, append_assoc, take-append-drop}
+use Rattle.std.proofs.Common.{◌≡◌, ℕ, ◌+◌, ◌-◌, ◌≤◌, min, List, ◌++◌, length, take, drop, sym, ◌∙◌, ap, append_assoc, take-append-drop}
 use Rattle.std.proofs.lemmas.List.{drop-drop, take_min}
 use Rattle.disk_trait.specs.Steps.{overwritten}
 use Rattle.disk_trait.proofs.Ranges.{take_overwritten, drop_overwritten}

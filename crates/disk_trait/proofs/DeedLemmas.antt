@@ -1,11 +1,8 @@
 -- One more deed at the end of those done to an area.
-use Rattle.std.proofs.Common.{◌≡◌, ◌⊎◌, inl, inr, ℕ, ◌+◌, ◌<◌, ◌≤◌, Bool, true, false, nat_le, if◌then◌else◌, List, [], ◌∷◌, ◌++◌, length, take, drop, refl, sym, ◌∙◌, ap, subst, arith}
+use Rattle.std.proofs.Common.{◌≡◌, ℕ, ◌<◌, ◌≤◌, nat_le, if◌then◌else◌, List, [], ◌∷◌, ◌++◌, refl, sym, ◌∙◌, ap, subst, arith}
 use Rattle.std.proofs.lemmas.Bool.Decides.{nat_tests}
-use Rattle.disk_trait.specs.Held.{Held, Torn, Leaves, AreBytes}
-use Rattle.disk_trait.specs.Steps.{pend, settle}
-use Rattle.disk_trait.specs.Deeds.{undone, before, range_named, Sound, held_after, held_until, settled_on, NumberedTo}
-use Rattle.disk_trait.specs.declared.deed.Deed.{Deed}
-use Rattle.disk_trait.specs.declared.deed.Deed.TheVariants.{Write, Tear, Sync}
+use Rattle.disk_trait.specs.Held.{Held, Torn, AreBytes}
+use Rattle.disk_trait.specs.Deeds.{undone, before, range_named, Sound, held_after, held_until, NumberedTo}
 use Rattle.disk_trait.specs.declared.deed.Entry.{Entry}
 use Rattle.disk_trait.specs.Possible.{reads_after}
 
@@ -22,10 +19,10 @@ numbered_push m [] entry numbered le = (le, tt)
 numbered_push m (e ∷ entries) entry numbered le = (numbered.0, numbered_push m entries entry numbered.1 le)
 
 -- a deed that was done by then counts, and one that wasn't doesn't
-done : (call m : ℕ) (x y : Held) → call ≤ m → (if nat_le call m then x else y) ≡ x
+pub done : (call m : ℕ) (x y : Held) → call ≤ m → (if nat_le call m then x else y) ≡ x
 done call m x y le = grind (arith, nat_tests)
 
-not_done : (call m : ℕ) (x y : Held) → m < call → (if nat_le call m then x else y) ≡ y
+pub not_done : (call m : ℕ) (x y : Held) → m < call → (if nat_le call m then x else y) ≡ y
 not_done call m x y lt = grind (arith, nat_tests)
 
 module _ (entry : Entry) (old new : List ℕ) (undoes : undone entry.deed new ≡ old) where

@@ -5,3 +5,4 @@ mod Bytes
 pub mod Ranges
 pub mod Steps
 pub mod Told
+mod PickLemmas

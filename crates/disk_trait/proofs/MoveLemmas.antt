@@ -2,8 +2,8 @@
 use Rattle.std.proofs.Common.{◌≡◌, inl, inr, ℕ, ◌+◌, ◌-◌, ◌<◌, ◌≤◌, ◌^◌, Bool, true, false, ◌||◌, ◌==◌, refl, sym, ◌∙◌, ap, subst, arith}
 use Rattle.std.proofs.lemmas.Bool.Decides.{leb_tells, nat_tests}
 use Rattle.disk_trait.specs.Held.{Held}
-use Rattle.disk_trait.specs.Past.{Past, now, content, other}
-use Rattle.disk_trait.specs.Steps.{Elapses, Looks, Changes, Ticks}
+use Rattle.disk_trait.specs.Past.{Past, content, other}
+use Rattle.disk_trait.specs.Steps.{Looks, Changes, Ticks}
 use Rattle.disk_trait.specs.Deeds.{NumberedTo}
 use Rattle.disk_trait.specs.MemoryPast.{held_at, Adds}
 use Rattle.disk_trait.specs.MemoryAreas.{part, Numbered, Same, Moves, past_of}

@@ -1,8 +1,8 @@
 -- What a write does to the bytes of a list.
-use Rattle.std.proofs.Common.{◌≡◌, ℕ, ◌+◌, ◌-◌, ◌<◌, ◌≤◌, min, max, List, [], ◌∷◌, ◌++◌, length, take, drop, refl, sym, ◌∙◌, ap, subst, arith, append_assoc, length-append, length-take, length-drop, take-append-drop}
-use Rattle.std.proofs.lemmas.List.{take_at, drop_at, take_all, drop_all, append-nil, drop-drop, take-append-le, drop-append-le, take-take, length-take-le}
+use Rattle.std.proofs.Common.{◌≡◌, ℕ, ◌+◌, ◌<◌, ◌≤◌, max, List, ◌++◌, length, take, drop, ◌∙◌, ap, arith, append_assoc, length-append, length-drop}
+use Rattle.std.proofs.lemmas.List.{take_at, drop_at, length-take-le}
 use Rattle.std.proofs.lemmas.List.Elements.{All-append, All-take, All-drop}
-use Rattle.disk_trait.specs.Held.{Range, Torn, AreBytes}
+use Rattle.disk_trait.specs.Held.{Torn, AreBytes}
 use Rattle.disk_trait.specs.Steps.{overwritten, range_of}
 
 pub take_overwritten : (at : ℕ) (bytes old : List ℕ) → at ≤ length old → take at (overwritten at bytes old) ≡ take at old

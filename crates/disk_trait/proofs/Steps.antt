@@ -1,14 +1,13 @@
 -- What the kinds of device calls do to what is read of an area and what a stop may leave of it, and
 -- how their runs join. P stands for what holds of an area whatever a torn write has done to it.
-use Rattle.std.proofs.Common.{◌≡◌, ◌⊎◌, inl, inr, ⊎_elim, ℕ, ◌+◌, ◌≤◌, ◌<◌, Bool, true, false, List, [], ◌∷◌, length, refl, sym, ◌∙◌, ap, subst, arith}
+use Rattle.std.proofs.Common.{◌≡◌, ◌⊎◌, inl, inr, ⊎_elim, ℕ, ◌≤◌, Bool, true, false, List, length, refl, sym, ◌∙◌, ap, subst, arith}
 use Rattle.std.proofs.lemmas.Bool.Decides.{leb_tells}
 use Rattle.disk_trait.proofs.Ranges.{torn_overwritten}
-use Rattle.disk_trait.specs.Held.{Held, Range, Torn, Leaves, Has, AreBytes, IsSettledArea, MayLeave}
+use Rattle.disk_trait.specs.Held.{Held, Range, Torn, Leaves, Has, AreBytes, IsSettledArea}
 use Rattle.disk_trait.specs.Past.{Past, now, content, other, Image, ImagesSince, Images}
-use Rattle.disk_trait.specs.Steps.{Elapses, Looks, Changes, Wrote, Synced, TornWrite, pend, settle, range_of, overwritten}
+use Rattle.disk_trait.specs.Steps.{Elapses, Looks, Changes, Wrote, Synced, pend, settle, range_of, overwritten}
 use Rattle.disk_trait.specs.Runs.{Extends, Runs, Turns}
 use Rattle.disk_trait.specs.declared.area.Area.{Area}
-use Rattle.disk_trait.specs.declared.area.Area.TheVariants.{A, B}
 
 -- Time.
 

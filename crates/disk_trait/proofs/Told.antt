@@ -1,5 +1,5 @@
 -- How two calls of a disk join, whether it tells its past or not.
-use Rattle.std.proofs.Common.{◌≡◌, Option, Some, None, refl, subst, sym}
+use Rattle.std.proofs.Common.{◌≡◌, Option, Some, None, refl, subst}
 use Rattle.disk_trait.specs.Past.{Past}
 use Rattle.disk_trait.specs.Steps.{Goes}
 

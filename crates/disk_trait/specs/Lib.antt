@@ -7,3 +7,4 @@ pub mod MemoryPast
 pub mod Possible
 pub mod MemoryAreas
 pub mod Memory
+pub mod Picks

@@ -1,7 +1,7 @@
 -- The past of the two areas held in memory.
-use Rattle.std.specs.Prelude.{◌≡◌, ℕ, ◌+◌}
+use Rattle.std.specs.Prelude.{◌≡◌, ℕ}
 use Rattle.std.specs.Coded.{×_prop}
-use Rattle.disk_trait.specs.Held.{Held, Leaves}
+use Rattle.disk_trait.specs.Held.{Held}
 use Rattle.disk_trait.specs.Past.{Past, other}
 use Rattle.disk_trait.specs.Deeds.{NumberedTo, NumberedTo-prop}
 use Rattle.disk_trait.specs.MemoryPast.{held_at, Adds}

@@ -1,5 +1,5 @@
 -- The past of an area held in memory.
-use Rattle.std.specs.Prelude.{◌≡◌, ℕ, ◌+◌, ◌≤◌, Bool, true, false, List}
+use Rattle.std.specs.Prelude.{◌≡◌, ℕ, ◌+◌, ◌≤◌, Bool, true, false}
 use Rattle.disk_trait.specs.Held.{Held}
 use Rattle.disk_trait.specs.Steps.{pend}
 use Rattle.disk_trait.specs.Deeds.{before, held_until, settled_on, NumberedTo}

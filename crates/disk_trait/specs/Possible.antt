@@ -1,5 +1,5 @@
 -- Why what an area in memory reads is always one of the things that a stop may leave of it.
-use Rattle.std.specs.Prelude.{◌≡◌, ℕ, ◌+◌, Bool, true, false, nat_le, if◌then◌else◌, List, [], ◌∷◌, refl}
+use Rattle.std.specs.Prelude.{◌≡◌, ℕ, Bool, true, false, nat_le, if◌then◌else◌, List, [], ◌∷◌, refl}
 use Rattle.std.proofs.Common.{sym, subst, arith}
 use Rattle.disk_trait.specs.Held.{Held, Range, Torn, Leaves, AreBytes}
 use Rattle.disk_trait.specs.Deeds.{undone, before, range_named, Sound, held_after, held_until, settled_on}
@@ -27,7 +27,7 @@ sound_before [] after sound = sound
 sound_before (e ∷ entries) after sound = sound.0
 
 -- what is read is one of the things that a stop may leave
-possible_after : (deed : Deed) (held : Held) (after : List ℕ) → held.reads ≡ undone deed after → Torn (range_named deed) (undone deed after) after → AreBytes after → Leaves held held.reads
+pub possible_after : (deed : Deed) (held : Held) (after : List ℕ) → held.reads ≡ undone deed after → Torn (range_named deed) (undone deed after) after → AreBytes after → Leaves held held.reads
     → Leaves (held_after deed held after) (held_after deed held after).reads
 possible_after (Write from len over) held after is torn bytes possible = record {
   torn = (held.reads, possible.torn, possible.bytes, subst (λ (l : List ℕ). Torn (record { from = from; len = len }) l after) (sym is) torn);

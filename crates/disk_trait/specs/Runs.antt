@@ -1,6 +1,6 @@
 -- What a run of device calls does to what a disk tells.
 use Rattle.std.specs.Prelude.{◌≡◌, ℕ, ◌≤◌, Bool, true, false, List}
-use Rattle.disk_trait.specs.Held.{Held, Leaves, Has}
+use Rattle.disk_trait.specs.Held.{Leaves, Has}
 use Rattle.disk_trait.specs.Past.{Past, now, other}
 use Rattle.disk_trait.specs.declared.area.Area.{Area}
 

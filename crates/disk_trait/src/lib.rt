@@ -6,6 +6,7 @@ mod areas;
 mod deed;
 mod disk;
 mod file_disk;
+mod image;
 mod memory_area;
 mod memory_disk;
 mod meter;
@@ -14,6 +15,7 @@ mod two_files;
 pub use area::Area;
 pub use disk::Disk;
 pub use file_disk::FileDisk;
+pub use image::Torn;
 pub use memory_disk::MemoryDisk;
 
 #[cfg(test)]

@@ -7,7 +7,7 @@ ghost use Rattle.disk_trait.specs.Steps.{Goes, Looks, Changes, Wrote, Synced, Fi
 ghost use Rattle.disk_trait.specs.MemoryAreas.{Numbered, Numbered-prop};
 
 use crate::areas::Areas;
-use crate::memory_area::MemoryArea;
+use crate::memory_area::{MemoryArea, fill};
 use crate::meter::Meter;
 use crate::{Area, Disk};
 use byte_ports::Failed;
@@ -16,7 +16,7 @@ use std::alloc::Global;
 #[derive(Drop)]
 pub struct MemoryDisk {
     alloc: Global,
-    areas: Areas,
+    pub(crate) areas: Areas,
     failing: Vec<u64>,
     meter: Meter,
     starved: u64,
@@ -158,16 +158,6 @@ impl MemoryDisk {
         let _ticked = self.meter.tick();
         self.meter.fail()
     }
-}
-
-/// Copies what there is from `at` on, and answers how many bytes there were.
-fn fill(bytes: &[u8], at: u64, room: &mut [u8]) -> usize
-    ensures { Filled bytes.now at result room.old room.new }
-{
-    let from = bytes.len().min(at as usize);
-    let count = room.len().min(bytes.len() - from);
-    room[..count].copy_from_slice(&bytes[from..from + count]);
-    count
 }
 
 impl Disk for MemoryDisk {

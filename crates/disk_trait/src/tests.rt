@@ -98,3 +98,28 @@ fn a_folder_that_is_missing_is_a_fault(rt: HostRuntime) -> Result<(), Fail> {
     assert_eq!(rt; disk.faults(), 2);
     Ok(())
 }
+
+#[test]
+fn a_write_is_pending_until_its_sync(rt: HostRuntime) -> Result<(), Fail> {
+    let mut disk = memory(rt.alloc(), &[])?;
+    assert!(rt; disk.write_at(Area::A, 0, b"xyz").is_ok());
+    assert!(rt; disk.sync(Area::A).is_ok());
+    assert!(rt; disk.write_at(Area::A, 0, b"q").is_ok());
+    let table: [(u64, Torn, &[u8]); 8] = [
+        (0, Torn::New, b"ab"),
+        (1, Torn::Old, b"ab"),
+        (1, Torn::New, b"xyz"),
+        (1, Torn::Byte(b'.'), b"..."),
+        (2, Torn::Old, b"ab"),
+        (2, Torn::Byte(b'.'), b"..."),
+        (3, Torn::Old, b"xyz"),
+        (3, Torn::Byte(b'.'), b".yz"),
+    ];
+    for (call, torn, want) in table {
+        assert!(rt; call <= disk.clock());
+        let (a, b) = disk.image(rt.alloc(), call, torn)?;
+        assert_eq!(rt; a.as_slice(), want, "{torn:?} at {call}");
+        assert!(rt; b.is_empty());
+    }
+    Ok(())
+}

@@ -1,4 +1,4 @@
-use Rattle.std.proofs.Common.{◌≡◌, ◌+◌, true, List, [], ◌∷◌, ◌++◌, refl, ◌∙◌, ap}
+use Rattle.std.proofs.Common.{◌+◌, true, List, [], ◌∷◌, ◌++◌, refl, ◌∙◌, ap}
 use Rattle.disk_trait.specs.Steps.{Synced}
 use Rattle.disk_trait.specs.declared.deed.Deed.TheVariants.{Sync}
 use Rattle.disk_trait.specs.declared.deed.Entry.{Entry}

@@ -1,4 +1,4 @@
-use Rattle.std.proofs.Common.{◌≡◌, ◌+◌, Bool, true, List, [], ◌∷◌, ◌++◌, refl, ◌∙◌, ap}
+use Rattle.std.proofs.Common.{◌+◌, Bool, true, List, [], ◌∷◌, ◌++◌, refl, ◌∙◌, ap}
 use Rattle.disk_trait.specs.MemoryPast.{Tore}
 use Rattle.disk_trait.specs.declared.deed.Deed.TheVariants.{Tear}
 use Rattle.disk_trait.specs.declared.deed.Entry.{Entry}

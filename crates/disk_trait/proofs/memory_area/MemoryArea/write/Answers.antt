@@ -1,7 +1,6 @@
-use Rattle.std.proofs.Common.{◌≡◌, ℕ, ◌+◌, ◌-◌, Bool, true, inl, min, List, [], ◌∷◌, ◌++◌, length, take, drop, length-drop, refl, ◌∙◌, ap, subst, arith}
-use Rattle.disk_trait.specs.Steps.{Wrote, range_of, overwritten}
+use Rattle.std.proofs.Common.{◌≡◌, ℕ, ◌+◌, ◌-◌, Bool, true, inl, min, List, [], ◌∷◌, ◌++◌, length, take, drop, length-drop, refl, ◌∙◌, ap, arith}
+use Rattle.disk_trait.specs.Steps.{Wrote}
 use Rattle.disk_trait.specs.Deeds.{undone}
-use Rattle.disk_trait.specs.Held.{AreBytes, Torn}
 use Rattle.disk_trait.specs.declared.deed.Deed.TheVariants.{Write}
 use Rattle.disk_trait.specs.declared.deed.Entry.{Entry}
 use Rattle.disk_trait.proofs.AreaLemmas.{adds, refused, sound_adds, area_bytes, bytes_from_fits, wrote_step}

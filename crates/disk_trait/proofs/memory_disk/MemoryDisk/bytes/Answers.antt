@@ -1,4 +1,4 @@
-use Rattle.std.proofs.Common.{List, ℕ, sym, ◌∙◌, ap}
+use Rattle.std.proofs.Common.{sym, ◌∙◌, ap}
 use Rattle.disk_trait.specs.declared.memory_area.MemoryArea.{MemoryArea}
 use Rattle.disk_trait.proofs.MoveLemmas.{reads_part}
 use Rattle.disk_trait.proofs.memory_disk.MemoryDisk.bytes.Goals as goal

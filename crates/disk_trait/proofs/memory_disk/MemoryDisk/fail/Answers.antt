@@ -1,6 +1,6 @@
-use Rattle.std.proofs.Common.{◌≡◌, ℕ, sym, subst, rules, arith}
+use Rattle.std.proofs.Common.{ℕ, sym, subst, arith}
 use Rattle.disk_trait.specs.Steps.{Looks}
-use Rattle.disk_trait.specs.MemoryAreas.{Numbered, past_of}
+use Rattle.disk_trait.specs.MemoryAreas.{past_of}
 use Rattle.disk_trait.proofs.MoveLemmas.{numbered_upto, ticked_later, ticked_looks}
 use Rattle.disk_trait.proofs.memory_disk.MemoryDisk.fail.Goals as goal
 

@@ -1,4 +1,3 @@
-use Rattle.std.proofs.Common.{arith}
 use Rattle.disk_trait.proofs.MoveLemmas.{numbered_upto, ticked_later, ticked_looks}
 use Rattle.disk_trait.proofs.memory_disk.MemoryDisk.pass.Goals as goal
 

@@ -1,0 +1,5 @@
+pub mod States
+pub mod Steps
+pub mod Moves
+pub mod Laws
+pub mod Life
