@@ -6,12 +6,13 @@ use Rattle.wire_fields.proofs.Places.{IsBytes-drop}
 use Rattle.bbs_model.specs.declared.command.Command.{Command}
 use Rattle.bbs_model.specs.declared.rows.Rows.{Rows}
 use Rattle.bbs_model.specs.Step.{IsLegal, rows_after, replay, no_rows}
-use Rattle.diego_engine.specs.Frames.{IsSpelled, framed, frame_in, IsShut, AreFrames, Follows, AreNoFrames}
+use Rattle.diego_engine.specs.Frames.{IsSpelled, framed, frame_in, IsShut, AreFrames, Follows, AreNoFrames, frames_len}
 use Rattle.diego_engine.proofs.FrameLaws.{IsFrame, frame_again, frame_found}
 
--- the commands from the start that these commands from here on make whole
-pub record Whole (start : List ℕ) (rows : Rows) (more : List Command) : Type 0 where
+-- the commands from the start that these commands from here on make whole, where the frames before them are so long
+pub record Whole (start : List ℕ) (before : ℕ) (rows : Rows) (more : List Command) : Type 0 where
   pub commands : List Command
+  pub len_is : frames_len commands ≡ before + frames_len more
   pub each : AreFrames no_rows commands start
   pub rows_are : replay no_rows commands ≡ replay rows more
 
@@ -25,14 +26,14 @@ pub record Rest (rows : Rows) (rest : List ℕ) (commands : List Command) : Type
 pub record Reaches (start : List ℕ) (rows : Rows) (rest : List ℕ) : Type 0 where
   pub front : List ℕ
   pub parts : start ≡ front ++ rest
-  pub on : (more : List Command) → AreFrames rows more rest → Whole start rows more
+  pub on : (more : List Command) → AreFrames rows more rest → Whole start (length front) rows more
   pub only : (commands : List Command) → AreFrames no_rows commands start → Rest rows rest commands
 
 pub reaches_start : (start : List ℕ) → Reaches start no_rows start
 reaches_start start = record {
   front = [];
   parts = refl;
-  on = λ more each. record { commands = more; each = each; rows_are = refl };
+  on = λ more each. record { commands = more; len_is = omega arith; each = each; rows_are = refl };
   only = λ commands each. record { more = commands; each = each; rows_are = refl };
 }
 
@@ -56,7 +57,12 @@ reaches_on start rows rest behind c ib r read legal =
       parts = r.parts ∙ ap (λ (l : List ℕ). r.front ++ l) frame.parts ∙ sym (append_assoc r.front (frame.gate ∷ framed c) behind);
       on = λ more each.
           let whole = r.on (c ∷ more) (frame.gate, behind, frame.is_open, frame.spelled, legal, frame.parts, each) in
-          record { commands = whole.commands; each = whole.each; rows_are = whole.rows_are };
+          record {
+            commands = whole.commands;
+            len_is = omega (arith, whole.len_is, length-append r.front (frame.gate ∷ framed c));
+            each = whole.each;
+            rows_are = whole.rows_are;
+          };
       only = λ commands each. step commands (r.only commands each);
     }
   where
@@ -84,6 +90,7 @@ follows_shut start rest rows len reached (free, shut) place_rest =
       free = free;
       parts = r.parts;
       place = omega (arith, place, ap length r.parts, length-append r.front (0 ∷ free));
+      len_is = omega (arith, place, ap length r.parts, length-append r.front (0 ∷ free), whole.len_is);
       each = whole.each;
       rows_are = sym whole.rows_are;
     }

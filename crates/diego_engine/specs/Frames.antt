@@ -1,5 +1,5 @@
 -- Frames of commands: an open gate, the payload's length, and the payload.
-use Rattle.std.specs.Prelude.{◌≡◌, ℕ, ◌<◌, ◌==◌, ◌&&◌, Bool, true, List, [], ◌∷◌, ◌++◌, length, take, drop, nat_lt, Option, Some, None, is_none, option_map, option_and_then, if◌then◌else◌}
+use Rattle.std.specs.Prelude.{◌≡◌, ℕ, ◌+◌, ◌<◌, ◌==◌, ◌&&◌, Bool, true, List, [], ◌∷◌, ◌++◌, length, take, drop, nat_lt, Option, Some, None, is_none, option_map, option_and_then, if◌then◌else◌}
 use Rattle.std.specs.Int.{w16, to_be_bytes, from_be_bytes}
 use Rattle.lrp_records.specs.declared.desired.Desired.{Desired}
 use Rattle.bbs_model.specs.declared.command.Command.{Command}
@@ -55,6 +55,11 @@ AreFrames rows (command ∷ commands) bytes =
     (gate : ℕ) × (rest : List ℕ) × (0 < gate) × IsSpelled command × IsLegal rows command × (bytes ≡ gate ∷ (framed command ++ rest))
     × AreFrames (rows_after rows command) commands rest
 
+-- the length of frames of these commands
+abbrev pub frames_len : List Command → ℕ
+frames_len [] = 0
+frames_len (command ∷ commands) = 1 + length (framed command) + frames_len commands
+
 -- the bytes are whole frames of this length, whose commands leave these rows, then a closed gate, and then anything
 pub record Follows (rows : Rows) (len : ℕ) (bytes : List ℕ) : Type 0 where
   pub commands : List Command
@@ -62,6 +67,7 @@ pub record Follows (rows : Rows) (len : ℕ) (bytes : List ℕ) : Type 0 where
   pub free : List ℕ
   pub parts : bytes ≡ front ++ 0 ∷ free
   pub place : len ≡ length front
+  pub len_is : len ≡ frames_len commands
   pub each : AreFrames no_rows commands bytes
   pub rows_are : rows ≡ replay no_rows commands
 
