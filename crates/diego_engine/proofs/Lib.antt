@@ -7,3 +7,4 @@ pub mod FrameLaws
 pub mod JsonText
 pub mod Spellings
 pub mod TopLaws
+pub mod Reopening

@@ -7,7 +7,7 @@ ghost use Rattle.disk_trait.specs.Past.{content};
 ghost use Rattle.disk_trait.specs.Steps.{Goes};
 ghost use Rattle.disk_trait.specs.declared.area.Area.TheVariants.{A};
 ghost use Rattle.diego_engine.specs.Frames.{framed};
-ghost use Rattle.diego_engine.specs.Appending.{Appends, Tears, Ends};
+ghost use Rattle.diego_engine.specs.Appending.{Ends, OpensAgain};
 
 use crate::spelling::{payload_len, put_command};
 use bbs_model::Command;
@@ -48,4 +48,10 @@ pub fn append<D: Disk>(disk: &mut D, end: u64, command: &Command) -> Result<(), 
     disk.sync(Area::A)?;
     disk.write_at(Area::A, end, &OPEN)?;
     disk.sync(Area::A)
+}
+
+/// What a run stored, the next opening finds: the law that ties one run's frame to the next run's board.
+pub fn an_appended_frame_is_opened_again()
+    ensures { OpensAgain }
+{
 }

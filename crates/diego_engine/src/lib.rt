@@ -17,4 +17,5 @@ mod spelling;
 mod top;
 mod words;
 
+pub use appending::an_appended_frame_is_opened_again;
 pub use top::{TopEnd, diego_top, still_top};
