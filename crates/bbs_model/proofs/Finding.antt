@@ -2,7 +2,6 @@
 use Rattle.std.proofs.Common.{◌≡◌, ℕ, Bool, true, false, cond, List, [], ◌∷◌, Option, Some, refl}
 use Rattle.std.specs.Prelude.{is_some, ◌||◌}
 use Rattle.std.specs.List.{list_any}
-use Rattle.std.specs.Ordering.{eq_by_cmp}
 use Rattle.row_tables.specs.Table.{find_row}
 use Rattle.diego_names.specs.Order.{name_order}
 use Rattle.std.proofs.lemmas.Map.Text.{is_eq-slice_cmp}

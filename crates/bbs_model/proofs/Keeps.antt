@@ -1,8 +1,6 @@
 -- A legal command leaves valid rows.
-use Rattle.std.proofs.Common.{◌≡◌, ℕ, ◌+◌, ◌<◌, ◌≤◌, Bool, true, false, cond, List, length, Option, Some, None, refl, ap, ◌∙◌, sym, arith}
+use Rattle.std.proofs.Common.{◌≡◌, ◌+◌, ◌<◌, ◌≤◌, Bool, true, false, cond, length, Option, Some, None, refl, arith}
 use Rattle.std.specs.Prelude.{is_some, nat_le, nat_lt}
-use Rattle.std.specs.List.{sum_by}
-use Rattle.std.specs.Option.{option_map_or}
 use Rattle.std.proofs.lemmas.Bool.Decides.{nat_tests}
 use Rattle.diego_names.specs.Order.{name_order}
 use Rattle.diego_names.proofs.Ties.{IsKeyOrder-name_order}
@@ -17,7 +15,7 @@ use Rattle.bbs_model.specs.declared.rows.Rows.{Rows}
 use Rattle.bbs_model.specs.declared.verdict.BoardRefusal.{BoardRefusal}
 use Rattle.bbs_model.specs.declared.verdict.Verdict.{Verdict}
 use Rattle.bbs_model.specs.declared.verdict.Verdict.TheVariants as verdict
-use Rattle.bbs_model.specs.Step.{find_desired, put_desired, wanted, desire_refusals, unless_refused, op_verdict, op_after, IsLegal, rows_after}
+use Rattle.bbs_model.specs.Step.{find_desired, wanted, op_verdict, op_after, IsLegal, rows_after}
 use Rattle.bbs_model.specs.Valid.{IsValid}
 
 -- a step that comes to Ok passed its first refusal

@@ -1,2 +1,5 @@
+pub mod Limits
 pub mod Step
 pub mod Valid
+pub mod Runs
+pub mod Laws

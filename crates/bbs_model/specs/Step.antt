@@ -4,6 +4,7 @@ use Rattle.diego_names.specs.Order.{name_order}
 use Rattle.std.specs.Ordering.{is_lt}
 use Rattle.row_tables.specs.Table.{find_row, put_row}
 use Rattle.lrp_records.specs.declared.desired.Desired.{Desired}
+use Rattle.bbs_model.specs.Limits.{most_processes, most_instances, most_wanted, most_transitions}
 use Rattle.bbs_model.specs.declared.command.Command.{Command}
 use Rattle.bbs_model.specs.declared.command.Op.{Op}
 use Rattle.bbs_model.specs.declared.command.Op.TheVariants.{Desire}
@@ -33,10 +34,10 @@ wanted rows = sum_by (λ (d : Desired). d.instances) rows.desired
 abbrev pub desire_refusals : Rows → Desired → List (Bool × BoardRefusal)
 desire_refusals rows d =
     (is_some (find_desired rows d.process), Exists)
-    ∷ (nat_le 5000 (length rows.desired), TooMany 5000)
-    ∷ (nat_lt 1000 d.instances, TooMany 1000)
-    ∷ (nat_lt 50000 (wanted rows + d.instances), TooMany 50000)
-    ∷ (nat_le 1000000 rows.next, BoardFull)
+    ∷ (nat_le most_processes (length rows.desired), TooMany most_processes)
+    ∷ (nat_lt most_instances d.instances, TooMany most_instances)
+    ∷ (nat_lt most_wanted (wanted rows + d.instances), TooMany most_wanted)
+    ∷ (nat_le most_transitions rows.next, BoardFull)
     ∷ []
 
 -- the first cause whose condition holds, and Ok where none does
@@ -56,7 +57,7 @@ verdict_of rows command = op_verdict rows command.op
 abbrev pub IsLegal : Rows → Command → Type 0
 IsLegal rows command = verdict_of rows command ≡ verdict.Ok
 
--- the rows after a legal operation
+-- the rows after a legal operation: each makes one transition
 abbrev pub op_after : Rows → Op → Rows
 op_after rows (Desire d) = record { desired = put_desired rows d; next = rows.next + 1 }
 

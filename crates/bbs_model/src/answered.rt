@@ -9,5 +9,6 @@ pub struct Answered {
     pub line: u32,
     /// None where the line made no call.
     pub command: Option<Command>,
+    /// How the call ended.
     pub end: CallEnd,
 }

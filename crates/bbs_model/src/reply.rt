@@ -25,6 +25,8 @@ pub enum CallFault {
 /// How a call ended for its caller.
 #[derive(Clone, Copy, Debug, PartialEq, Eq)]
 pub enum CallEnd {
+    /// The board answered.
     Got(Reply),
+    /// The board tried, and had no answer.
     Fault(CallFault),
 }

@@ -5,21 +5,10 @@ ghost use Rattle.std.specs.Cmp.Lexicographic.{pointwise};
 ghost use Rattle.bbs_model.specs.Step.{verdict_of, unless_refused, desire_refusals, is_below, IsLegal, rows_after, op_verdict, op_after, find_desired, put_desired};
 ghost use Rattle.bbs_model.specs.Valid.{IsValid};
 
+use crate::limits::{MOST_INSTANCES, MOST_PROCESSES, MOST_TRANSITIONS, MOST_WANTED};
 use crate::{BoardRefusal, Command, Op, Rows, Verdict};
 use diego_names::{Name, OutOfMemory};
 use lrp_records::Desired;
-
-/// The most desired processes of a board.
-const MOST_PROCESSES: usize = 5_000;
-
-/// The most instances of one process.
-const MOST_INSTANCES: u32 = 1_000;
-
-/// The most instances that all processes want together.
-const MOST_WANTED: u64 = 50_000;
-
-/// The most transitions in a board's life.
-const MOST_TRANSITIONS: u64 = 1_000_000;
 
 impl Rows {
     ghost use Rattle.std.specs.Prelude.{◌≡◌, is_some};
@@ -59,11 +48,11 @@ fn first_above(rows: &[Desired], process: &Name) -> Option<usize>
     rows.iter().position(|row| *process < row.process)
 }
 
-/// Does what a legal command says. Where memory runs out, the rows stay.
+/// Does what a legal command says, which is one transition. Where memory runs out, the rows stay.
 pub fn apply(rows: &mut Rows, command: &Command) -> Result<(), OutOfMemory>
     requires { IsLegal rows.old command.now }
     ensures ok { OnOk result (rows.new ≡ rows_after rows.old command.entry.now) }
-    ensures valid { OnOk result (IsValid rows.old → IsValid rows.new) }
+    ensures valid { IsValid rows.old → IsValid rows.new }
     ensures err { OnErr result (rows.new ≡ rows.old) }
 {
     match command.op {
@@ -91,7 +80,8 @@ fn put_desired(rows: &mut Rows, row: Desired) -> Result<(), OutOfMemory>
     rows.desired.insert(at, row)
 }
 
-/// What the step of a command comes to. It takes no memory.
+/// What the step of a command comes to: the first of its causes of refusal that holds, and Ok where
+/// none does. It changes nothing and takes no memory.
 pub fn decide(rows: &Rows, command: &Command) -> Verdict
     requires { IsValid rows.now }
     ensures { result ≡ verdict_of rows.now command.entry.now }
@@ -108,14 +98,14 @@ fn decide_desire(rows: &Rows, desired: &Desired) -> Verdict
     if rows.is_desired(&desired.process) {
         return Verdict::Refused(BoardRefusal::Exists);
     }
-    if rows.desired.len() >= MOST_PROCESSES {
-        return too_many(5_000);
+    if rows.desired.len() >= MOST_PROCESSES as usize {
+        return too_many(MOST_PROCESSES);
     }
     if desired.instances > MOST_INSTANCES {
         return too_many(MOST_INSTANCES);
     }
-    if rows.wanted() + u64::from(desired.instances) > MOST_WANTED {
-        return too_many(50_000);
+    if rows.wanted() + u64::from(desired.instances) > u64::from(MOST_WANTED) {
+        return too_many(MOST_WANTED);
     }
     if rows.next >= MOST_TRANSITIONS {
         return Verdict::Refused(BoardRefusal::BoardFull);

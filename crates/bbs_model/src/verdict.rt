@@ -4,7 +4,10 @@ pub enum BoardRefusal {
     /// There is such a row.
     Exists,
     /// A limit of the board would be passed.
-    TooMany { limit: u32 },
+    TooMany {
+        /// That limit: of processes, of a process's instances, or of all instances.
+        limit: u32,
+    },
     /// The board has made as many transitions as it may make in its life.
     BoardFull,
 }

@@ -1,5 +1,4 @@
-use Rattle.std.proofs.Common.{◌∙◌, ap}
-use Rattle.std.specs.List.{list_any}
+use Rattle.std.proofs.Common.{◌∙◌}
 use Rattle.bbs_model.proofs.Finding.{is_some-find_row}
 use Rattle.lrp_records.specs.declared.desired.Desired.{Desired}
 use Rattle.bbs_model.proofs.rows.Rows.is_desired.Goals as goal

@@ -1,0 +1,13 @@
+//! How large a board may be.
+
+/// The most desired processes of a board.
+pub const MOST_PROCESSES: u32 = 5_000;
+
+/// The most instances of one process.
+pub const MOST_INSTANCES: u32 = 1_000;
+
+/// The most instances that all processes want together.
+pub const MOST_WANTED: u32 = 50_000;
+
+/// The most transitions in a board's life.
+pub const MOST_TRANSITIONS: u64 = 1_000_000;
