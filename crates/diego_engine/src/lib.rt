@@ -19,3 +19,6 @@ mod words;
 
 pub use appending::an_appended_frame_is_opened_again;
 pub use top::{TopEnd, diego_top, still_top};
+
+#[cfg(test)]
+mod tests;
