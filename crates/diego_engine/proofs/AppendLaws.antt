@@ -1,7 +1,7 @@
 -- Four device calls put a frame in the place of a closed gate.
 use Rattle.std.proofs.Common.{◌≡◌, ◌⊎◌, ℕ, ◌+◌, ◌<◌, ◌≤◌, Bool, true, false, List, [], ◌∷◌, ◌++◌, length, take, drop, refl, sym, ap, ◌∙◌, arith, inl, inr, append_assoc, drop_at, length-take-le, subst, Option, Some}
 use Rattle.std.proofs.lemmas.List.{take-take, drop-drop}
-use Rattle.disk_trait.specs.Held.{Held, Range, Torn}
+use Rattle.disk_trait.specs.Held.{Held, Range, Torn, IsSettledArea}
 use Rattle.disk_trait.specs.Past.{Past, now, content, other}
 use Rattle.disk_trait.specs.Steps.{Goes, Changes, Wrote, Synced, TornWrite, overwritten}
 use Rattle.disk_trait.proofs.Told.{goes_then}
@@ -44,7 +44,7 @@ gated end body old within =
     let front = front_of_body end body old within in
     let split : mid ≡ take (end + 1) old ++ (body ++ drop (end + 1 + length body) old) = append_assoc (take (end + 1) old) body (drop (end + 1 + length body) old) in
     let behind : drop (end + 1) mid ≡ body ++ drop (end + 1 + length body) old =
-        ap (drop (end + 1)) split ∙ drop_at (take (end + 1) old) (body ++ drop (end + 1 + length body) old) (end + 1) (length-take-le (end + 1) old (omega arith)) in
+    ap (drop (end + 1)) split ∙ drop_at (take (end + 1) old) (body ++ drop (end + 1 + length body) old) (end + 1) (length-take-le (end + 1) old (omega arith)) in
     let place : end + 1 + length body ≡ end + length {A = ℕ} (1 ∷ body) = omega arith in
     let later : List ℕ = drop (end + 1 + length body) old in
     ap (λ (l : List ℕ). (l ++ 1 ∷ []) ++ drop (end + 1) mid) front
@@ -77,8 +77,9 @@ pub gate_ends : (ok : Bool) (end : ℕ) (c : Command) (p q r s : Past) → end <
     → Ends ok end c p s
 gate_ends true end c p q r s within b wrote synced = record {
   extends = extends_then p r s (extends_then p q r b.extends (elapses_extends q r wrote.time)) (elapses_extends r s synced.time);
+  settled = subst IsSettledArea (sym synced.here) (λ left leaves. leaves.torn);
   done = elim [
-    A ↦ synced_content true A r s synced ∙ wrote_content A end (1 ∷ []) q r wrote ∙ ap (overwritten end (1 ∷ [])) b.here ∙ gated end (framed c ++ 0 ∷ []) (content p A) within
+    | A ↦ synced_content true A r s synced ∙ wrote_content A end (1 ∷ []) q r wrote ∙ ap (overwritten end (1 ∷ [])) b.here ∙ gated end (framed c ++ 0 ∷ []) (content p A) within
     | B ↦ there_is (Synced true) r s synced ∙ there_is (Wrote true end (1 ∷ [])) q r wrote ∙ b.there
   ];
 }

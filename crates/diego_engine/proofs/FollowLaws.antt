@@ -71,6 +71,7 @@ reaches_on start rows rest behind c ib r read legal =
     by_more commands (d ∷ more) each same =
         let first = first_is rows c rest behind d more read each in
         record { more = more; each = first.1; rows_are = same ∙ ap (λ (e : Command). replay (rows_after rows e) more) first.0 }
+
     step : (commands : List Command) → Rest rows rest commands → Rest (rows_after rows c) behind commands
     step commands left = by_more commands left.more left.each left.rows_are
 

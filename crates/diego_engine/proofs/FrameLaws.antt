@@ -29,8 +29,18 @@ length-name n h = let most = h.not_too_long in omega arith
 length-op : (op : Op) → FitsOp op → length (field_op op) ≤ 338
 unfolding field_desired field_names field_terms field_sizes field_amounts field_placing field_route
 length-op (Desire d) f =
-    omega (arith, length-name d.process f.names.0, length-name d.domain f.names.1, length-optional d.tag f.placing.0, length-optional d.route f.placing.1.0,
-        length-field_number w32 d.instances, length-field_number w32 d.memory, length-field_number w32 d.disk, length-field_number w16 d.port, length-append {A = ℕ})
+    omega (
+      arith,
+      length-name d.process f.names.0,
+      length-name d.domain f.names.1,
+      length-optional d.tag f.placing.0,
+      length-optional d.route f.placing.1.0,
+      length-field_number w32 d.instances,
+      length-field_number w32 d.memory,
+      length-field_number w32 d.disk,
+      length-field_number w16 d.port,
+      length-append {A = ℕ},
+    )
 
 -- a payload has at most 343 bytes
 pub length-payload : (c : Command) → FitsCommand c → length (payload_of c) ≤ 343
@@ -52,6 +62,7 @@ cut_again c rest len s len_is =
   where
     payload : List ℕ
     payload = payload_of c
+
     by_test : (b : Bool) → nat_lt (length (payload_of c ++ rest)) len ≡ b
         → cond {A = Option (Command × List ℕ)} b None (option_map (λ d. (d, drop len (payload_of c ++ rest))) (plain_in (take len (payload_of c ++ rest)))) ≡ Some (c, rest)
     by_test true e = absurd (grind (arith, nat_tests, e, length-append (payload_of c) rest))
@@ -68,6 +79,7 @@ frame_again gate c rest is_open s =
   where
     number : from_be_bytes w16 (to_be_bytes w16 (length (payload_of c))) ≡ length (payload_of c)
     number = from_be_bytes-to_be_bytes_2 (length (payload_of c)) (omega (arith, length-payload c s.fits))
+
     by_test : (b : Bool) → (gate == 0) ≡ b → cond b None (framed_in (framed c ++ rest)) ≡ Some (c, rest)
     by_test true e = absurd (grind (arith, nat_tests, e))
     by_test false e = cut_again c rest (from_be_bytes w16 (to_be_bytes w16 (length (payload_of c)))) s number
@@ -128,7 +140,7 @@ frame_found (gate ∷ high ∷ low ∷ bytes) c rest ib h =
     let open_gate = chosen (gate == 0) (framed_in (high ∷ low ∷ bytes)) (c, rest) h in
     let cut = cut_found (from_be_bytes w16 (high ∷ low ∷ [])) bytes c rest (IsBytes-drop 3 (gate ∷ high ∷ low ∷ bytes) ib) open_gate.1 in
     let number : to_be_bytes w16 (length (payload_of c)) ≡ high ∷ low ∷ [] =
-        ap (to_be_bytes w16) (sym cut.1) ∙ spelled_number high low (from_be_bytes w16 (high ∷ low ∷ [])) (IsBytes-take 2 (high ∷ low ∷ bytes) (IsBytes-drop 1 (gate ∷ high ∷ low ∷ bytes) ib)) refl in
+    ap (to_be_bytes w16) (sym cut.1) ∙ spelled_number high low (from_be_bytes w16 (high ∷ low ∷ [])) (IsBytes-take 2 (high ∷ low ∷ bytes) (IsBytes-drop 1 (gate ∷ high ∷ low ∷ bytes) ib)) refl in
     record {
       gate = gate;
       is_open = grind (arith, nat_tests, open_gate.0);

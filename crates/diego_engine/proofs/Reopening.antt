@@ -31,9 +31,15 @@ frames_more rows (d ∷ ds) front free free' c (gate, rest, is_open, spelled_d, 
     let whole : front ≡ first ++ drop (length first) front = front_is front (0 ∷ free) first rest parts le in
     let behind : rest ≡ drop (length first) front ++ 0 ∷ free = back_is front (0 ∷ free) first rest parts le in
     let count : length (drop (length first) front) ≡ frames_len ds = omega (arith, len, ap length whole, length-append first (drop (length first) front)) in
-    let more = frames_more (rows_after rows d) ds (drop (length first) front) free free' c (subst (AreFrames (rows_after rows d) ds) behind later) count spelled legal in
-    (gate, drop (length first) front ++ 1 ∷ (framed c ++ 0 ∷ free'), is_open, spelled_d, legal_d,
-        ap (λ (l : List ℕ). l ++ 1 ∷ (framed c ++ 0 ∷ free')) whole ∙ append_assoc first (drop (length first) front) (1 ∷ (framed c ++ 0 ∷ free')), more)
+    let more = frames_more (rows_after rows d) ds (drop (length first) front) free free' c (subst (AreFrames (rows_after rows d) ds) behind later) count spelled legal in (
+      gate,
+      drop (length first) front ++ 1 ∷ (framed c ++ 0 ∷ free'),
+      is_open,
+      spelled_d,
+      legal_d,
+      ap (λ (l : List ℕ). l ++ 1 ∷ (framed c ++ 0 ∷ free')) whole ∙ append_assoc first (drop (length first) front) (1 ∷ (framed c ++ 0 ∷ free')),
+      more,
+    )
 
 replay_more : (rows : Rows) (cs : List Command) (c : Command) → replay rows (cs ++ c ∷ []) ≡ rows_after (replay rows cs) c
 replay_more rows [] c = refl

@@ -138,7 +138,7 @@ command_again c f =
     let all : StandsAt payload 0 (kind ++ body_of c) = record { rest = []; parts = sym (append-nil payload) } in
     let read = IsField-u8.again payload 0 1 (omega arith) (StandsAt-front payload 0 kind (body_of c) all) in
     let there : StandsAt payload (0 + length kind) (field_number w32 c.now.0 ++ field_desired (row_of c.op)) =
-        subst (StandsAt payload (0 + length kind)) (sym (body_alike c)) (StandsAt-back payload 0 kind (body_of c) all) in
+    subst (StandsAt payload (0 + length kind)) (sym (body_alike c)) (StandsAt-back payload 0 kind (body_of c) all) in
     let body = IsField-body.again payload (0 + length kind) c (fits c f) there in
     ap (λ (r : Result (ℕ × ℕ) FieldFault). whole (length payload) (r >>= behind_kind payload 0)) read
     ∙ ap (whole (length payload)) body
@@ -169,7 +169,7 @@ command_spelled bytes c ib h =
     let start : read.0.1 ≡ 0 + length (field_number w8 1) = kind.1 ∙ ap (λ (n : ℕ). 0 + length (field_number w8 n)) one in
     let body = IsField-body.spelled bytes read.0.1 c (length bytes) ib test.1 in
     let second : StandsAt bytes (0 + length (field_number w8 1)) (body_of c) =
-        subst (StandsAt bytes (0 + length (field_number w8 1))) (body_alike c) (subst (λ (n : ℕ). StandsAt bytes n (field_number w32 c.now.0 ++ field_desired (row_of c.op))) start body.0) in
+    subst (StandsAt bytes (0 + length (field_number w8 1))) (body_alike c) (subst (λ (n : ℕ). StandsAt bytes n (field_number w32 c.now.0 ++ field_desired (row_of c.op))) start body.0) in
     let all = StandsAt-append bytes 0 (field_number w8 1) (body_of c) first second in
     let end : length bytes ≡ length (payload_of c) = omega (arith, body.1, start, ap length (body_alike c), length-append (field_number w8 1) (body_of c)) in
     let none : all.rest ≡ [] = nil_from_length all.rest (omega (arith, end, ap length all.parts, length-append (field_number w8 1 ++ body_of c) all.rest)) in

@@ -1,7 +1,8 @@
 -- What an append and a prepare leave on a disk.
 use Rattle.std.specs.Prelude.{◌≡◌, ℕ, ◌+◌, Bool, true, false, List, [], ◌∷◌, ◌++◌, length, take}
-use Rattle.disk_trait.specs.Past.{Past, Image, content}
+use Rattle.disk_trait.specs.Past.{Past, Image, content, now}
 use Rattle.disk_trait.specs.Steps.{overwritten}
+use Rattle.disk_trait.specs.Held.{IsSettledArea}
 use Rattle.disk_trait.specs.Runs.{Extends}
 use Rattle.disk_trait.specs.declared.area.Area.{Area}
 use Rattle.disk_trait.specs.declared.area.Area.TheVariants.{A, B}
@@ -16,9 +17,10 @@ abbrev pub with_frame : ℕ → Command → Image → Image
 with_frame end command image A = overwritten end (1 ∷ (framed command ++ 0 ∷ [])) (image A)
 with_frame end command image B = image B
 
--- the frame stands on the disk
+-- the frame stands on the disk, and a stop leaves of its area what a read gives
 pub record Appends (end : ℕ) (command : Command) (p q : Past) : Type 0 where
   pub extends : Extends p q
+  pub settled : IsSettledArea (now q A)
   pub done : (area : Area) → content q area ≡ with_frame end command (content p) area
 
 -- what stands before the frame, and the other area, are as they were

@@ -53,5 +53,4 @@ pub fn append<D: Disk>(disk: &mut D, end: u64, command: &Command) -> Result<(), 
 /// What a run stored, the next opening finds: the law that ties one run's frame to the next run's board.
 pub fn an_appended_frame_is_opened_again()
     ensures { OpensAgain }
-{
-}
+{}

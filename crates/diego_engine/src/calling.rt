@@ -104,11 +104,17 @@ pub fn call<D: Disk>(
         Verdict::Ok => store(alloc, script, opened, disk),
         Verdict::Same => {
             let same = Reply::Same { place: 0 };
-            Ok(marked(phase_of(alloc, script, CallEnd::Got(same), next)?, disk.clock()))
+            Ok(marked(
+                phase_of(alloc, script, CallEnd::Got(same), next)?,
+                disk.clock(),
+            ))
         }
         Verdict::Refused(why) => {
             let refused = Reply::Refused { why, place: 0 };
-            Ok(marked(phase_of(alloc, script, CallEnd::Got(refused), next)?, disk.clock()))
+            Ok(marked(
+                phase_of(alloc, script, CallEnd::Got(refused), next)?,
+                disk.clock(),
+            ))
         }
     }
 }

@@ -56,12 +56,6 @@ pub fn read_frame(bytes: &[u8]) -> Option<(Command, &[u8])>
 {
     match bytes {
         [] => None,
-        [gate, rest @ ..] => {
-            if *gate == 0 {
-                None
-            } else {
-                read_framed(rest)
-            }
-        }
+        [gate, rest @ ..] => { if *gate == 0 { None } else { read_framed(rest) } }
     }
 }

@@ -3,6 +3,7 @@
 
 mod appending;
 mod calling;
+mod commands;
 mod ending;
 mod following;
 mod frames;

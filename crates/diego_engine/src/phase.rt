@@ -4,9 +4,7 @@ ghost use Rattle.diego_engine.specs.Phase.{Tells, events_text, counts_of, log_of
 
 use crate::printing::{Counts, answer_text, event_text, summary_text};
 use crate::script::Script;
-use bbs_model::{
-    Answered, CallEnd, CallFault, Change, Command, Event, Item, Op, Reply, Row,
-};
+use bbs_model::{Answered, CallEnd, CallFault, Change, Command, Event, Item, Op, Reply, Row};
 use std::alloc::{AllocError, Global};
 
 /// The number of the script's one actor.

@@ -71,7 +71,7 @@ fn printed<K: Sink>(sink: &mut K, phase: Phase) -> Ended
     ensures kept { Keeps phase result }
     ensures prints { (whole : Bool) × (result.ending ≡ ending_of whole phase.doubt)
         × PrintsTo whole phase.text.items
-            (K.held sink.old) (K.held sink.new) (K.faults sink.old) (K.faults sink.new) }
+        (K.held sink.old) (K.held sink.new) (K.faults sink.old) (K.faults sink.new) }
 {
     let Phase {
         text,
@@ -102,10 +102,20 @@ fn run_opened<K: Sink, D: Disk, G: Gate>(
     requires at { ForSome (D.told disk.old) (λ p. opened.now.end < length (content p A)) }
     requires within { opened.now.end < 2 ^ 63 }
     ensures { CallEnds result.ending script.now opened.now.rows opened.now.end result
-        (record { held = K.held sink.old; write_faults = K.faults sink.old; told = D.told disk.old;
-            disk_faults = D.fault_count disk.old; clock = D.moment disk.old })
-        (record { held = K.held sink.new; write_faults = K.faults sink.new; told = D.told disk.new;
-            disk_faults = D.fault_count disk.new; clock = D.moment disk.new }) }
+        (record {
+          held = K.held sink.old;
+          write_faults = K.faults sink.old;
+          told = D.told disk.old;
+          disk_faults = D.fault_count disk.old;
+          clock = D.moment disk.old;
+        })
+        (record {
+          held = K.held sink.new;
+          write_faults = K.faults sink.new;
+          told = D.told disk.new;
+          disk_faults = D.fault_count disk.new;
+          clock = D.moment disk.new;
+        }) }
 {
     gate.pass(ACTOR);
     match call(alloc, script, opened, disk) {
@@ -123,10 +133,20 @@ pub fn run_script<K: Sink, D: Disk, G: Gate>(
     gate: &G,
 ) -> Ended
     ensures { ScriptEnds result.ending script.now result
-        (record { held = K.held sink.old; write_faults = K.faults sink.old; told = D.told disk.old;
-            disk_faults = D.fault_count disk.old; clock = D.moment disk.old })
-        (record { held = K.held sink.new; write_faults = K.faults sink.new; told = D.told disk.new;
-            disk_faults = D.fault_count disk.new; clock = D.moment disk.new }) }
+        (record {
+          held = K.held sink.old;
+          write_faults = K.faults sink.old;
+          told = D.told disk.old;
+          disk_faults = D.fault_count disk.old;
+          clock = D.moment disk.old;
+        })
+        (record {
+          held = K.held sink.new;
+          write_faults = K.faults sink.new;
+          told = D.told disk.new;
+          disk_faults = D.fault_count disk.new;
+          clock = D.moment disk.new;
+        }) }
 {
     match open(alloc, disk) {
         Ok(opened) => run_opened(alloc, script, &opened, sink, disk, gate),

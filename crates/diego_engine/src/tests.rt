@@ -5,6 +5,7 @@ mod devices;
 mod endings;
 mod limits;
 mod runs;
+mod stops;
 
 use crate::{TopEnd, diego_top};
 use bbs_model::{Answered, Item};

@@ -8,23 +8,19 @@ ghost use Rattle.diego_engine.specs.Board.{Shows, IsNoBoard};
 ghost use Rattle.diego_engine.specs.Preparing.{FindsBytes};
 ghost use Rattle.diego_engine.specs.Script.{script_of};
 ghost use Rattle.diego_engine.specs.Ending.{number_of};
-ghost use Rattle.diego_engine.specs.Top.{Reads, ReadsWhole, RunEnds, StillEnds, Ends, Meets, RunsWhole, is_read, is_unread, is_before_board, limit};
+ghost use Rattle.diego_engine.specs.Top.{ReadsWhole, StillEnds, Ends, Meets, RunsWhole, is_before_board, limit};
 ghost use Rattle.diego_engine.specs.Words.{asked_of};
 ghost use Rattle.diego_engine.specs.declared.ending.Ending.{Ending as AnEnding};
 ghost use Rattle.diego_engine.specs.declared.words.Asked.TheVariants as wanted;
 
-use crate::ending::{Ending, number_of};
-use crate::preparing::{PrepareFault, prepare};
-use crate::running::{Ended, ended_early, run_script};
-use crate::script::{Script, ScriptFault, read_script};
+use crate::commands::{run, still};
+use crate::ending::number_of;
+use crate::running::Ended;
 use crate::words::{Asked, read_words};
 use bbs_model::{Answered, Item};
-use byte_ports::{Gate, ReadFault, Sink, Source, read_whole};
+use byte_ports::{Gate, Sink, Source};
 use disk_trait::Disk;
 use std::alloc::Global;
-
-/// The most bytes that a script may have.
-const LIMIT: usize = 16_777_216;
 
 /// How the program ended: its status, what it was given, and what its run did.
 pub struct TopEnd<S, K, D> {
@@ -38,68 +34,6 @@ pub struct TopEnd<S, K, D> {
     pub marks: Vec<u64>,
     /// The calls of the phases that ran, and how each ended.
     pub answers: Vec<Answered>,
-}
-
-/// The script that the source gives.
-fn read<S: Source>(alloc: Global, source: &mut S) -> Result<Script, Ending>
-    ensures reads { Reads result (S.left source.old) (S.left source.new) }
-    ensures cause { HasCause (is_unread result) (S.faults source.old) (S.faults source.new) }
-{
-    match read_whole(alloc, source, LIMIT) {
-        Ok(bytes) => match read_script(alloc, &bytes) {
-            Ok(script) => Ok(script),
-            Err(ScriptFault::Malformed) => Err(Ending::Script),
-            Err(ScriptFault::OutOfMemory) => Err(Ending::OutOfMemory),
-        },
-        Err(ReadFault::Failed) => Err(Ending::Read),
-        Err(ReadFault::TooLong) => Err(Ending::TooLong),
-        Err(ReadFault::OutOfMemory) => Err(Ending::OutOfMemory),
-    }
-}
-
-/// Reads a script, and runs it.
-fn run<S: Source, K: Sink, D: Disk, G: Gate>(
-    alloc: Global,
-    source: &mut S,
-    sink: &mut K,
-    disk: &mut D,
-    gate: &G,
-) -> Ended
-    ensures ends { RunEnds result.ending result (S.left source.old) (S.left source.new)
-        (record { held = K.held sink.old; write_faults = K.faults sink.old; told = D.told disk.old;
-            disk_faults = D.fault_count disk.old; clock = D.moment disk.old })
-        (record { held = K.held sink.new; write_faults = K.faults sink.new; told = D.told disk.new;
-            disk_faults = D.fault_count disk.new; clock = D.moment disk.new }) }
-    ensures cause { HasCause (is_read result.ending) (S.faults source.old) (S.faults source.new) }
-{
-    match read(alloc, source) {
-        Ok(script) => run_script(alloc, &script, sink, disk, gate),
-        Err(ending) => ended_early(alloc, sink, ending),
-    }
-}
-
-/// Does what waits for nobody.
-fn still<K: Sink, D: Disk>(
-    alloc: Global,
-    asked: Option<Asked>,
-    sink: &mut K,
-    disk: &mut D,
-) -> Ended
-    requires { asked ≢ Some wanted.Run }
-    ensures { StillEnds result.ending asked result
-        (record { held = K.held sink.old; write_faults = K.faults sink.old; told = D.told disk.old;
-            disk_faults = D.fault_count disk.old; clock = D.moment disk.old })
-        (record { held = K.held sink.new; write_faults = K.faults sink.new; told = D.told disk.new;
-            disk_faults = D.fault_count disk.new; clock = D.moment disk.new }) }
-{
-    match asked {
-        Some(Asked::Prepare) => match prepare(disk) {
-            Ok(()) => ended_early(alloc, sink, Ending::Done),
-            Err(PrepareFault::Disk) => ended_early(alloc, sink, Ending::Unopened),
-            Err(PrepareFault::NotEmpty) => ended_early(alloc, sink, Ending::Exists),
-        },
-        _ => ended_early(alloc, sink, Ending::Usage),
-    }
 }
 
 fn asks_for_a_run(words: &[String]) -> bool
@@ -143,11 +77,21 @@ pub fn still_top<S: Source, K: Sink, D: Disk>(
     ensures source { result.source ≡ source }
     ensures ends { (how : AnEnding) × (result.status ≡ number_of how)
         × StillEnds how (asked_of (map (λ w. string_bytes w) words.now))
-            (record { ending = how; log = result.log; marks = result.marks; answers = result.answers })
-            (record { held = K.held sink; write_faults = K.faults sink; told = D.told disk;
-                disk_faults = D.fault_count disk; clock = D.moment disk })
-            (record { held = K.held result.sink; write_faults = K.faults result.sink; told = D.told result.disk;
-                disk_faults = D.fault_count result.disk; clock = D.moment result.disk }) }
+        (record { ending = how; log = result.log; marks = result.marks; answers = result.answers })
+        (record {
+          held = K.held sink;
+          write_faults = K.faults sink;
+          told = D.told disk;
+          disk_faults = D.fault_count disk;
+          clock = D.moment disk;
+        })
+        (record {
+          held = K.held result.sink;
+          write_faults = K.faults result.sink;
+          told = D.told result.disk;
+          disk_faults = D.fault_count result.disk;
+          clock = D.moment result.disk;
+        }) }
 {
     let ended = still(alloc, read_words(words), &mut sink, &mut disk);
     top_end(ended, source, sink, disk)
@@ -163,12 +107,22 @@ fn whole_top<S: Source, K: Sink, D: Disk, G: Gate>(
 ) -> TopEnd<S, K, D>
     ensures ends { (how : AnEnding) × (result.status ≡ number_of how)
         × Ends how (asked_of (map (λ w. string_bytes w) words.now))
-            (record { ending = how; log = result.log; marks = result.marks; answers = result.answers })
-            (S.left source) (S.left result.source)
-            (record { held = K.held sink; write_faults = K.faults sink; told = D.told disk;
-                disk_faults = D.fault_count disk; clock = D.moment disk })
-            (record { held = K.held result.sink; write_faults = K.faults result.sink; told = D.told result.disk;
-                disk_faults = D.fault_count result.disk; clock = D.moment result.disk }) }
+        (record { ending = how; log = result.log; marks = result.marks; answers = result.answers })
+        (S.left source) (S.left result.source)
+        (record {
+          held = K.held sink;
+          write_faults = K.faults sink;
+          told = D.told disk;
+          disk_faults = D.fault_count disk;
+          clock = D.moment disk;
+        })
+        (record {
+          held = K.held result.sink;
+          write_faults = K.faults result.sink;
+          told = D.told result.disk;
+          disk_faults = D.fault_count result.disk;
+          clock = D.moment result.disk;
+        }) }
     ensures read { HasCause (result.status == 3) (S.faults source) (S.faults result.source) }
 {
     if !asks_for_a_run(words) {
@@ -190,12 +144,22 @@ pub fn diego_top<S: Source, K: Sink, D: Disk, G: Gate>(
 ) -> TopEnd<S, K, D>
     ensures ends { (how : AnEnding) × (result.status ≡ number_of how)
         × Ends how (asked_of (map (λ w. string_bytes w) words.now))
-            (record { ending = how; log = result.log; marks = result.marks; answers = result.answers })
-            (S.left source) (S.left result.source)
-            (record { held = K.held sink; write_faults = K.faults sink; told = D.told disk;
-                disk_faults = D.fault_count disk; clock = D.moment disk })
-            (record { held = K.held result.sink; write_faults = K.faults result.sink; told = D.told result.disk;
-                disk_faults = D.fault_count result.disk; clock = D.moment result.disk }) }
+        (record { ending = how; log = result.log; marks = result.marks; answers = result.answers })
+        (S.left source) (S.left result.source)
+        (record {
+          held = K.held sink;
+          write_faults = K.faults sink;
+          told = D.told disk;
+          disk_faults = D.fault_count disk;
+          clock = D.moment disk;
+        })
+        (record {
+          held = K.held result.sink;
+          write_faults = K.faults result.sink;
+          told = D.told result.disk;
+          disk_faults = D.fault_count result.disk;
+          clock = D.moment result.disk;
+        }) }
 
     // Each status exactly where, or only where, this holds.
     ensures usage { (result.status ≡ 1) ↔ (asked_of (map (λ w. string_bytes w) words.now) ≡ None) }
@@ -216,12 +180,22 @@ pub fn diego_top<S: Source, K: Sink, D: Disk, G: Gate>(
     ensures done { result.status ≡ 0
         → asked_of (map (λ w. string_bytes w) words.now) ≡ Some wanted.Run
         → (how : AnEnding) × RunsWhole
-            (record { ending = how; log = result.log; marks = result.marks; answers = result.answers })
-            (S.left source) (S.left result.source)
-            (record { held = K.held sink; write_faults = K.faults sink; told = D.told disk;
-                disk_faults = D.fault_count disk; clock = D.moment disk })
-            (record { held = K.held result.sink; write_faults = K.faults result.sink; told = D.told result.disk;
-                disk_faults = D.fault_count result.disk; clock = D.moment result.disk }) }
+        (record { ending = how; log = result.log; marks = result.marks; answers = result.answers })
+        (S.left source) (S.left result.source)
+        (record {
+          held = K.held sink;
+          write_faults = K.faults sink;
+          told = D.told disk;
+          disk_faults = D.fault_count disk;
+          clock = D.moment disk;
+        })
+        (record {
+          held = K.held result.sink;
+          write_faults = K.faults result.sink;
+          told = D.told result.disk;
+          disk_faults = D.fault_count result.disk;
+          clock = D.moment result.disk;
+        }) }
 
     // With a script and a board, and without a fault, all is done unless memory runs out.
     ensures complete { asked_of (map (λ w. string_bytes w) words.now) ≡ Some wanted.Run

@@ -1,6 +1,6 @@
 //! The first run: what is given, and what becomes of it, byte for byte.
 use super::Given;
-use bbs_model::{Command, Op};
+use bbs_model::{Answered, CallEnd, Command, Op};
 use crash_backoff::Moment;
 use diego_names::Name;
 use lrp_records::Desired;
@@ -54,5 +54,15 @@ pub fn command() -> Result<Command, Fail> {
     Ok(Command {
         now: Moment(0),
         op: Op::Desire { desired },
+    })
+}
+
+/// The one answer of a run of the script, by how its call ended.
+pub fn answer(end: CallEnd) -> Result<Answered, Fail> {
+    Ok(Answered {
+        actor: 1,
+        line: 2,
+        command: Some(command()?),
+        end,
     })
 }

@@ -1,8 +1,8 @@
 //! Runs in which the sink or the disk fails.
-use super::bytes::{PREPARED, STORED, TEXT, command, first_run};
+use super::bytes::{PREPARED, STORED, TEXT, answer, command, first_run};
 use super::{Given, ends, left_by, prepare, run, tells_nothing, words};
 use crate::{TopEnd, diego_top};
-use bbs_model::{Answered, CallEnd, CallFault, Item};
+use bbs_model::{CallEnd, CallFault, Item};
 use byte_ports::{MemorySource, OpenGate, StdSink};
 use disk_trait::{Area, Disk, MemoryDisk};
 use std::io::{Error, ErrorKind, Result as IoResult, Write};
@@ -43,13 +43,6 @@ fn a_disk_that_fails_at_the_opening_or_a_preparing_ends_it(rt: HostRuntime) -> R
 
 #[test]
 fn a_disk_that_fails_in_the_call_leaves_a_doubt(rt: HostRuntime) -> Result<(), Fail> {
-    let command = command()?;
-    let answer = Answered {
-        actor: 1,
-        line: 2,
-        command: Some(command),
-        end: CallEnd::Fault(CallFault::Disk { place: 0 }),
-    };
     for call in 4..8 {
         let given = Given {
             calls: &[call],
@@ -57,9 +50,11 @@ fn a_disk_that_fails_in_the_call_leaves_a_doubt(rt: HostRuntime) -> Result<(), F
         };
         let left = run(rt.alloc(), &given)?;
         ends(&rt, &left, 5, DOUBT);
-        assert_eq!(rt; left.log.as_slice(), [Item::Doubt(1, command)].as_slice());
+        let item = Item::Doubt(1, command()?);
+        assert_eq!(rt; left.log.as_slice(), [item].as_slice());
         assert_eq!(rt; left.marks.as_slice(), [call].as_slice());
-        assert_eq!(rt; left.answers.as_slice(), [answer].as_slice());
+        let failed = answer(CallEnd::Fault(CallFault::Disk { place: 0 }))?;
+        assert_eq!(rt; left.answers.as_slice(), [failed].as_slice());
         assert_eq!(rt; left.disk.bytes(Area::A).get(..47), PREPARED.get(..47));
         assert!(rt; left.disk.bytes(Area::B).is_empty());
     }

@@ -3,6 +3,7 @@ use super::bytes::{PREPARED, STORED, first_run};
 use super::{Given, ends, left_by, run, tells_nothing};
 use disk_trait::{Area, Disk};
 use std::alloc::Global;
+use std::process::Abort;
 use std::test::Fail;
 
 const NO_BOARD: &str = "{\"area\":\"a\",\"at\":0,\"fault\":\"not a board\"}\n";
@@ -69,37 +70,40 @@ fn stored_twice(alloc: Global) -> Result<Vec<u8>, Fail> {
     Ok(twice)
 }
 
-#[test]
-fn what_is_no_board_is_left_as_it_is(rt: HostRuntime) -> Result<(), Fail> {
-    let alloc = rt.alloc();
-    let magic = changed(alloc, PREPARED, 1, b'd')?;
-    let generation = changed(alloc, PREPARED, 18, 2)?;
-    let port = changed(alloc, STORED, 79, 0x91)?;
-    let twice = stored_twice(alloc)?;
-    let cut = STORED.get(..60).ok_or("60 bytes")?;
-    let ungated = STORED.get(..80).ok_or("80 bytes")?;
-    let cases: [(&str, &[u8], &[u8]); 8] = [
-        ("empty areas", b"", b""),
-        ("bytes in area b", PREPARED, b"\0"),
-        ("another magic", &magic, b""),
-        ("another generation", &generation, b""),
-        ("a port of its own", &port, b""),
-        ("a process twice", &twice, b""),
-        ("a frame that is cut", cut, b""),
-        ("no closed gate", ungated, b""),
-    ];
-    for (what, a, b) in cases {
-        let given = Given {
-            a,
-            b,
-            ..first_run()
-        };
-        let left = run(alloc, &given)?;
-        assert_eq!(rt; left.status, 6, "{what}");
-        ends(&rt, &left, 6, NO_BOARD);
-        tells_nothing(&rt, &left);
-        assert_eq!(rt; left.disk.bytes(Area::A), a);
-        assert_eq!(rt; left.disk.bytes(Area::B), b);
-    }
+fn is_no_board(rt: &impl Abort, alloc: Global, a: &[u8], b: &[u8]) -> Result<(), Fail> {
+    let given = Given {
+        a,
+        b,
+        ..first_run()
+    };
+    let left = run(alloc, &given)?;
+    ends(rt, &left, 6, NO_BOARD);
+    tells_nothing(rt, &left);
+    assert_eq!(rt; left.disk.bytes(Area::A), a);
+    assert_eq!(rt; left.disk.bytes(Area::B), b);
     Ok(())
+}
+
+#[test]
+fn other_areas_are_no_board(rt: HostRuntime) -> Result<(), Fail> {
+    let alloc = rt.alloc();
+    is_no_board(&rt, alloc, b"", b"")?;
+    is_no_board(&rt, alloc, PREPARED, b"\0")?;
+    let magic = changed(alloc, PREPARED, 1, b'd')?;
+    is_no_board(&rt, alloc, &magic, b"")?;
+    let generation = changed(alloc, PREPARED, 18, 2)?;
+    is_no_board(&rt, alloc, &generation, b"")
+}
+
+#[test]
+fn other_frames_are_no_board(rt: HostRuntime) -> Result<(), Fail> {
+    let alloc = rt.alloc();
+    let cut = STORED.get(..60).ok_or("60 bytes")?;
+    is_no_board(&rt, alloc, cut, b"")?;
+    let unclosed = STORED.get(..80).ok_or("80 bytes")?;
+    is_no_board(&rt, alloc, unclosed, b"")?;
+    let port = changed(alloc, STORED, 79, 0x91)?;
+    is_no_board(&rt, alloc, &port, b"")?;
+    let twice = stored_twice(alloc)?;
+    is_no_board(&rt, alloc, &twice, b"")
 }

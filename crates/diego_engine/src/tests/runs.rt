@@ -1,7 +1,7 @@
 //! Runs and preparings in which nothing fails.
-use super::bytes::{PREPARED, STORED, TEXT, command, first_run};
+use super::bytes::{PREPARED, STORED, TEXT, answer, command, first_run};
 use super::{Given, ends, prepare, run, tells_nothing};
-use bbs_model::{Answered, BoardRefusal, CallEnd, Item, Reply};
+use bbs_model::{BoardRefusal, CallEnd, Item, Reply};
 use disk_trait::{Area, Disk};
 use std::test::Fail;
 
@@ -18,16 +18,11 @@ fn the_first_run_stores_a_process_and_tells_it(rt: HostRuntime) -> Result<(), Fa
     ends(&rt, &left, 0, TEXT);
     assert_eq!(rt; left.disk.bytes(Area::A), STORED.as_slice());
     assert!(rt; left.disk.bytes(Area::B).is_empty());
-    let command = command()?;
-    assert_eq!(rt; left.log.as_slice(), [Item::Done(1, command)].as_slice());
+    let item = Item::Done(1, command()?);
+    assert_eq!(rt; left.log.as_slice(), [item].as_slice());
     assert_eq!(rt; left.marks.as_slice(), [7].as_slice());
-    let answer = Answered {
-        actor: 1,
-        line: 2,
-        command: Some(command),
-        end: CallEnd::Got(Reply::Ok { place: 0, stamp: 0 }),
-    };
-    assert_eq!(rt; left.answers.as_slice(), [answer].as_slice());
+    let ok = answer(CallEnd::Got(Reply::Ok { place: 0, stamp: 0 }))?;
+    assert_eq!(rt; left.answers.as_slice(), [ok].as_slice());
     Ok(())
 }
 
@@ -44,16 +39,9 @@ fn the_same_run_once_more_is_refused_and_writes_nothing(rt: HostRuntime) -> Resu
     assert_eq!(rt; left.disk.clock(), 3);
     assert!(rt; left.log.is_empty());
     assert!(rt; left.marks.is_empty());
-    let answer = Answered {
-        actor: 1,
-        line: 2,
-        command: Some(command()?),
-        end: CallEnd::Got(Reply::Refused {
-            why: BoardRefusal::Exists,
-            place: 0,
-        }),
-    };
-    assert_eq!(rt; left.answers.as_slice(), [answer].as_slice());
+    let why = BoardRefusal::Exists;
+    let refused = answer(CallEnd::Got(Reply::Refused { why, place: 0 }))?;
+    assert_eq!(rt; left.answers.as_slice(), [refused].as_slice());
     Ok(())
 }
 

@@ -36,7 +36,7 @@ pub returns-clause-complete : goal.returns-clause-complete
 returns-clause-complete g c is meets source sink disk =
     let (how, status, ends) = c.whole_top.ensures.ends in
     elim (complete_from _ _ _ _ _ how _ is ends meets (λ n. source (c.whole_top.ensures.read.rose (ap (λ (m : ℕ). m == 3) (status ∙ n)))) sink disk) [
-      inl n ↦ inl (status ∙ n)
+      | inl n ↦ inl (status ∙ n)
       | inr n ↦ inr (status ∙ n)
     ]
 

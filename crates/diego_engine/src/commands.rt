@@ -1,0 +1,99 @@
+//! What each word does.
+ghost use Rattle.std.specs.Prelude.{◌≡◌, ◌≢◌, Some};
+ghost use Rattle.byte_ports.specs.Cause.{HasCause};
+ghost use Rattle.diego_engine.specs.Top.{Reads, RunEnds, StillEnds, is_read, is_unread};
+ghost use Rattle.diego_engine.specs.declared.words.Asked.TheVariants as wanted;
+
+use crate::ending::Ending;
+use crate::preparing::{PrepareFault, prepare};
+use crate::running::{Ended, ended_early, run_script};
+use crate::script::{Script, ScriptFault, read_script};
+use crate::words::Asked;
+use byte_ports::{Gate, ReadFault, Sink, Source, read_whole};
+use disk_trait::Disk;
+use std::alloc::Global;
+
+/// The most bytes that a script may have.
+const LIMIT: usize = 16_777_216;
+
+/// The script that the source gives.
+fn read<S: Source>(alloc: Global, source: &mut S) -> Result<Script, Ending>
+    ensures reads { Reads result (S.left source.old) (S.left source.new) }
+    ensures cause { HasCause (is_unread result) (S.faults source.old) (S.faults source.new) }
+{
+    match read_whole(alloc, source, LIMIT) {
+        Ok(bytes) => match read_script(alloc, &bytes) {
+            Ok(script) => Ok(script),
+            Err(ScriptFault::Malformed) => Err(Ending::Script),
+            Err(ScriptFault::OutOfMemory) => Err(Ending::OutOfMemory),
+        },
+        Err(ReadFault::Failed) => Err(Ending::Read),
+        Err(ReadFault::TooLong) => Err(Ending::TooLong),
+        Err(ReadFault::OutOfMemory) => Err(Ending::OutOfMemory),
+    }
+}
+
+/// Reads a script, and runs it.
+pub fn run<S: Source, K: Sink, D: Disk, G: Gate>(
+    alloc: Global,
+    source: &mut S,
+    sink: &mut K,
+    disk: &mut D,
+    gate: &G,
+) -> Ended
+    ensures ends { RunEnds result.ending result (S.left source.old) (S.left source.new)
+        (record {
+          held = K.held sink.old;
+          write_faults = K.faults sink.old;
+          told = D.told disk.old;
+          disk_faults = D.fault_count disk.old;
+          clock = D.moment disk.old;
+        })
+        (record {
+          held = K.held sink.new;
+          write_faults = K.faults sink.new;
+          told = D.told disk.new;
+          disk_faults = D.fault_count disk.new;
+          clock = D.moment disk.new;
+        }) }
+    ensures cause { HasCause (is_read result.ending) (S.faults source.old) (S.faults source.new) }
+{
+    match read(alloc, source) {
+        Ok(script) => run_script(alloc, &script, sink, disk, gate),
+        Err(ending) => ended_early(alloc, sink, ending),
+    }
+}
+
+/// Does what waits for nobody.
+pub fn still<K: Sink, D: Disk>(
+    alloc: Global,
+    asked: Option<Asked>,
+    sink: &mut K,
+    disk: &mut D,
+) -> Ended
+    requires { asked ≢ Some wanted.Run }
+    ensures { StillEnds result.ending asked result
+        (record {
+          held = K.held sink.old;
+          write_faults = K.faults sink.old;
+          told = D.told disk.old;
+          disk_faults = D.fault_count disk.old;
+          clock = D.moment disk.old;
+        })
+        (record {
+          held = K.held sink.new;
+          write_faults = K.faults sink.new;
+          told = D.told disk.new;
+          disk_faults = D.fault_count disk.new;
+          clock = D.moment disk.new;
+        }) }
+{
+    match asked {
+        Some(Asked::Prepare) => match prepare(disk) {
+            Ok(()) => ended_early(alloc, sink, Ending::Done),
+            Err(PrepareFault::Disk) => ended_early(alloc, sink, Ending::Unopened),
+            Err(PrepareFault::NotEmpty) => ended_early(alloc, sink, Ending::Exists),
+        },
+        _ => ended_early(alloc, sink, Ending::Usage),
+    }
+}
