@@ -1,0 +1,5 @@
+use Rattle.bbs_journal.proofs.Laws.{write_made}
+use Rattle.bbs_journal.proofs.synced.write_synced.Goals as goal
+
+pub returns-clause-does : goal.returns-clause-does
+returns-clause-does g c = write_made _ _ _ _ _ _ _ c.in_ok-write_at.ensures.does c.sync.ensures.does
