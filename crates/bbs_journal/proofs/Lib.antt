@@ -1,3 +1,4 @@
 mod Bytes
 mod Frames
 mod Laws
+mod Keeping

@@ -2,8 +2,6 @@
 -- may leave. The head is all bytes in front of the frames.
 use Rattle.std.specs.Prelude.{◌≡◌, ◌⊎◌, ℕ, ◌+◌, Option, Some, None, List, [], ◌∷◌, ◌++◌, length}
 use Rattle.disk_trait.specs.Held.{Held, Has}
-use Rattle.disk_trait.specs.Past.{Past, now}
-use Rattle.disk_trait.specs.declared.area.Area.{Area}
 use Rattle.bbs_journal.specs.Frames.{IsPayload, spelled, Whole}
 
 -- the bytes begin with this front
@@ -50,11 +48,3 @@ pub record Waits (head : List ℕ) (payloads : List (List ℕ)) (payload : List 
 abbrev pub Stands : List ℕ → List (List ℕ) → Option (List ℕ) → ℕ → Held → Type 0
 Stands head payloads None end held = Ready head payloads end held
 Stands head payloads (Some payload) end held = Waits head payloads payload end held
-
--- an area of this disk is ready to take a frame at this place
-abbrev pub IsReady : Area → ℕ → Past → Type 0
-IsReady area end p = (head : List ℕ) × (payloads : List (List ℕ)) × Ready head payloads end (now p area)
-
--- an area of this disk stands so, with or without a doubt, and its last gate is at this place
-abbrev pub IsStanding : Area → ℕ → Past → Type 0
-IsStanding area end p = (head : List ℕ) × (payloads : List (List ℕ)) × (doubt : Option (List ℕ)) × Stands head payloads doubt end (now p area)

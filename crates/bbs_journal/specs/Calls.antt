@@ -7,10 +7,10 @@ use Rattle.disk_trait.specs.Steps.{Changes, Wrote, Synced}
 use Rattle.disk_trait.specs.declared.area.Area.{Area}
 use Rattle.bbs_journal.specs.Frames.{IsPayload}
 use Rattle.bbs_journal.specs.Areas.{BeforeOrAfter, Ready, Waits, Stands}
-use Rattle.bbs_journal.specs.declared.journal.Journal.{Journal}
+use Rattle.bbs_journal.specs.View.{View}
 
 -- what an append asks: a payload, nothing in doubt, and room for one more frame
-pub record Fits {D : Type 0} (bytes : List ℕ) (journal : Journal D) : Type 0 where
+pub record Fits {D : Type 0} (bytes : List ℕ) (journal : View D) : Type 0 where
   pub payload : IsPayload bytes
   pub mended : journal.waits ≡ false
   pub frames : journal.frames < 2 ^ 48
@@ -54,14 +54,14 @@ Closes area ok end p q =
 
 -- what a journal knows by itself after a payload of this length: where its area ends, and that only
 -- a failed append leaves something to mend
-pub record Grows {D : Type 0} (ok : Bool) (len : ℕ) (old new : Journal D) : Type 0 where
+pub record Grows {D : Type 0} (ok : Bool) (len : ℕ) (old new : View D) : Type 0 where
   pub area : new.area ≡ old.area
   pub end : new.end ≡ (if ok then old.end + 3 + len else old.end)
   pub frames : new.frames ≡ (if ok then old.frames + 1 else old.frames)
   pub waits : ok ≡ true → new.waits ≡ false
 
 -- after a mend nothing waits, and after one that failed what waited waits still; all else is as it was
-pub record Settles {D : Type 0} (ok : Bool) (old new : Journal D) : Type 0 where
+pub record Settles {D : Type 0} (ok : Bool) (old new : View D) : Type 0 where
   pub area : new.area ≡ old.area
   pub end : new.end ≡ old.end
   pub frames : new.frames ≡ old.frames

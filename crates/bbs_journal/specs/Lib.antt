@@ -1,3 +1,4 @@
 pub mod Frames
 pub mod Areas
+pub mod View
 pub mod Calls

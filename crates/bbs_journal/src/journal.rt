@@ -5,13 +5,14 @@ ghost use Rattle.std.specs.Option.{ForSome};
 ghost use Rattle.byte_ports.specs.Cause.{HasCause};
 ghost use Rattle.disk_trait.specs.Steps.{Goes};
 ghost use Rattle.bbs_journal.specs.Frames.{IsPayload};
-ghost use Rattle.bbs_journal.specs.Areas.{IsReady, IsStanding};
+ghost use Rattle.bbs_journal.specs.View.{IsKept};
 ghost use Rattle.bbs_journal.specs.Calls.{Adds, Closes, Grows, Settles, Fits};
 
 use crate::DiskFault;
 use crate::body::{LONGEST, put_body};
 use crate::synced::write_synced;
 use disk_trait::{Area, Disk};
+use std::marker::Model;
 
 /// An open gate. A reader takes any byte but 0 for one.
 const OPEN: [u8; 1] = [1];
@@ -30,11 +31,23 @@ pub struct Journal<D: Disk> {
     waits: bool,
 }
 
+impl<D: Disk> Model for Journal<D> {
+    ghost use Rattle.std.specs.Option.{ForSome};
+    ghost use Rattle.bbs_journal.specs.View.{View, IsKept};
+
+    ghost Value = { View D };
+
+    ghost view = { λ j. record {
+        disk = j.disk; area = j.area; end = j.end; frames = j.frames; waits = j.waits } };
+
+    ghost invariant = { λ j. ForSome (D.told j.disk) (IsKept j.area j.end j.frames j.waits) };
+}
+
 impl<D: Disk> Journal<D> {
     /// Goes on with an area that holds this many frames, with a closed gate at `end` and nothing in
     /// doubt: what a reader of the area found.
     pub fn resume(disk: D, area: Area, end: u64, frames: u64) -> Journal<D>
-        requires { ForSome (D.told disk) (IsReady area end) }
+        requires { ForSome (D.told disk) (IsKept area end frames false) }
         ensures { result ≡ record { disk = disk; area = area; end = end; frames = frames; waits = false } }
     {
         Journal {
@@ -50,8 +63,7 @@ impl<D: Disk> Journal<D> {
     /// each later stop leaves it. At `DiskFault` it is refused, and after the next `mend` that succeeds
     /// no stop leaves it.
     pub fn append(&mut self, payload: &[u8]) -> Result<(), DiskFault>
-        requires ready { ForSome (D.told self.old.disk) (IsReady self.old.area self.old.end) }
-        requires fits { Fits payload.now self.old }
+        requires { Fits payload.now self.old }
         ensures does { Goes (D.told self.old.disk) (D.told self.new.disk)
             (Adds self.old.area (is_ok result) self.new.waits payload.now self.old.end) }
         ensures cause { HasCause (is_err result)
@@ -73,7 +85,6 @@ impl<D: Disk> Journal<D> {
     /// Closes the gate that a failed append may have left open, by a write and a sync. It makes no
     /// device call where nothing waits.
     pub fn mend(&mut self) -> Result<(), DiskFault>
-        requires { ForSome (D.told self.old.disk) (IsStanding self.old.area self.old.end) }
         ensures does { self.old.waits ≡ true → Goes (D.told self.old.disk) (D.told self.new.disk)
             (Closes self.old.area (is_ok result) self.old.end) }
         ensures cause { HasCause (is_err result)
