@@ -38,7 +38,12 @@ impl<D: Disk> Model for Journal<D> {
     ghost Value = { View D };
 
     ghost view = { λ j. record {
-        disk = j.disk; area = j.area; end = j.end; frames = j.frames; waits = j.waits } };
+      disk = j.disk;
+      area = j.area;
+      end = j.end;
+      frames = j.frames;
+      waits = j.waits;
+    } };
 
     ghost invariant = { λ j. ForSome (D.told j.disk) (IsKept j.area j.end j.frames j.waits) };
 }
@@ -131,7 +136,13 @@ impl<D: Disk> Journal<D> {
     pub fn into_disk(self) -> D
         ensures { result ≡ self.disk }
     {
-        let Journal { disk, area: _, end: _, frames: _, waits: _ } = self;
+        let Journal {
+            disk,
+            area: _,
+            end: _,
+            frames: _,
+            waits: _,
+        } = self;
         disk
     }
 }

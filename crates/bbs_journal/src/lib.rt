@@ -9,3 +9,5 @@ mod synced;
 pub use fault::DiskFault;
 pub use journal::Journal;
 
+#[cfg(test)]
+mod tests;

@@ -13,8 +13,8 @@ pub invariant_of-self : goal.invariant_of-self
 invariant_of-self g c =
     let mended : c.self.inside.waits ≡ false = waits_inside _ _ _ c.self.view_is c.requires.mended in
     rw mended (
-      kept_refused _ _ _ c.args.payload.now _ _ (refused _ _ _ _ _ _ c.put_body-len.ensures.bytes c.requires.payload c.in_err-write_synced.ensures.does)
-      (rw mended at c.self.invariant)
+    kept_refused _ _ _ c.args.payload.now _ _ (refused _ _ _ _ _ _ c.put_body-len.ensures.bytes c.requires.payload c.in_err-write_synced.ensures.does)
+    (rw mended at c.self.invariant)
     )
 
 pub returns-in_err-write_synced-clause-does : goal.returns-in_err-write_synced-clause-does
@@ -40,8 +40,8 @@ invariant_of-self-2 g c =
     let mended : c.self.inside.waits ≡ false = waits_inside _ _ _ c.self.view_is c.requires.mended in
     let end : c.self.inside.end + c.put_body-len.result ≡ c.self.inside.end + 3 + length c.args.payload.now = omega (arith, c.put_body-len.ensures.len) in
     rw end (
-      kept_done _ _ _ c.args.payload.now _ _ (opened _ _ _ _ true _ _ _ c.put_body-len.ensures.bytes c.requires.payload c.in_ok-write_synced.ensures.does c.in_ok-write_synced-2.ensures.does)
-      (rw mended at c.self.invariant)
+    kept_done _ _ _ c.args.payload.now _ _ (opened _ _ _ _ true _ _ _ c.put_body-len.ensures.bytes c.requires.payload c.in_ok-write_synced.ensures.does c.in_ok-write_synced-2.ensures.does)
+    (rw mended at c.self.invariant)
     )
 
 pub returns-clause-does : goal.returns-clause-does
