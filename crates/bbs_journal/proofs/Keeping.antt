@@ -1,10 +1,11 @@
 -- What a journal knows of its area goes on being so.
 use Rattle.std.specs.Prelude.{not}
-use Rattle.std.proofs.Common.{◌≡◌, ℕ, ◌+◌, ◌≤◌, Bool, true, false, Option, Some, None, List, [], ◌∷◌, ◌++◌, length, is_some, refl, ap, ◌∙◌, arith, length-append}
+use Rattle.std.proofs.lemmas.Bool.Decides.{leb_tells}
+use Rattle.std.proofs.Common.{inl, inr, ◌-◌, ◌^◌, ◌≡◌, ℕ, ◌+◌, ◌≤◌, Bool, true, false, Option, Some, None, List, [], ◌∷◌, ◌++◌, length, is_some, refl, ap, ◌∙◌, arith, length-append}
 use Rattle.std.specs.Option.{ForSome}
 use Rattle.disk_trait.specs.Held.{Held}
 use Rattle.disk_trait.specs.Past.{Past, now, content}
-use Rattle.disk_trait.specs.Steps.{Goes}
+use Rattle.disk_trait.specs.Steps.{Goes, Ticks}
 use Rattle.disk_trait.proofs.Told.{goes_back}
 use Rattle.disk_trait.proofs.Ranges.{length_overwritten}
 use Rattle.disk_trait.proofs.Steps.{wrote_content, synced_content}
@@ -116,3 +117,14 @@ kept_mended t0 t1 area ok end frames goes holds =
 -- what is so of a value is so of the fields that it shows
 pub waits_inside : {D : Type 0} (inside value : View D) (waits : Bool) → inside ≡ value → value.waits ≡ waits → inside.waits ≡ waits
 waits_inside {D = D} inside value waits is here = ap (λ (v : View D). v.waits) is ∙ here
+
+-- the moments of two calls that were both made
+pub two_calls : (ok : Bool) (a b c : ℕ) → Ticks true a b → Ticks ok b c → ok ≡ true → c ≡ a + 2
+two_calls true a b c first second is = elim (leb_tells (2 ^ 64 - 1) a) [
+  | inl late ↦ absurd (let f : true ≡ false = first.fails late.1 in cc)
+  | inr early ↦ elim (leb_tells (2 ^ 64 - 1) b) [
+    | inl late ↦ absurd (let f : true ≡ false = second.fails late.1 in cc)
+    | inr soon ↦ omega (arith, first.goes (omega (arith, early.1)), second.goes (omega (arith, soon.1)))
+  ]
+]
+two_calls false a b c first second is = absurd (cc)

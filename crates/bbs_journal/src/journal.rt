@@ -71,6 +71,8 @@ impl<D: Disk> Journal<D> {
         requires { Fits payload.now self.old }
         ensures does { Goes (D.told self.old.disk) (D.told self.new.disk)
             (Adds self.old.area (is_ok result) self.new.waits payload.now self.old.end) }
+        ensures calls { is_ok result ≡ true →
+            D.moment self.new.disk ≡ D.moment self.old.disk + 4 }
         ensures cause { HasCause (is_err result)
             (D.fault_count self.old.disk) (D.fault_count self.new.disk) }
         ensures grows { Grows (is_ok result) (length payload.now) self.old self.new }
@@ -94,6 +96,8 @@ impl<D: Disk> Journal<D> {
             (Closes self.old.area (is_ok result) self.old.end) }
         ensures cause { HasCause (is_err result)
             (D.fault_count self.old.disk) (D.fault_count self.new.disk) }
+        ensures calls { self.old.waits ≡ true → is_ok result ≡ true →
+            D.moment self.new.disk ≡ D.moment self.old.disk + 2 }
         ensures settles { Settles (is_ok result) self.old self.new }
     {
         if !self.waits {

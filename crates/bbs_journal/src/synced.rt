@@ -1,5 +1,5 @@
 //! One write that is on the disk before the next call.
-ghost use Rattle.std.specs.Prelude.{◌≤◌, length, is_ok, is_err};
+ghost use Rattle.std.specs.Prelude.{◌≡◌, ◌+◌, ◌≤◌, true, length, is_ok, is_err};
 ghost use Rattle.std.specs.Option.{ForSome};
 ghost use Rattle.byte_ports.specs.Cause.{HasCause};
 ghost use Rattle.disk_trait.specs.Past.{content};
@@ -19,6 +19,7 @@ pub(crate) fn write_synced<D: Disk>(
     requires { ForSome (D.told disk.old) (λ p. at ≤ length (content p area)) }
     ensures does { Goes (D.told disk.old) (D.told disk.new)
         (WritesSynced (is_ok result) area at bytes.now) }
+    ensures calls { is_ok result ≡ true → D.moment disk.new ≡ D.moment disk.old + 2 }
     ensures cause { HasCause (is_err result) (D.fault_count disk.old) (D.fault_count disk.new) }
 {
     disk.write_at(area, at, bytes)?;
