@@ -1,4 +1,6 @@
 mod Bytes
 mod Frames
-mod Laws
+mod Turning
 mod Keeping
+mod Resuming
+mod Unique

@@ -48,3 +48,7 @@ pub record Waits (head : List ℕ) (payloads : List (List ℕ)) (payload : List 
 abbrev pub Stands : List ℕ → List (List ℕ) → Option (List ℕ) → ℕ → Held → Type 0
 Stands head payloads None end held = Ready head payloads end held
 Stands head payloads (Some payload) end held = Waits head payloads payload end held
+
+-- bytes behind one head are an area of one list of payloads
+abbrev pub AreOne : Type 0
+AreOne = (head bytes : List ℕ) (a b : List (List ℕ)) → IsArea head a bytes → IsArea head b bytes → a ≡ b

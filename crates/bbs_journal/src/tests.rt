@@ -125,3 +125,24 @@ fn a_mend_that_fails_leaves_the_gate_to_the_next(rt: HostRuntime) -> Result<(), 
     }
     Ok(())
 }
+
+// The open header gate, the magic, version 1, generation 1, and the length of a head of 24 bytes.
+const HEADER: [u8; 23] = [
+    0x01, 0x44, 0x49, 0x45, 0x47, 0x4f, 0x42, 0x42, 0x53, 0, 1, 0, 0, 0, 0, 0, 0, 0, 1, 0, 0, 0,
+    0x18,
+];
+
+#[test]
+fn two_empty_areas_are_prepared_once(rt: HostRuntime) -> Result<(), Fail> {
+    let alloc = rt.alloc();
+    let mut disk = MemoryDisk::new(alloc, Vec::new(alloc), Vec::new(alloc), [8].to_vec(alloc)?);
+    assert_eq!(rt; prepare(&mut disk), Ok(()));
+    assert_eq!(rt; disk.bytes(Area::A).len(), 48);
+    assert!(rt; disk.bytes(Area::A).starts_with(&HEADER));
+    assert!(rt; disk.bytes(Area::A).ends_with(&[0; 25]));
+    assert!(rt; disk.bytes(Area::B).is_empty());
+    assert_eq!(rt; prepare(&mut disk), Err(PrepareFault::NotEmpty));
+    assert_eq!(rt; prepare(&mut disk), Err(PrepareFault::Disk));
+    assert_eq!(rt; disk.faults(), 1);
+    Ok(())
+}

@@ -1,5 +1,5 @@
 use Rattle.bbs_journal.proofs.Keeping.{two_calls}
-use Rattle.bbs_journal.proofs.Laws.{write_made}
+use Rattle.bbs_journal.proofs.Turning.{write_made}
 use Rattle.bbs_journal.proofs.synced.write_synced.Goals as goal
 
 pub returns-clause-does : goal.returns-clause-does

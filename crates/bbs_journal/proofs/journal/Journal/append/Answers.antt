@@ -1,6 +1,6 @@
 use Rattle.std.proofs.Common.{◌≡◌, ◌+◌, true, false, is_ok, length, rules, arith}
 use Rattle.bbs_journal.proofs.Keeping.{room, room_on, kept_done, kept_refused, kept_in_doubt, waits_inside}
-use Rattle.bbs_journal.proofs.Laws.{refused, opened}
+use Rattle.bbs_journal.proofs.Turning.{refused, opened}
 use Rattle.bbs_journal.proofs.journal.Journal.append.Goals as goal
 
 pub write_synced-requires : goal.write_synced-requires
