@@ -1,7 +1,7 @@
 -- What torn ranges and writes leave of bytes that begin so.
 use Rattle.std.proofs.Common.{◌≡◌, ℕ, suc, ◌+◌, ◌<◌, ◌≤◌, List, [], ◌∷◌, ◌++◌, length, take, drop, get_or, refl, sym, ap, ◌∙◌, arith, append_assoc, length-append, take_at, drop_at, take-append-drop, drop-cons}
 use Rattle.std.proofs.lemmas.List.{take-take}
-use Rattle.disk_trait.specs.Held.{Range, Torn}
+use Rattle.disk_trait.specs.Held.{Range}
 use Rattle.disk_trait.specs.Steps.{overwritten}
 use Rattle.disk_trait.proofs.Steps.{Bears}
 use Rattle.bbs_journal.specs.Areas.{Begins, Staged}

@@ -2,8 +2,8 @@
 use Rattle.std.proofs.Common.{◌≡◌, ℕ, zero, suc, ◌+◌, ◌<◌, List, [], ◌∷◌, ◌++◌, length, refl, sym, ap, ◌∙◌, arith, inl, inr, append_assoc, append-nil, length-append}
 use Rattle.std.specs.Int.{w16}
 use Rattle.wire_fields.proofs.Lengths.{length-field_number}
-use Rattle.bbs_journal.specs.Frames.{IsPayload, IsFrame, spelled, Whole}
-use Rattle.bbs_journal.specs.Areas.{Begins, Staged, IsArea, BeforeOrAfter, body_of}
+use Rattle.bbs_journal.specs.Frames.{IsPayload, spelled, Whole}
+use Rattle.bbs_journal.specs.Areas.{Begins, Staged, BeforeOrAfter, body_of}
 
 pub length-spelled : (payload : List ℕ) → length (spelled payload) ≡ 2 + length payload
 length-spelled payload = omega (arith, length-append {A = ℕ}, length-field_number w16 (length payload))

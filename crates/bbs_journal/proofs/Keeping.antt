@@ -10,7 +10,7 @@ use Rattle.disk_trait.proofs.Told.{goes_back}
 use Rattle.disk_trait.proofs.Ranges.{length_overwritten}
 use Rattle.disk_trait.proofs.Steps.{wrote_content, synced_content}
 use Rattle.disk_trait.specs.declared.area.Area.{Area}
-use Rattle.bbs_journal.specs.Areas.{Ready, Waits, Stands, body_of}
+use Rattle.bbs_journal.specs.Areas.{Ready, Stands, body_of}
 use Rattle.bbs_journal.specs.Calls.{WritesSynced, Adds, Closes}
 use Rattle.bbs_journal.specs.View.{View, IsKept}
 use Rattle.bbs_journal.proofs.Bytes.{begins_length, staged_length}

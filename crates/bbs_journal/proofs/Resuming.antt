@@ -1,5 +1,5 @@
 -- Why a journal may be resumed on what was prepared.
-use Rattle.std.proofs.Common.{◌≡◌, false, None, List, [], ◌∷◌, ◌++◌, refl}
+use Rattle.std.proofs.Common.{None, [], ◌∷◌, ◌++◌, refl}
 use Rattle.disk_trait.proofs.Steps.{settled_has}
 use Rattle.disk_trait.specs.Past.{now}
 use Rattle.disk_trait.specs.declared.area.Area.TheVariants.{A}

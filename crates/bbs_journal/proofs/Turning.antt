@@ -1,7 +1,7 @@
 -- A write and its sync are a turn; two turns are an append, and one is a mend.
 use Rattle.std.specs.Prelude.{not}
-use Rattle.std.proofs.Common.{◌≡◌, ◌⊎◌, inl, inr, ℕ, ◌+◌, ◌≤◌, Bool, true, false, Option, Some, None, List, [], ◌∷◌, ◌++◌, length, refl, sym, ap, ◌∙◌, subst, arith, length-append}
-use Rattle.disk_trait.specs.Held.{Held, Has}
+use Rattle.std.proofs.Common.{◌≡◌, inl, inr, ℕ, ◌+◌, ◌≤◌, Bool, true, false, Option, List, [], ◌∷◌, ◌++◌, length, refl, subst, arith, length-append}
+use Rattle.disk_trait.specs.Held.{Has}
 use Rattle.disk_trait.specs.Past.{Past, now, content}
 use Rattle.disk_trait.specs.Runs.{Runs, Turns}
 use Rattle.disk_trait.specs.Steps.{Goes, Changes, Wrote, Synced, range_of, overwritten}
@@ -9,7 +9,7 @@ use Rattle.disk_trait.proofs.Steps.{Bears, write_fails, write_syncs, runs_then, 
 use Rattle.disk_trait.proofs.Told.{goes_then, goes_weaker}
 use Rattle.disk_trait.specs.declared.area.Area.{Area}
 use Rattle.bbs_journal.specs.Frames.{IsPayload, spelled, Whole}
-use Rattle.bbs_journal.specs.Areas.{Begins, Staged, IsArea, BeforeOrAfter, Ready, Waits, Stands, body_of}
+use Rattle.bbs_journal.specs.Areas.{Begins, Staged, BeforeOrAfter, Ready, Waits, body_of}
 use Rattle.bbs_journal.specs.Calls.{WritesSynced, Appends, Adds, Mends, Closes}
 use Rattle.bbs_journal.proofs.Bytes.{begins_length, bears_begins, staged_length, staged_of, bears_staged, body_written, gate_written}
 use Rattle.bbs_journal.proofs.Frames.{whole_more, framed, closed, before_or_after, place_more}

@@ -1,6 +1,6 @@
 -- An area of frames, and how it stands between two calls: what a read gives of it and whatever a stop
 -- may leave. The head is all bytes in front of the frames.
-use Rattle.std.specs.Prelude.{◌≡◌, ◌⊎◌, ℕ, ◌+◌, Option, Some, None, List, [], ◌∷◌, ◌++◌, length}
+use Rattle.std.specs.Prelude.{◌≡◌, ◌⊎◌, ℕ, Option, Some, None, List, [], ◌∷◌, ◌++◌, length}
 use Rattle.disk_trait.specs.Held.{Held, Has}
 use Rattle.bbs_journal.specs.Frames.{IsPayload, spelled, Whole}
 

@@ -1,4 +1,4 @@
-use Rattle.std.proofs.Common.{◌≡◌, ◌∙◌, ℕ, ◌+◌, List, [], ◌∷◌, ◌++◌, length, take, drop, refl, ap, arith, take_at}
+use Rattle.std.proofs.Common.{◌≡◌, ◌∙◌, ℕ, ◌+◌, List, ◌++◌, length, take, drop, refl, ap, arith, take_at}
 use Rattle.std.specs.Int.{w8, w16}
 use Rattle.wire_fields.specs.Field.{field_number, written, Puts}
 use Rattle.wire_fields.proofs.Lengths.{length-field_number}

@@ -1,4 +1,4 @@
-use Rattle.std.proofs.Common.{◌≡◌, ◌∙◌, false, Option, Some, None, List, [], ◌∷◌, ◌++◌, ℕ, refl, subst, rules}
+use Rattle.std.proofs.Common.{◌≡◌, ◌∙◌, false, None, List, [], ◌∷◌, ◌++◌, ℕ, refl, subst, rules}
 use Rattle.disk_trait.proofs.Steps.{settled_has}
 use Rattle.disk_trait.specs.Past.{Past, now, content, IsSettled}
 use Rattle.disk_trait.specs.Memory.{memory_past}

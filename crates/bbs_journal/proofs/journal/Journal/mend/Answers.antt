@@ -1,4 +1,4 @@
-use Rattle.std.proofs.Common.{◌≡◌, ◌+◌, ◌≤◌, true, false, is_ok, length, rules, arith}
+use Rattle.std.proofs.Common.{◌≡◌, true, false, is_ok, rules, arith}
 use Rattle.bbs_journal.proofs.Keeping.{room, kept_mended}
 use Rattle.bbs_journal.proofs.Turning.{mended}
 use Rattle.bbs_journal.proofs.journal.Journal.mend.Goals as goal
