@@ -1,0 +1,6 @@
+mod Bytes
+mod Frames
+mod Turning
+mod Keeping
+mod Resuming
+mod Unique

@@ -1,0 +1,69 @@
+-- What the calls of a journal do to what a disk tells.
+use Rattle.std.specs.Prelude.{◌≡◌, ◌⊎◌, ℕ, ◌+◌, ◌<◌, ◌^◌, Bool, true, false, Option, Some, None, List, [], ◌∷◌, ◌++◌, length, if◌then◌else◌}
+use Rattle.disk_trait.specs.Held.{Held}
+use Rattle.disk_trait.specs.Past.{Past, now}
+use Rattle.disk_trait.specs.Runs.{Runs}
+use Rattle.disk_trait.specs.Steps.{Changes, Wrote, Synced}
+use Rattle.disk_trait.specs.declared.area.Area.{Area}
+use Rattle.bbs_journal.specs.Frames.{IsPayload}
+use Rattle.bbs_journal.specs.Areas.{BeforeOrAfter, Ready, Waits, Stands}
+use Rattle.bbs_journal.specs.View.{View}
+
+-- what an append asks: a payload, nothing in doubt, and room for one more frame
+pub record Fits {D : Type 0} (bytes : List ℕ) (journal : View D) : Type 0 where
+  pub payload : IsPayload bytes
+  pub mended : journal.waits ≡ false
+  pub frames : journal.frames < 2 ^ 48
+  pub end : journal.end < 2 ^ 63
+
+-- a write and then a sync; it failed where one of them did
+abbrev pub WritesSynced : Bool → Area → ℕ → List ℕ → Past → Past → Type 0
+WritesSynced true area at bytes p q = (r : Past) × Changes area (Wrote true at bytes) p r × Changes area (Synced true) r q
+WritesSynced false area at bytes p q =
+    Changes area (Wrote false at bytes) p q ⊎ ((r : Past) × Changes area (Wrote true at bytes) p r × Changes area (Synced false) r q)
+
+-- how an append leaves the area: acknowledged, refused with no trace, or in doubt
+abbrev pub Appended : Bool → Bool → List ℕ → List (List ℕ) → List ℕ → ℕ → Held → Type 0
+Appended true waits head payloads payload end held = Ready head (payloads ++ payload ∷ []) (end + 3 + length payload) held
+Appended false false head payloads payload end held = Ready head payloads end held
+Appended false true head payloads payload end held = Waits head payloads payload end held
+
+-- an append to an area that holds these payloads, and what a stop leaves during it and after it
+pub record Appends (area : Area) (ok waits : Bool) (head : List ℕ) (payloads : List (List ℕ)) (payload : List ℕ) (end : ℕ) (p q : Past) : Type 0 where
+  pub runs : Runs area (BeforeOrAfter head payloads payload) p q
+  pub leaves : Appended ok waits head payloads payload end (now q area)
+
+-- whatever the area holds, this payload is appended to it
+abbrev pub Adds : Area → Bool → Bool → List ℕ → ℕ → Past → Past → Type 0
+Adds area ok waits payload end p q =
+    (head : List ℕ) (payloads : List (List ℕ)) → Ready head payloads end (now p area) → Appends area ok waits head payloads payload end p q
+
+-- the doubt that is left after a mend
+abbrev pub left_of : Bool → List ℕ → Option (List ℕ)
+left_of ok payload = if ok then None else Some payload
+
+-- closing a gate in doubt, and what a stop leaves during it and after it
+pub record Mends (area : Area) (ok : Bool) (head : List ℕ) (payloads : List (List ℕ)) (payload : List ℕ) (end : ℕ) (p q : Past) : Type 0 where
+  pub runs : Runs area (BeforeOrAfter head payloads payload) p q
+  pub leaves : Stands head payloads (left_of ok payload) end (now q area)
+
+-- whatever payload is in doubt, its gate is closed
+abbrev pub Closes : Area → Bool → ℕ → Past → Past → Type 0
+Closes area ok end p q =
+    (head : List ℕ) (payloads : List (List ℕ)) (payload : List ℕ) → Waits head payloads payload end (now p area) → Mends area ok head payloads payload end p q
+
+-- what a journal knows by itself after a payload of this length: where its area ends, and that only
+-- a failed append leaves something to mend
+pub record Grows {D : Type 0} (ok : Bool) (len : ℕ) (old new : View D) : Type 0 where
+  pub area : new.area ≡ old.area
+  pub end : new.end ≡ (if ok then old.end + 3 + len else old.end)
+  pub frames : new.frames ≡ (if ok then old.frames + 1 else old.frames)
+  pub waits : ok ≡ true → new.waits ≡ false
+
+-- after a mend nothing waits, and after one that failed what waited waits still; all else is as it was
+pub record Settles {D : Type 0} (ok : Bool) (old new : View D) : Type 0 where
+  pub area : new.area ≡ old.area
+  pub end : new.end ≡ old.end
+  pub frames : new.frames ≡ old.frames
+  pub waits : new.waits ≡ (if ok then false else true)
+  pub idle : old.waits ≡ false → (ok ≡ true) × (new ≡ old)
