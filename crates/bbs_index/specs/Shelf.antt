@@ -1,0 +1,25 @@
+-- What a map from keys to rows holds, read as the table of its rows.
+use Rattle.std.specs.Prelude.{◌≡◌, ℕ, ◌<◌, Bool, List, [], ◌∷◌, map, length, Option, Some, None}
+use Rattle.std.specs.declared.cmp.Ordering.{Ordering}
+use Rattle.std.specs.FinMap.Entries.{put}
+use Rattle.std.specs.Map.{lookup}
+
+module _ {K X : Type 0} (R : K → K → Ordering) where
+  -- the entries in the order of their keys
+  abbrev pub in_order : List (K × X) → List (K × X)
+  in_order [] = []
+  in_order (e ∷ es) = put R e.0 e.1 (in_order es)
+
+  -- the rows in the order of the keys that they stand under
+  abbrev pub table_of : List (K × X) → List X
+  table_of es = map (λ e. e.1) (in_order es)
+
+-- the entries are a shelf: each row stands under its own key, and each entry is a row of the table
+pub record IsShelf {K X : Type 0} (R : K → K → Ordering) (eq : K → K → Bool) (key : X → K) (es : List (K × X)) : Type 0 where
+  pub at_key : (q : K) (x : X) → lookup (eq q) es ≡ Some x → key x ≡ q
+  pub once : length (table_of R es) ≡ length es
+
+-- a row takes no room where one stands at its key already, and else one place
+abbrev pub HasRoom : {X : Type 0} → Option X → ℕ → Type 0
+HasRoom None spare = 0 < spare
+HasRoom (Some known) spare = Unit {0}

@@ -1,0 +1,9 @@
+//! Rows of one kind, kept by their keys in a map and read as a table.
+#![tactic(auto)]
+
+mod entries;
+mod rowed;
+mod shelf;
+
+pub use rowed::Rowed;
+pub use shelf::Shelf;

@@ -1,0 +1,84 @@
+//! A shelf is a map from each row's key to the row, and contracts see it as the table of its rows.
+
+ghost use Rattle.std.specs.Prelude.{◌≡◌, ℕ, ◌+◌, ◌≤◌, [], length, is_some, if◌then◌else◌, IsOk, OnOk};
+ghost use Rattle.row_tables.specs.Table.{find_row, put_row, without_row};
+ghost use Rattle.bbs_index.specs.Shelf.{HasRoom};
+
+use crate::Rowed;
+use crate::entries::put_entry;
+use indexmap::IndexMap;
+use std::alloc::{AllocError, Global};
+use std::marker::Model;
+
+/// Rows of one kind, each under its own key. Every look-up, put and removal is a constant number
+/// of map operations. A clause sees the table of the rows, in the order of their keys, and the
+/// spare room: how many rows with new keys fit without memory.
+#[derive(Drop)]
+pub struct Shelf<X: Rowed> {
+    map: IndexMap<X::Key, X>,
+}
+
+impl<X: Rowed> Model for Shelf<X> {
+    ghost use Rattle.std.specs.Prelude.{List, ℕ};
+    ghost use Rattle.indexmap.specs.IndexMap.{spare};
+
+    ghost Value = { List X × ℕ };
+
+    ghost use Rattle.bbs_index.specs.Shelf.{table_of, IsShelf};
+
+    ghost view = { λ a. (table_of X.Key.cmp a.map.entries, spare a.map) };
+
+    ghost invariant = { λ a. IsShelf X.Key.cmp X.Key.eq X.key a.map.entries };
+}
+
+impl<X: Rowed> Shelf<X> {
+    /// A shelf without rows. It takes no memory.
+    pub fn new(alloc: Global) -> Self
+        ensures empty { result.0 ≡ [] }
+    {
+        Shelf {
+            map: IndexMap::new(alloc),
+        }
+    }
+
+    /// How many rows there are.
+    pub fn len(&self) -> usize
+        ensures { result ≡ length self.now.0 }
+    {
+        self.map.len()
+    }
+
+    /// The row at the key.
+    pub fn get(&self, key: &X::Key) -> Option<X>
+        ensures { result ≡ find_row X.Key.cmp X.key key.now self.now.0 }
+    {
+        self.map.get(key).copied()
+    }
+
+    /// Makes room for `n` more rows with new keys. It fails only for want of memory.
+    pub fn reserve(&mut self, n: usize) -> Result<(), AllocError>
+        ensures rows { self.new.0 ≡ self.old.0 }
+        ensures room { OnOk result (n ≤ self.new.1) }
+        ensures succeeds { n ≤ self.old.1 → IsOk result }
+        ensures kept { self.old.1 ≤ self.new.1 }
+    {
+        self.map.reserve(n)
+    }
+
+    /// Puts the row in the place of the one at its key, if there is one. It takes no memory.
+    pub fn put(&mut self, row: X)
+        requires { HasRoom (find_row X.Key.cmp X.key (X.key row) self.old.0) self.old.1 }
+        ensures rows { self.new.0 ≡ put_row X.Key.cmp X.key row self.old.0 }
+        ensures spare { self.old.1 ≤ self.new.1 + (if is_some (find_row X.Key.cmp X.key (X.key row) self.old.0) then 0 else 1) }
+    {
+        put_entry(&mut self.map, row);
+    }
+
+    /// Takes the row at the key away, if there is one.
+    pub fn remove(&mut self, key: &X::Key)
+        ensures rows { self.new.0 ≡ without_row X.Key.cmp X.key key.now self.old.0 }
+        ensures spare { self.old.1 ≤ self.new.1 }
+    {
+        let _ = self.map.swap_remove(key);
+    }
+}
