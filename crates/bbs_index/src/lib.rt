@@ -4,6 +4,7 @@
 mod entries;
 mod rowed;
 mod shelf;
+mod sorted;
 
 pub use rowed::Rowed;
 pub use shelf::Shelf;

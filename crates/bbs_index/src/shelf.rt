@@ -1,11 +1,12 @@
 //! A shelf is a map from each row's key to the row, and contracts see it as the table of its rows.
 
-ghost use Rattle.std.specs.Prelude.{◌≡◌, ℕ, ◌+◌, ◌≤◌, [], length, is_some, if◌then◌else◌, IsOk, OnOk};
+ghost use Rattle.std.specs.Prelude.{◌≡◌, ℕ, ◌+◌, ◌≤◌, [], length, is_some, if◌then◌else◌, IsOk, IfOk, OnOk};
 ghost use Rattle.row_tables.specs.Table.{find_row, put_row, without_row};
 ghost use Rattle.bbs_index.specs.Shelf.{HasRoom};
 
 use crate::Rowed;
 use crate::entries::put_entry;
+use crate::sorted::sorted_entries;
 use indexmap::IndexMap;
 use std::alloc::{AllocError, Global};
 use std::marker::Model;
@@ -80,5 +81,12 @@ impl<X: Rowed> Shelf<X> {
         ensures spare { self.old.1 ≤ self.new.1 }
     {
         let _ = self.map.swap_remove(key);
+    }
+
+    /// The rows in the order of their keys. It fails only for want of memory.
+    pub fn rows(&self, alloc: Global) -> Result<Vec<X>, AllocError>
+        ensures { IfOk result (λ rows. rows.items ≡ self.now.0) }
+    {
+        sorted_entries(alloc, &self.map)?.into_values().collect(alloc)
     }
 }
