@@ -2,6 +2,7 @@
 #![tactic(auto)]
 
 mod entries;
+mod lrp_rows;
 mod rowed;
 mod shelf;
 mod sorted;

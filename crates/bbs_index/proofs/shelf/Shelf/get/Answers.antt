@@ -7,4 +7,4 @@ pub returns : goal.returns
 returns g c =
     let found = find_row-table_of g.met.X.Rowed.ordered g.met.X.Key.Ord.matches_eq c.self.invariant c.args.key.now in
     c.copied.ensures ∙ c.get.ensures.value ∙ sym found
-    ∙ ap (λ v. find_row g.X.Key.Ord.cmp g.X.Rowed.key c.args.key.now v.0) c.self.view_is
+    ∙ ap (λ v. find_row g.X.Key.Ord.cmp g.X.Rowed.key c.args.key.now v.rows) c.self.view_is

@@ -11,4 +11,4 @@ invariant_of-self g c =
 pub returns-clause-rows : goal.returns-clause-rows
 returns-clause-rows g c =
     table_of-remove g.met.X.Rowed.ordered g.met.X.Key.Ord.matches_eq c.self.invariant c.args.key.now c.swap_remove.new.self.entries c.swap_remove.ensures.updates.0
-    ∙ ap (λ v. without_row g.X.Key.Ord.cmp g.X.Rowed.key c.args.key.now v.0) c.self.view_is
+    ∙ ap (λ v. without_row g.X.Key.Ord.cmp g.X.Rowed.key c.args.key.now v.rows) c.self.view_is
