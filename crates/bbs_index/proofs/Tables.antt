@@ -1,5 +1,5 @@
 -- What the table of a map's entries answers, and what a put and a removal in the map do to it.
-use Rattle.std.proofs.Common.{◌≡◌, ℕ, ◌+◌, Bool, true, false, cond, if◌then◌else◌, T, List, [], ◌∷◌, map, length, Option, Some, None, is_some, refl, sym, ap, subst, ◌∙◌, arith}
+use Rattle.std.proofs.Common.{◌≡◌, ◌+◌, Bool, true, false, cond, if◌then◌else◌, T, List, [], ◌∷◌, map, length, Option, Some, None, is_some, refl, sym, ap, subst, ◌∙◌, arith}
 use Rattle.std.specs.declared.cmp.Ordering.{Ordering}
 use Rattle.std.specs.Cmp.{eq_by_cmp_equiv}
 use Rattle.std.specs.FinMap.Entries.{find, is_sorted, below_all, is_sorted-put, find-put}
@@ -32,12 +32,12 @@ module _ {K X : Type 0} (R : K → K → Ordering) (o : IsKeyOrder R) where
         let first : key e.1 ≡ e.0 = at e.0 e.1 (ap (λ b. cond b (Some e.1) (find R e.0 es)) (ties_itself R o e.0)) in
         let below = first_of_both (below_all R e.0 es) (is_sorted R es) h in
         let later : (q : K) (x : X) → find R q es ≡ Some x → key x ≡ q = λ q x is.
-            elim (eq_by_cmp R q e.0) as (λ b. eq_by_cmp R q e.0 ≡ b → key x ≡ q) [
-              | true ↦ λ t.
-                  let none : find R q es ≡ None = subst (λ k. find R k es ≡ None) (sym (same_from_tie R o q e.0 t)) (find-below_all e.0 es below) in
-                  absurd (subst T (ap is_some (sym is ∙ none)) tt)
-              | false ↦ λ t. at q x (ap (λ b. cond b (Some e.1) (find R q es)) t ∙ is)
-            ] refl in
+        elim (eq_by_cmp R q e.0) as (λ b. eq_by_cmp R q e.0 ≡ b → key x ≡ q) [
+          | true ↦ λ t.
+              let none : find R q es ≡ None = subst (λ k. find R k es ≡ None) (sym (same_from_tie R o q e.0 t)) (find-below_all e.0 es below) in
+              absurd (subst T (ap is_some (sym is ∙ none)) tt)
+          | false ↦ λ t. at q x (ap (λ b. cond b (Some e.1) (find R q es)) t ∙ is)
+        ] refl in
         λ i. (first i, e.1) ∷ rekeyed es (second_of_both (below_all R e.0 es) (is_sorted R es) h) later i
 
 -- a test of two keys answers as their order does, the other way round
@@ -89,7 +89,7 @@ module _ {K X : Type 0} {R : K → K → Ordering} (o : IsKeyOrder R) {eq : K �
       pub IsShelf-put : length fs ≡ length es + (if is_some (lookup (eq (key row)) es) then 0 else 1) → IsShelf R eq key fs
       IsShelf-put len =
           let counted = ap length table_of-put ∙ length-put_row R key o row (table_of R es) IsRising-table_of
-              ∙ ap (λ (s : Option X). cond (is_some s) (length (table_of R es)) (length (table_of R es) + 1)) (find_row-table_of (key row)) in
+          ∙ ap (λ (s : Option X). cond (is_some s) (length (table_of R es)) (length (table_of R es) + 1)) (find_row-table_of (key row)) in
           let once = shelf.once in
           record {
             at_key = at_key-put;
@@ -117,7 +117,7 @@ module _ {K X : Type 0} {R : K → K → Ordering} (o : IsKeyOrder R) {eq : K �
       pub IsShelf-remove : length fs + (if is_some (lookup (eq k) es) then 1 else 0) ≡ length es → IsShelf R eq key fs
       IsShelf-remove len =
           let counted : cond (is_some (lookup (eq k) es)) 1 0 + length (table_of R fs) ≡ length (table_of R es) =
-              (λ i. cond (is_some (sym (find_row-table_of k) i)) 1 0 + length (table_of-remove i)) ∙ length-without_row R key o k (table_of R es) IsRising-table_of in
+          (λ i. cond (is_some (sym (find_row-table_of k) i)) 1 0 + length (table_of-remove i)) ∙ length-without_row R key o k (table_of R es) IsRising-table_of in
           let once = shelf.once in
           record {
             at_key = at_key-remove;

@@ -9,3 +9,6 @@ mod sorted;
 
 pub use rowed::Rowed;
 pub use shelf::Shelf;
+
+#[cfg(test)]
+mod tests;

@@ -96,6 +96,8 @@ impl<X: Rowed> Shelf<X> {
         ensures table { IfOk result (λ rows. rows.items ≡ self.now.rows) }
         ensures rising { IsRising X.Key.cmp X.key self.now.rows }
     {
-        sorted_entries(alloc, &self.map)?.into_values().collect(alloc)
+        sorted_entries(alloc, &self.map)?
+            .into_values()
+            .collect(alloc)
     }
 }
