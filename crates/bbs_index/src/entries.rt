@@ -1,5 +1,5 @@
-//! The map under a shelf: what a put, a removal and a reserve do to its entries.
-ghost use Rattle.std.specs.Prelude.{◌≡◌, ◌+◌, ◌≤◌, Some, IsSome, is_some, if◌then◌else◌};
+//! The map under a shelf: what a put and a removal do to its entries.
+ghost use Rattle.std.specs.Prelude.{◌≡◌, ◌+◌, ◌≤◌, None, Some, IsSome, is_some, if◌then◌else◌};
 ghost use Rattle.indexmap.specs.IndexMap.{get, index_map_len, spare, Updates};
 ghost use Rattle.bbs_index.specs.Shelf.{HasRoom};
 
@@ -24,4 +24,14 @@ pub(crate) fn put_entry<X: Rowed>(map: &mut IndexMap<X::Key, X>, row: X)
         Ok(_) => {}
         Err(_) => unreachable!(),
     }
+}
+
+// Takes the entry at the key away, if there is one.
+pub(crate) fn remove_entry<X: Rowed>(map: &mut IndexMap<X::Key, X>, key: &X::Key)
+    ensures updates { Updates X.Key.eq map.old map.new key.now None }
+    ensures len { index_map_len map.new
+        + (if is_some (get X.Key.eq map.old key.now) then 1 else 0) ≡ index_map_len map.old }
+    ensures kept { spare map.old ≤ spare map.new }
+{
+    let _ = map.swap_remove(key);
 }

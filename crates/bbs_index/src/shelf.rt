@@ -5,7 +5,7 @@ ghost use Rattle.row_tables.specs.Table.{find_row, put_row, without_row, IsRisin
 ghost use Rattle.bbs_index.specs.Shelf.{HasRoom};
 
 use crate::Rowed;
-use crate::entries::put_entry;
+use crate::entries::{put_entry, remove_entry};
 use crate::sorted::sorted_entries;
 use indexmap::IndexMap;
 use std::alloc::{AllocError, Global};
@@ -88,7 +88,7 @@ impl<X: Rowed> Shelf<X> {
         ensures rows { self.new.rows ≡ without_row X.Key.cmp X.key key.now self.old.rows }
         ensures spare { self.old.spare ≤ self.new.spare }
     {
-        let _ = self.map.swap_remove(key);
+        remove_entry(&mut self.map, key);
     }
 
     /// The rows in the order of their keys. It fails only for want of memory.
