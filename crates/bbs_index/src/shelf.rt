@@ -1,0 +1,103 @@
+//! A shelf is a map from each row's key to the row, and contracts see it as the table of its rows.
+
+ghost use Rattle.std.specs.Prelude.{◌≡◌, ℕ, ◌+◌, ◌≤◌, [], length, IsSome, IsOk, IfOk, OnOk};
+ghost use Rattle.row_tables.specs.Table.{find_row, put_row, without_row, IsRising};
+ghost use Rattle.bbs_index.specs.Shelf.{HasRoom};
+
+use crate::Rowed;
+use crate::entries::{put_entry, remove_entry};
+use crate::sorted::sorted_entries;
+use indexmap::IndexMap;
+use std::alloc::{AllocError, Global};
+use std::marker::Model;
+
+/// Rows of one kind, each under its own key. Every look-up, put and removal is a constant number
+/// of map operations. A clause sees the table of the rows, in the order of their keys, and the
+/// spare room: how many rows with new keys fit without memory.
+#[derive(Drop)]
+pub struct Shelf<X: Rowed> {
+    map: IndexMap<X::Key, X>,
+}
+
+impl<X: Rowed> Model for Shelf<X> {
+    ghost use Rattle.indexmap.specs.IndexMap.{spare};
+    ghost use Rattle.bbs_index.specs.Shelf.{Stock, table_of, IsShelf};
+
+    ghost Value = { Stock X };
+
+    ghost view = { λ a. record { rows = table_of X.Key.cmp a.map.entries; spare = spare a.map } };
+
+    ghost invariant = { λ a. IsShelf X.Key.cmp X.Key.eq X.key a.map.entries };
+}
+
+impl<X: Rowed> Shelf<X> {
+    /// A shelf without rows. It takes no memory.
+    pub fn new(alloc: Global) -> Self
+        ensures empty { result.rows ≡ [] }
+    {
+        Shelf {
+            map: IndexMap::new(alloc),
+        }
+    }
+
+    /// How many rows there are.
+    pub fn len(&self) -> usize
+        ensures len { result ≡ length self.now.rows }
+        ensures rising { IsRising X.Key.cmp X.key self.now.rows }
+    {
+        self.map.len()
+    }
+
+    /// How many rows with new keys can be put before the next reserve.
+    pub fn spare(&self) -> usize
+        ensures { result ≡ self.now.spare }
+    {
+        self.map.capacity() - self.map.len()
+    }
+
+    /// The row at the key.
+    pub fn get(&self, key: &X::Key) -> Option<X>
+        ensures { result ≡ find_row X.Key.cmp X.key key.now self.now.rows }
+    {
+        self.map.get(key).copied()
+    }
+
+    /// Makes room for `n` more rows with new keys. It fails only for want of memory.
+    pub fn reserve(&mut self, n: usize) -> Result<(), AllocError>
+        ensures rows { self.new.rows ≡ self.old.rows }
+        ensures room { OnOk result (n ≤ self.new.spare) }
+        ensures succeeds { n ≤ self.old.spare → IsOk result }
+        ensures kept { self.old.spare ≤ self.new.spare }
+    {
+        self.map.reserve(n)
+    }
+
+    /// Puts the row in the place of the one at its key, if there is one. It takes no memory.
+    pub fn put(&mut self, row: X)
+        requires { HasRoom (find_row X.Key.cmp X.key (X.key row) self.old.rows) self.old.spare }
+        ensures rows { self.new.rows ≡ put_row X.Key.cmp X.key row self.old.rows }
+        ensures taken { self.old.spare ≤ self.new.spare + 1 }
+        ensures kept { IsSome (find_row X.Key.cmp X.key (X.key row) self.old.rows)
+            → self.old.spare ≤ self.new.spare }
+    {
+        put_entry(&mut self.map, row);
+    }
+
+    /// Takes the row at the key away, if there is one.
+    pub fn remove(&mut self, key: &X::Key)
+        ensures rows { self.new.rows ≡ without_row X.Key.cmp X.key key.now self.old.rows }
+        ensures spare { self.old.spare ≤ self.new.spare }
+    {
+        remove_entry(&mut self.map, key);
+    }
+
+    /// The rows in the order of their keys. It fails only for want of memory.
+    pub fn rows(&self, alloc: Global) -> Result<Vec<X>, AllocError>
+        ensures table { IfOk result (λ rows. rows.items ≡ self.now.rows) }
+        ensures rising { IsRising X.Key.cmp X.key self.now.rows }
+    {
+        sorted_entries(alloc, &self.map)?
+            .into_values()
+            .collect(alloc)
+    }
+}
