@@ -1,5 +1,5 @@
-//! A frame is a gate, a length and a payload. It counts where its gate is open and the gate is opened
-//! last: first the payload and the next closed gate are on the disk, and then the gate before them.
+//! A frame is a gate, a length and a payload. It counts where its gate is open, and the gate is
+//! opened last, when the payload and the next closed gate behind it are on the disk.
 ghost use Rattle.std.specs.Prelude.{◌≡◌, ◌<◌, ◌+◌, ◌^◌, false, true, length, is_ok, is_err};
 ghost use Rattle.std.specs.Option.{ForSome};
 ghost use Rattle.byte_ports.specs.Cause.{HasCause};
@@ -53,7 +53,13 @@ impl<D: Disk> Journal<D> {
     /// doubt: what a reader of the area found.
     pub fn resume(disk: D, area: Area, end: u64, frames: u64) -> Journal<D>
         requires { ForSome (D.told disk) (IsKept area end frames false) }
-        ensures { result ≡ record { disk = disk; area = area; end = end; frames = frames; waits = false } }
+        ensures { result ≡ record {
+          disk = disk;
+          area = area;
+          end = end;
+          frames = frames;
+          waits = false;
+        } }
     {
         Journal {
             disk,
@@ -65,8 +71,8 @@ impl<D: Disk> Journal<D> {
     }
 
     /// Adds a frame by four device calls, and takes no memory. At `Ok` the payload is acknowledged:
-    /// each later stop leaves it. At `DiskFault` it is refused, and after the next `mend` that succeeds
-    /// no stop leaves it.
+    /// each later stop leaves it. At `DiskFault` it is refused, and once a `mend` answers `Ok` no stop
+    /// leaves it.
     pub fn append(&mut self, payload: &[u8]) -> Result<(), DiskFault>
         requires { Fits payload.now self.old }
         ensures does { Goes (D.told self.old.disk) (D.told self.new.disk)

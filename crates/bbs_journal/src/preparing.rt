@@ -8,8 +8,8 @@ ghost use Rattle.bbs_journal.specs.declared.preparing.PrepareFault.TheVariants a
 use byte_ports::Failed;
 use disk_trait::{Area, Disk};
 
-/// An open header gate, the magic, version 1, generation 1, a head of 24 zero bytes (a board without
-/// rows), and a closed gate.
+/// An open header gate, the magic, version 1, generation 1, a head of 24 zero bytes (a board
+/// without rows), and a closed gate.
 const PREPARED: [u8; 48] = [
     1, b'D', b'I', b'E', b'G', b'O', b'B', b'B', b'S', 0, 1, 0, 0, 0, 0, 0, 0, 0, 1, 0, 0, 0, 24,
     0, 0, 0, 0, 0, 0, 0, 0, 0, 0, 0, 0, 0, 0, 0, 0, 0, 0, 0, 0, 0, 0, 0, 0, 0,
@@ -35,7 +35,8 @@ impl From<Failed> for PrepareFault {
 /// Makes a journal without frames of two empty areas, and syncs both. It takes no memory.
 pub fn prepare<D: Disk>(disk: &mut D) -> Result<(), PrepareFault>
     ensures does { Goes (D.told disk.old) (D.told disk.new) (PreparesBy result) }
-    ensures cause { HasCause (is_disk_fault result) (D.fault_count disk.old) (D.fault_count disk.new) }
+    ensures cause { HasCause (is_disk_fault result)
+        (D.fault_count disk.old) (D.fault_count disk.new) }
 {
     let a = disk.len(Area::A)?;
     let b = disk.len(Area::B)?;
