@@ -1,5 +1,15 @@
 pub mod Limits
+pub mod Tables
+pub mod Found
+pub mod Attempts
+pub mod Processes
+pub mod Lrps
+pub mod Tasks
+pub mod Cells
 pub mod Step
+pub mod Store
 pub mod Valid
+pub mod Replay
+pub mod Births
 pub mod Runs
 pub mod Laws

@@ -13,6 +13,18 @@ most_instances = 1000
 abbrev pub most_wanted : ℕ
 most_wanted = 50000
 
+-- the most actual rows, ORDINARY and EVACUATING
+abbrev pub most_actual : ℕ
+most_actual = 100000
+
+-- the most tasks
+abbrev pub most_tasks : ℕ
+most_tasks = 50000
+
+-- the most cells
+abbrev pub most_cells : ℕ
+most_cells = 1000
+
 -- the most transitions in a board's life
 abbrev pub most_transitions : ℕ
 most_transitions = 1000000

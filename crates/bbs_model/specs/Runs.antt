@@ -1,10 +1,11 @@
 -- What many commands, one after another, come to.
-use Rattle.std.specs.Prelude.{◌≡◌, ◌≤◌, ℕ, List, [], ◌∷◌, length, take}
+use Rattle.std.specs.Prelude.{◌≡◌, ◌≤◌, ℕ, List, [], ◌∷◌, length, take, Option, None}
 use Rattle.bbs_model.specs.declared.command.Command.{Command}
+use Rattle.bbs_model.specs.declared.event.Events.{Events}
 use Rattle.bbs_model.specs.declared.rows.Rows.{Rows}
 use Rattle.bbs_model.specs.declared.verdict.Verdict.{Verdict}
 use Rattle.bbs_model.specs.declared.verdict.Verdict.TheVariants.{Ok, Same, Refused}
-use Rattle.bbs_model.specs.Step.{verdict_of, rows_after}
+use Rattle.bbs_model.specs.Step.{verdict_of, rows_after, events_of}
 
 -- what a verdict chooses: the first only where it is Ok
 abbrev pub if_legal : {X : Type 0} → Verdict → X → X → X
@@ -15,6 +16,10 @@ if_legal (Refused why) x y = y
 -- the rows after a command: one that isn't legal leaves them
 abbrev pub state_after : Rows → Command → Rows
 state_after rows c = if_legal (verdict_of rows c) (rows_after rows c) rows
+
+-- what is told of a command's changes: nothing where it isn't legal
+abbrev pub events_after : Rows → Command → Option Events
+events_after rows c = if_legal (verdict_of rows c) (events_of rows c) None
 
 -- the rows after commands, one after another
 abbrev pub state_after_all : Rows → List Command → Rows

@@ -1,10 +1,16 @@
-use lrp_records::Desired;
+use cell_records::CellRow;
+use lrp_records::{Actual, Desired};
+use task_records::Task;
 
 /// A row of one of the board's tables.
 #[derive(Clone, Copy, Debug, PartialEq, Eq)]
 pub enum Row {
     /// A process that is to run.
     Desired(Desired),
+    /// What is actual of an instance of a process.
+    Actual(Actual),
+    Task(Task),
+    Cell(CellRow),
 }
 
 /// What became of a row.
@@ -25,4 +31,11 @@ pub struct Event {
     pub change: Change,
     /// The row, as it was before a removal and as it is after the others.
     pub row: Row,
+}
+
+/// The changes that one transition makes: one, or two where an instance evacuates.
+#[derive(Clone, Copy, Debug, PartialEq, Eq)]
+pub struct Events {
+    pub first: Event,
+    pub second: Option<Event>,
 }

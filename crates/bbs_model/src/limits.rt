@@ -9,5 +9,14 @@ pub const MOST_INSTANCES: u32 = 1_000;
 /// The most instances that all processes want together.
 pub const MOST_WANTED: u32 = 50_000;
 
+/// The most actual rows, ORDINARY and EVACUATING.
+pub const MOST_ACTUAL: u32 = 100_000;
+
+/// The most tasks.
+pub const MOST_TASKS: u32 = 50_000;
+
+/// The most cells.
+pub const MOST_CELLS: u32 = 1_000;
+
 /// The most transitions in a board's life.
 pub const MOST_TRANSITIONS: u64 = 1_000_000;

@@ -10,19 +10,21 @@ use std::alloc::Global;
 
 /// Does a command where it is legal, and tells what it came to. Where memory runs out, which only
 /// a legal command takes, the rows stay.
-pub fn run(rows: &mut Rows, command: &Command) -> Result<Verdict, OutOfMemory>
+pub fn run(alloc: Global, rows: &mut Rows, command: &Command) -> Result<Verdict, OutOfMemory>
     requires { IsValid rows.old }
     ensures verdict { IfOk result (λ verdict. verdict ≡ verdict_of rows.old command.entry.now) }
     ensures rows { OnOk result (rows.new ≡ state_after rows.old command.entry.now) }
     ensures valid { IsValid rows.new }
     ensures err { OnErr result (IsLegal rows.old command.entry.now × (rows.new ≡ rows.old)) }
 {
-    let verdict = decide(rows, command);
-    match verdict {
-        Verdict::Ok => apply(rows, command)?,
-        Verdict::Same | Verdict::Refused(_) => {}
+    match decide(rows, command) {
+        Verdict::Ok => match apply(alloc, rows, command) {
+            Ok(_) => Ok(Verdict::Ok),
+            Err(want) => Err(want),
+        },
+        Verdict::Same => Ok(Verdict::Same),
+        Verdict::Refused(why) => Ok(Verdict::Refused(why)),
     }
-    Ok(verdict)
 }
 
 /// Does each command where it is legal, and tells what each came to. Where memory runs out, the
@@ -40,7 +42,7 @@ pub fn run_all(
 {
     let mut verdicts = Vec::new(alloc);
     for command in commands {
-        verdicts.push(run(rows, command)?)?;
+        verdicts.push(run(alloc, rows, command)?)?;
     }
     Ok(verdicts)
 }

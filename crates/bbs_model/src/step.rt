@@ -1,120 +1,97 @@
 //! The step of a command by plain scans of the rows: what every faster body is compared with.
-ghost use Rattle.std.specs.Prelude.{◌≡◌, nat_eq, None, OnOk, OnErr};
-ghost use Rattle.std.specs.List.{list_any, position};
-ghost use Rattle.std.specs.Cmp.Lexicographic.{pointwise};
-ghost use Rattle.bbs_model.specs.Step.{verdict_of, unless_refused, desire_refusals, is_below, IsLegal, rows_after, op_verdict, op_after, find_desired, put_desired};
+ghost use Rattle.std.specs.Prelude.{◌≡◌, ◌<◌, Some, None, OnOk, OnErr, IfOk};
+ghost use Rattle.bbs_model.specs.Limits.{most_transitions};
+ghost use Rattle.bbs_model.specs.Step.{verdict_of, IsLegal, rows_after, events_of, advanced, edited, edited_again, event_of, event_again};
 ghost use Rattle.bbs_model.specs.Valid.{IsValid};
 
-use crate::limits::{MOST_INSTANCES, MOST_PROCESSES, MOST_TRANSITIONS, MOST_WANTED};
-use crate::{BoardRefusal, Command, Op, Rows, Verdict};
-use diego_names::{Name, OutOfMemory};
-use lrp_records::Desired;
+use crate::editing::{copy_of, edit};
+use crate::{Attempt, Command, Edit, Events, Rows, Verdict, attempt_at, judge};
+use diego_names::OutOfMemory;
+use std::alloc::Global;
 
-impl Rows {
-    ghost use Rattle.std.specs.Prelude.{◌≡◌, is_some};
-    ghost use Rattle.bbs_model.specs.Step.{find_desired, wanted};
-    ghost use Rattle.bbs_model.specs.Valid.{IsValid};
-
-    /// Whether there is a row of the process.
-    fn is_desired(&self, process: &Name) -> bool
-        ensures { result ≡ is_some (find_desired self.now process.now) }
-    {
-        has_process(self.desired.items(), process)
-    }
-
-    /// The instances that all processes want together.
-    fn wanted(&self) -> u64
-        requires { IsValid self.now }
-        ensures { result ≡ wanted self.now }
-    {
-        self.desired
-            .items()
-            .iter()
-            .map(|row| u64::from(row.instances))
-            .sum()
-    }
-}
-
-fn has_process(rows: &[Desired], process: &Name) -> bool
-    ensures { result ≡ list_any (λ (d : Desired). pointwise nat_eq process.now d.process) rows.now }
-{
-    rows.iter().any(|row| *process == row.process)
-}
-
-/// The place of the first process above this one.
-fn first_above(rows: &[Desired], process: &Name) -> Option<usize>
-    ensures { result ≡ position (λ (d : Desired). is_below process.now d.process) rows.now }
-{
-    rows.iter().position(|row| *process < row.process)
-}
-
-/// Does what a legal command says, which is one transition. Where memory runs out, the rows stay.
-pub fn apply(rows: &mut Rows, command: &Command) -> Result<(), OutOfMemory>
-    requires { IsLegal rows.old command.now }
-    ensures ok { OnOk result (rows.new ≡ rows_after rows.old command.entry.now) }
-    ensures valid { IsValid rows.old → IsValid rows.new }
-    ensures err { OnErr result (rows.new ≡ rows.old) }
-{
-    match command.op {
-        Op::Desire { desired } => apply_desire(rows, desired),
-    }
-}
-
-fn apply_desire(rows: &mut Rows, row: Desired) -> Result<(), OutOfMemory>
-    requires { op_verdict rows.old (Op.Desire row) ≡ Verdict.Ok }
-    ensures ok { OnOk result (rows.new ≡ op_after rows.old (Op.Desire row)) }
-    ensures valid { OnOk result (IsValid rows.old → IsValid rows.new) }
-    ensures err { OnErr result (rows.new ≡ rows.old) }
-{
-    put_desired(rows, row)?;
-    rows.next += 1;
-    Ok(())
-}
-
-fn put_desired(rows: &mut Rows, row: Desired) -> Result<(), OutOfMemory>
-    requires { find_desired rows.old row.process ≡ None }
-    ensures ok { OnOk result (rows.new ≡ record rows.old { desired = put_desired rows.old row }) }
-    ensures err { OnErr result (rows.new ≡ rows.old) }
-{
-    let at = first_above(rows.desired.items(), &row.process).unwrap_or(rows.desired.len());
-    rows.desired.insert(at, row)
-}
-
-/// What the step of a command comes to: the first of its causes of refusal that holds, and Ok where
-/// none does. It changes nothing and takes no memory.
+/// What the step of a command comes to. It changes nothing and takes no memory.
 pub fn decide(rows: &Rows, command: &Command) -> Verdict
     requires { IsValid rows.now }
     ensures { result ≡ verdict_of rows.now command.entry.now }
 {
-    match command.op {
-        Op::Desire { desired } => decide_desire(rows, &desired),
+    let attempt = attempt_at(&rows.found(&command.op), command);
+    judge(rows.next, &attempt)
+}
+
+/// Does what a legal command says, which is one transition, and tells the changes of rows. Where
+/// memory runs out, the rows stay.
+pub fn apply(alloc: Global, rows: &mut Rows, command: &Command) -> Result<Events, OutOfMemory>
+    requires valid { IsValid rows.old }
+    requires legal { IsLegal rows.old command.now }
+    ensures ok { OnOk result (rows.new ≡ rows_after rows.old command.entry.now) }
+    ensures events { IfOk result (λ events. Some events ≡ events_of rows.old command.entry.now) }
+    ensures valid { IsValid rows.new }
+    ensures err { OnErr result (rows.new ≡ rows.old) }
+{
+    match attempt_at(&rows.found(&command.op), command) {
+        Attempt::Change { first, second } => change(alloc, rows, &first, &second),
+        Attempt::Refuse(_) | Attempt::Keep => unreachable!(),
     }
 }
 
-fn decide_desire(rows: &Rows, desired: &Desired) -> Verdict
-    requires { IsValid rows.now }
-    ensures { result ≡ unless_refused (desire_refusals rows.now desired.now) }
+/// Makes a transition of one edit or two. Where memory runs out, the rows stay.
+fn change(
+    alloc: Global,
+    rows: &mut Rows,
+    first: &Edit,
+    second: &Option<Edit>,
+) -> Result<Events, OutOfMemory>
+    requires { rows.old.next < most_transitions }
+    ensures ok { OnOk result (rows.new ≡ advanced (edited_again (edited rows.old first.entry.now) second.entry.now)) }
+    ensures events { IfOk result (λ events. events ≡ record {
+      first = event_of rows.old first.entry.now;
+      second = event_again (edited rows.old first.entry.now) second.entry.now;
+    }) }
+    ensures err { OnErr result (rows.new ≡ rows.old) }
 {
-    if rows.is_desired(&desired.process) {
-        return Verdict::Refused(BoardRefusal::Exists);
+    match second {
+        None => change_one(alloc, rows, first),
+        Some(second) => change_two(alloc, rows, first, second),
     }
-    if rows.desired.len() >= MOST_PROCESSES as usize {
-        return too_many(MOST_PROCESSES);
-    }
-    if desired.instances > MOST_INSTANCES {
-        return too_many(MOST_INSTANCES);
-    }
-    if rows.wanted() + u64::from(desired.instances) > u64::from(MOST_WANTED) {
-        return too_many(MOST_WANTED);
-    }
-    if rows.next >= MOST_TRANSITIONS {
-        return Verdict::Refused(BoardRefusal::BoardFull);
-    }
-    Verdict::Ok
 }
 
-fn too_many(limit: u32) -> Verdict
-    ensures { result ≡ Verdict.Refused (BoardRefusal.TooMany limit) }
+fn change_one(alloc: Global, rows: &mut Rows, only: &Edit) -> Result<Events, OutOfMemory>
+    requires { rows.old.next < most_transitions }
+    ensures ok { OnOk result (rows.new ≡ advanced (edited rows.old only.entry.now)) }
+    ensures events { IfOk result (λ events.
+        events ≡ record { first = event_of rows.old only.entry.now; second = None }) }
+    ensures err { OnErr result (rows.new ≡ rows.old) }
 {
-    Verdict::Refused(BoardRefusal::TooMany { limit })
+    let event = edit(alloc, rows, only)?;
+    rows.next += 1;
+    Ok(Events {
+        first: event,
+        second: None,
+    })
+}
+
+/// The second edit is made on what the first made.
+fn change_two(
+    alloc: Global,
+    rows: &mut Rows,
+    first: &Edit,
+    second: &Edit,
+) -> Result<Events, OutOfMemory>
+    requires { rows.old.next < most_transitions }
+    ensures ok { OnOk result (rows.new ≡ advanced (edited (edited rows.old first.entry.now) second.entry.now)) }
+    ensures events { IfOk result (λ events. events ≡ record {
+      first = event_of rows.old first.entry.now;
+      second = Some (event_of (edited rows.old first.entry.now) second.entry.now);
+    }) }
+    ensures err { OnErr result (rows.new ≡ rows.old) }
+{
+    let mut new = copy_of(alloc, rows)?;
+    let first = edit(alloc, &mut new, first)?;
+    let second = edit(alloc, &mut new, second)?;
+    new.next += 1;
+    *rows = new;
+    Ok(Events {
+        first,
+        second: Some(second),
+    })
 }

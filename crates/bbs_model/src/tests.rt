@@ -1,156 +1,197 @@
-ghost use Rattle.std.specs.Prelude.{◌≤◌, IfOk};
 ghost use Rattle.bbs_model.specs.Valid.{IsValid};
 
 use super::*;
+use cell_records::Amounts;
 use crash_backoff::Moment;
-use diego_names::{List, Name};
+use diego_names::{Instance, Key, List, Name};
 use lrp_records::Desired;
 use std::alloc::Global;
 use std::process::Abort;
 use std::test::Fail;
 
-// A process that no board below has.
-const NEW: u32 = 9_999;
+mod kinds;
+mod lives;
 
 const OK: Verdict = Verdict::Ok;
 
-const EXISTS: Verdict = Verdict::Refused(BoardRefusal::Exists);
-
-const FULL: Verdict = Verdict::Refused(BoardRefusal::BoardFull);
-
-fn too_many(limit: u32) -> Verdict {
-    Verdict::Refused(BoardRefusal::TooMany { limit })
+// The board at the beginning of its life.
+fn no_rows(alloc: Global) -> Rows
+    ensures { IsValid result }
+{
+    first_board_is_valid();
+    Rows {
+        desired: List::new(alloc),
+        actual: List::new(alloc),
+        tasks: List::new(alloc),
+        cells: List::new(alloc),
+        next: 0,
+    }
 }
 
-fn name(alloc: Global, index: u32) -> Result<Name, Fail> {
-    let text = format!(in alloc; "p{index:04}")?;
-    Ok(Name::read(text.as_bytes())?)
+// Does these operations at these seconds, one after another, which must come to these verdicts.
+fn each_comes_to(
+    rt: &impl Abort,
+    alloc: Global,
+    rows: &mut Rows,
+    cases: &[(u32, Op, Verdict)],
+) -> Result<(), Fail>
+    requires { IsValid rows.old }
+    ensures { IsValid rows.new }
+{
+    let commands = commands_of(alloc, cases)?;
+    let verdicts = run_all(alloc, rows, commands.as_slice())?;
+    are_told(rt, verdicts.as_slice(), cases);
+    Ok(())
 }
 
-fn desire(process: Name, instances: u32) -> Command {
-    let desired = Desired {
+fn commands_of(alloc: Global, cases: &[(u32, Op, Verdict)]) -> Result<Vec<Command>, Fail> {
+    let mut commands = Vec::new(alloc);
+    for (now, op, _) in cases {
+        commands.push(Command {
+            now: Moment(*now),
+            op: *op,
+        })?;
+    }
+    Ok(commands)
+}
+
+fn are_told(rt: &impl Abort, verdicts: &[Verdict], cases: &[(u32, Op, Verdict)]) {
+    assert_eq!(rt; verdicts.len(), cases.len());
+    for (verdict, (now, op, want)) in verdicts.iter().zip(cases) {
+        assert_eq!(rt; *verdict, *want, "{op:?} at {now}");
+    }
+}
+
+// The names of cells, zones, processes and a task.
+#[derive(Clone, Copy)]
+struct Names {
+    c1: Name,
+    c2: Name,
+    c3: Name,
+    c4: Name,
+    z1: Name,
+    z2: Name,
+    p: Name,
+    q: Name,
+    task: Name,
+}
+
+fn all_names() -> Result<Names, Fail> {
+    Ok(Names {
+        c1: Name::read(b"c1")?,
+        c2: Name::read(b"c2")?,
+        c3: Name::read(b"c3")?,
+        c4: Name::read(b"c4")?,
+        z1: Name::read(b"z1")?,
+        z2: Name::read(b"z2")?,
+        p: Name::read(
+            b"11111111-2222-3333-4444-555555555555-66666666-7777-8888-9999-aaaaaaaaaaaa",
+        )?,
+        q: Name::read(
+            b"bbbbbbbb-2222-3333-4444-555555555555-66666666-7777-8888-9999-aaaaaaaaaaaa",
+        )?,
+        task: Name::read(b"migrate-1")?,
+    })
+}
+
+fn container(epoch: u64, number: u32) -> Instance {
+    Instance { epoch, number }
+}
+
+// A cell joins with this memory, disk and number of containers, for so many seconds.
+fn join(cell: Name, zone: Name, sizes: (u32, u32, u32), ttl: u32) -> Op {
+    let (memory, disk, containers) = sizes;
+    let totals = Amounts {
+        memory,
+        disk,
+        containers,
+    };
+    Op::Join {
+        cell,
+        zone,
+        tag: None,
+        totals,
+        ttl,
+    }
+}
+
+fn wanted(process: Name, domain: Name, instances: u32) -> Desired {
+    Desired {
         process,
-        domain: process,
+        domain,
         instances,
         memory: 64,
         disk: 128,
         tag: None,
         route: None,
         port: 8080,
-    };
-    Command {
-        now: Moment(7),
-        op: Op::Desire { desired },
     }
 }
 
-fn empty(alloc: Global) -> Rows
-    ensures { IsValid result }
-{
-    Rows {
-        desired: List::new(alloc),
-        next: 0,
+fn desire(process: Name, domain: Name, instances: u32) -> Op {
+    let desired = wanted(process, domain, instances);
+    Op::Desire { desired }
+}
+
+fn make(process: Name, index: u32) -> Op {
+    let key = Key { process, index };
+    Op::Make { key }
+}
+
+fn claim(process: Name, index: u32, instance: Instance, cell: Name) -> Op {
+    let key = Key { process, index };
+    Op::Claim {
+        key,
+        instance,
+        cell,
     }
 }
 
-// Desires the processes p0000, p0001 and so on, with so many instances each.
-fn fill(alloc: Global, rows: &mut Rows, count: u32, instances: u32) -> Result<(), Fail>
-    requires { IsValid rows.old }
-    ensures { IsValid rows.new }
-{
-    for index in 0..count {
-        let command = desire(name(alloc, index)?, instances);
-        let _ = run(rows, &command)?;
-    }
-    Ok(())
-}
-
-// A board of so many processes with so many instances each, late in its life.
-fn board(alloc: Global, count: u32, instances: u32, next: u64) -> Result<Rows, Fail>
-    requires { next ≤ 1000000 }
-    ensures { IfOk result IsValid }
-{
-    let mut rows = empty(alloc);
-    fill(alloc, &mut rows, count, instances)?;
-    rows.next = next;
-    Ok(rows)
-}
-
-// Asks for so many instances of a process, and says what must be answered.
-fn answers(rt: &impl Abort, rows: &Rows, process: Name, cases: &[(u32, Verdict)])
-    requires { IsValid rows.now }
-{
-    for (instances, verdict) in cases {
-        let answer = decide(rows, &desire(process, *instances));
-        assert_eq!(rt; answer, *verdict, "{instances} of {process}");
+fn start(process: Name, index: u32, instance: Instance, cell: Name) -> Op {
+    let key = Key { process, index };
+    Op::Start {
+        key,
+        instance,
+        cell,
     }
 }
 
-#[test]
-fn a_desire_is_refused_by_the_first_cause(rt: HostRuntime) -> Result<(), Fail> {
-    let (first, new) = (name(rt.alloc(), 0)?, name(rt.alloc(), NEW)?);
-
-    let rows = empty(rt.alloc());
-    answers(
-        &rt,
-        &rows,
-        new,
-        &[(0, OK), (1_000, OK), (1_001, too_many(1_000))],
-    );
-
-    let mut rows = board(rt.alloc(), 4_999, 1, 4_999)?;
-    answers(&rt, &rows, first, &[(1, EXISTS), (1_001, EXISTS)]);
-    answers(&rt, &rows, new, &[(1, OK), (1_001, too_many(1_000))]);
-    assert_eq!(rt; run(&mut rows, &desire(name(rt.alloc(), 4_999)?, 1))?, OK);
-    assert_eq!(rt; rows.desired.len(), 5_000);
-    answers(&rt, &rows, first, &[(1, EXISTS)]);
-    answers(
-        &rt,
-        &rows,
-        new,
-        &[(1, too_many(5_000)), (1_001, too_many(5_000))],
-    );
-    Ok(())
+fn crash(process: Name, index: u32, instance: Instance) -> Op {
+    let key = Key { process, index };
+    Op::Crash { key, instance }
 }
 
-#[test]
-fn a_full_board_refuses_last(rt: HostRuntime) -> Result<(), Fail> {
-    let (first, new) = (name(rt.alloc(), 0)?, name(rt.alloc(), NEW)?);
-
-    let rows = board(rt.alloc(), 50, 999, 50)?;
-    answers(
-        &rt,
-        &rows,
-        new,
-        &[(50, OK), (51, too_many(50_000)), (1_001, too_many(1_000))],
-    );
-
-    let rows = board(rt.alloc(), 50, 1_000, 1_000_000)?;
-    answers(&rt, &rows, new, &[(0, FULL), (1, too_many(50_000))]);
-
-    let rows = board(rt.alloc(), 1, 1, 999_999)?;
-    answers(&rt, &rows, new, &[(1, OK)]);
-    let rows = board(rt.alloc(), 1, 1, 1_000_000)?;
-    answers(&rt, &rows, new, &[(1, FULL)]);
-    answers(&rt, &rows, first, &[(1, EXISTS)]);
-    Ok(())
+fn evacuate(process: Name, index: u32, instance: Instance) -> Op {
+    let key = Key { process, index };
+    Op::Evacuate { key, instance }
 }
 
-#[test]
-fn rows_stand_in_the_order_of_their_processes(rt: HostRuntime) -> Result<(), Fail> {
-    let (a, b, c) = (Name::read(b"a")?, Name::read(b"b")?, Name::read(b"c")?);
-    let mut rows = empty(rt.alloc());
-    let command = desire(b, 3);
-    assert_eq!(rt; decide(&rows, &command), OK);
-    apply(&mut rows, &command)?;
-    assert_eq!(rt; run(&mut rows, &command)?, EXISTS);
-    let more = [desire(a, 1_001), desire(a, 1), desire(c, 2)];
-    let verdicts = run_all(rt.alloc(), &mut rows, &more)?;
-    assert_eq!(rt; verdicts.as_slice(), [too_many(1_000), OK, OK].as_slice());
-    assert_eq!(rt; rows.desired.len(), 3);
-    for (row, process) in rows.desired.items().iter().zip([a, b, c]) {
-        assert_eq!(rt; row.process, process);
+fn drop_evacuating(process: Name, index: u32, instance: Instance) -> Op {
+    let key = Key { process, index };
+    Op::DropEvacuating { key, instance }
+}
+
+fn new_task(name: Name) -> Op {
+    Op::NewTask {
+        name,
+        memory: 128,
+        disk: 512,
+        tag: None,
     }
-    assert_eq!(rt; rows.next, 3);
-    Ok(())
+}
+
+fn start_task(name: Name, instance: Instance, cell: Name) -> Op {
+    Op::StartTask {
+        name,
+        instance,
+        cell,
+    }
+}
+
+fn complete(name: Name, instance: Instance) -> Op {
+    Op::CompleteTask {
+        name,
+        instance,
+        failed: false,
+    }
 }

@@ -1,4 +1,4 @@
-use Rattle.bbs_model.proofs.Replaying.{replays_what_was_legal}
+use Rattle.bbs_model.proofs.KeepRuns.{replays_what_was_legal}
 use Rattle.bbs_model.proofs.laws.runs_replay_what_was_legal.Goals as goal
 
 pub returns : goal.returns
