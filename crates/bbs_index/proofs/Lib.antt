@@ -1,2 +1,5 @@
 pub mod Tables
 pub mod Order
+pub mod Rows
+pub mod Counting
+pub mod Boards

@@ -1,5 +1,5 @@
 -- What a map from keys to rows holds, read as the table of its rows.
-use Rattle.std.specs.Prelude.{◌≡◌, ℕ, ◌<◌, Bool, List, [], ◌∷◌, map, length, Option, Some, None}
+use Rattle.std.specs.Prelude.{◌≡◌, ℕ, Bool, List, [], ◌∷◌, map, length, Some}
 use Rattle.std.specs.declared.cmp.Ordering.{Ordering}
 use Rattle.std.specs.FinMap.Entries.{put}
 use Rattle.std.specs.Map.{lookup}
@@ -24,7 +24,3 @@ pub record IsShelf {K X : Type 0} (R : K → K → Ordering) (eq : K → K → B
     (es : List (K × X)) : Type 0 where
   pub at_key : (q : K) (x : X) → lookup (eq q) es ≡ Some x → key x ≡ q
   pub once : length (table_of R es) ≡ length es
-
--- there is room for a row: one place, if none stands at its key
-abbrev pub HasRoom : {X : Type 0} → Option X → ℕ → Type 0
-HasRoom known spare = known ≡ None → 0 < spare

@@ -1,9 +1,9 @@
 //! The map under a shelf: what a put and a removal do to its entries.
-ghost use Rattle.std.specs.Prelude.{◌≡◌, ◌+◌, ◌≤◌, None, Some, IsSome, is_some, if◌then◌else◌};
+ghost use Rattle.std.specs.Prelude.{◌≡◌, ◌+◌, ◌≤◌, None, Some, is_some, if◌then◌else◌};
 ghost use Rattle.indexmap.specs.IndexMap.{get, index_map_len, spare, Updates};
-ghost use Rattle.bbs_index.specs.Shelf.{HasRoom};
+ghost use Rattle.bbs_model.specs.Store.{HasRoom, TakesRoom};
 
-use crate::Rowed;
+use bbs_model::Rowed;
 use indexmap::IndexMap;
 
 // Writes over the row that stands at the key, and else takes one place of the room that is spare.
@@ -12,8 +12,7 @@ pub(crate) fn put_entry<X: Rowed>(map: &mut IndexMap<X::Key, X>, row: X)
     ensures updates { Updates X.Key.eq map.old map.new (X.key row) (Some row) }
     ensures len { index_map_len map.new ≡ index_map_len map.old
         + (if is_some (get X.Key.eq map.old (X.key row)) then 0 else 1) }
-    ensures taken { spare map.old ≤ spare map.new + 1 }
-    ensures kept { IsSome (get X.Key.eq map.old (X.key row)) → spare map.old ≤ spare map.new }
+    ensures spare { TakesRoom (get X.Key.eq map.old (X.key row)) (spare map.old) (spare map.new) }
 {
     let key = row.key();
     if let Some(place) = map.get_mut(&key) {

@@ -1,13 +1,16 @@
-//! Rows of one kind, kept by their keys in a map and read as a table.
+//! The rows of a board under an index: each table a shelf, a map from keys to rows that is read as
+//! the table.
 #![tactic(auto)]
 
 mod entries;
-mod lrp_rows;
-mod rowed;
+mod index;
+mod placed;
+mod row_store;
 mod shelf;
 mod sorted;
+mod wanted;
 
-pub use rowed::Rowed;
+pub use index::Index;
 pub use shelf::Shelf;
 
 #[cfg(test)]

@@ -1,12 +1,12 @@
 //! A shelf is a map from each row's key to the row, and contracts see it as the table of its rows.
 
-ghost use Rattle.std.specs.Prelude.{◌≡◌, ℕ, ◌+◌, ◌≤◌, [], length, IsSome, IsOk, IfOk, OnOk};
+ghost use Rattle.std.specs.Prelude.{◌≡◌, ℕ, ◌≤◌, [], length, IsOk, IfOk, OnOk};
 ghost use Rattle.row_tables.specs.Table.{find_row, put_row, without_row, IsRising};
-ghost use Rattle.bbs_index.specs.Shelf.{HasRoom};
+ghost use Rattle.bbs_model.specs.Store.{HasRoom, TakesRoom};
 
-use crate::Rowed;
 use crate::entries::{put_entry, remove_entry};
 use crate::sorted::sorted_entries;
+use bbs_model::Rowed;
 use indexmap::IndexMap;
 use std::alloc::{AllocError, Global};
 use std::marker::Model;
@@ -40,6 +40,19 @@ impl<X: Rowed> Shelf<X> {
         }
     }
 
+    /// A shelf of these rows, whose keys rise. It fails only for want of memory.
+    pub fn of(alloc: Global, rows: &[X]) -> Result<Self, AllocError>
+        requires { IsRising X.Key.cmp X.key rows.now }
+        ensures { IfOk result (λ shelf. shelf.rows ≡ rows.now) }
+    {
+        let mut shelf = Shelf::new(alloc);
+        shelf.reserve(rows.len())?;
+        for row in rows {
+            shelf.put(*row);
+        }
+        Ok(shelf)
+    }
+
     /// How many rows there are.
     pub fn len(&self) -> usize
         ensures len { result ≡ length self.now.rows }
@@ -57,7 +70,8 @@ impl<X: Rowed> Shelf<X> {
 
     /// The row at the key.
     pub fn get(&self, key: &X::Key) -> Option<X>
-        ensures { result ≡ find_row X.Key.cmp X.key key.now self.now.rows }
+        ensures row { result ≡ find_row X.Key.cmp X.key key.now self.now.rows }
+        ensures rising { IsRising X.Key.cmp X.key self.now.rows }
     {
         self.map.get(key).copied()
     }
@@ -76,9 +90,8 @@ impl<X: Rowed> Shelf<X> {
     pub fn put(&mut self, row: X)
         requires { HasRoom (find_row X.Key.cmp X.key (X.key row) self.old.rows) self.old.spare }
         ensures rows { self.new.rows ≡ put_row X.Key.cmp X.key row self.old.rows }
-        ensures taken { self.old.spare ≤ self.new.spare + 1 }
-        ensures kept { IsSome (find_row X.Key.cmp X.key (X.key row) self.old.rows)
-            → self.old.spare ≤ self.new.spare }
+        ensures spare { TakesRoom (find_row X.Key.cmp X.key (X.key row) self.old.rows)
+            self.old.spare self.new.spare }
     {
         put_entry(&mut self.map, row);
     }

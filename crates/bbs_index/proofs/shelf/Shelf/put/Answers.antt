@@ -1,7 +1,7 @@
-use Rattle.std.proofs.Common.{◌≤◌, IsSome, sym, ap, subst, ◌∙◌}
+use Rattle.std.proofs.Common.{sym, ap, subst, ◌∙◌}
 use Rattle.indexmap.specs.IndexMap.{spare}
 use Rattle.row_tables.specs.Table.{find_row, put_row}
-use Rattle.bbs_index.specs.Shelf.{HasRoom}
+use Rattle.bbs_model.specs.Store.{HasRoom, TakesRoom}
 use Rattle.bbs_index.proofs.Tables.{find_row-table_of, table_of-put, IsShelf-put}
 use Rattle.bbs_index.proofs.shelf.Shelf.put.Goals as goal
 
@@ -20,8 +20,8 @@ returns-clause-rows g c =
     table_of-put g.met.X.Rowed.ordered g.met.X.Key.Ord.matches_eq c.self.invariant c.args.row c.put_entry.new.map.entries c.put_entry.ensures.updates.0
     ∙ ap (λ v. put_row g.X.Key.Ord.cmp g.X.Rowed.key c.args.row v.rows) c.self.view_is
 
-pub returns-clause-kept : goal.returns-clause-kept
-returns-clause-kept g c =
+pub returns-clause-spare : goal.returns-clause-spare
+returns-clause-spare g c =
     let found = find_row-table_of g.met.X.Rowed.ordered g.met.X.Key.Ord.matches_eq c.self.invariant (g.X.Rowed.key c.args.row) in
-    let kept = subst (λ s. IsSome s → spare c.self.inside.map ≤ spare c.put_entry.new.map) (sym found) c.put_entry.ensures.kept in
-    subst (λ v. IsSome (find_row g.X.Key.Ord.cmp g.X.Rowed.key (g.X.Rowed.key c.args.row) v.rows) → v.spare ≤ spare c.put_entry.new.map) c.self.view_is kept
+    let taken = subst (λ s. TakesRoom s (spare c.self.inside.map) (spare c.put_entry.new.map)) (sym found) c.put_entry.ensures.spare in
+    subst (λ v. TakesRoom (find_row g.X.Key.Ord.cmp g.X.Rowed.key (g.X.Rowed.key c.args.row) v.rows) v.spare (spare c.put_entry.new.map)) c.self.view_is taken

@@ -1,0 +1,145 @@
+ghost use Rattle.std.specs.FinMap.{nat_cmp-IsAntisymmetric};
+ghost use Rattle.std.specs.Cmp.{nat_cmp_total};
+
+use crate::Shelf;
+use bbs_model::Rowed;
+use crash_backoff::Moment;
+use diego_names::{Key, Name};
+use lrp_records::{Actual, Desired, LrpState, Presence};
+use std::test::Fail;
+
+fn desired(process: &[u8], instances: u32) -> Result<Desired, Fail> {
+    let process = Name::read(process)?;
+    Ok(Desired {
+        process,
+        domain: process,
+        instances,
+        memory: 64,
+        disk: 128,
+        tag: None,
+        route: None,
+        port: 8080,
+    })
+}
+
+fn add(shelf: &mut Shelf<Desired>, row: Desired) -> Result<(), Fail> {
+    shelf.reserve(1)?;
+    shelf.put(row);
+    Ok(())
+}
+
+#[test]
+fn rows_come_out_in_the_order_of_their_keys(rt: HostRuntime) -> Result<(), Fail> {
+    let mut shelf = Shelf::new(rt.alloc());
+    add(&mut shelf, desired(b"web", 1)?)?;
+    add(&mut shelf, desired(b"api", 2)?)?;
+    add(&mut shelf, desired(b"cron", 3)?)?;
+    let rows = shelf.rows(rt.alloc())?;
+    assert_eq!(rt; rows.len(), 3);
+    for (row, wanted) in rows.iter().zip([("api", 2), ("cron", 3), ("web", 1)]) {
+        assert_eq!(rt; (row.process.as_str(), row.instances), wanted);
+    }
+    Ok(())
+}
+
+#[test]
+fn a_put_at_a_known_key_takes_the_place_of_the_row_there(rt: HostRuntime) -> Result<(), Fail> {
+    let mut shelf = Shelf::new(rt.alloc());
+    let row = desired(b"web", 1)?;
+    add(&mut shelf, row)?;
+    let spare = shelf.spare();
+    add(&mut shelf, desired(b"web", 5)?)?;
+    assert_eq!(rt; shelf.len(), 1);
+    assert!(rt; spare <= shelf.spare());
+    assert_eq!(rt;
+        shelf.get(&row.process).map(|found| found.instances),
+        Some(5)
+    );
+    Ok(())
+}
+
+#[test]
+fn a_removal_takes_one_row(rt: HostRuntime) -> Result<(), Fail> {
+    let mut shelf = Shelf::new(rt.alloc());
+    let gone = desired(b"web", 1)?;
+    let kept = desired(b"api", 2)?;
+    add(&mut shelf, gone)?;
+    add(&mut shelf, kept)?;
+    shelf.remove(&gone.process);
+    shelf.remove(&gone.process);
+    assert_eq!(rt; shelf.len(), 1);
+    assert_eq!(rt; shelf.get(&gone.process), None);
+    assert_eq!(rt; shelf.get(&kept.process), Some(kept));
+    Ok(())
+}
+
+#[test]
+fn an_instance_keeps_both_of_its_rows(rt: HostRuntime) -> Result<(), Fail> {
+    let process = Name::read(b"web")?;
+    let evacuating = Actual {
+        key: Key { process, index: 0 },
+        presence: Presence::Evacuating,
+        state: LrpState::Unclaimed,
+        count: 0,
+        since: Moment(0),
+        error: false,
+    };
+    let ordinary = Actual {
+        presence: Presence::Ordinary,
+        ..evacuating
+    };
+    let mut shelf = Shelf::new(rt.alloc());
+    shelf.reserve(2)?;
+    shelf.put(evacuating);
+    shelf.put(ordinary);
+    let rows = shelf.rows(rt.alloc())?;
+    assert_eq!(rt; rows.len(), 2);
+    for (row, wanted) in rows.iter().zip([0, 1]) {
+        assert_eq!(rt; row.presence.rank(), wanted);
+    }
+    Ok(())
+}
+
+// A row that is its own number, beside another.
+#[derive(Clone, Copy)]
+struct Numbered {
+    number: u32,
+    other: u32,
+}
+
+impl Rowed for Numbered {
+    type Key = u32;
+
+    ghost key = { λ row. row.number };
+
+    ghost ordered = { record { total = nat_cmp_total; exact = nat_cmp-IsAntisymmetric } };
+
+    fn key(&self) -> u32 {
+        self.number
+    }
+}
+
+#[test]
+fn fifty_thousand_rows_go_in_and_out(rt: HostRuntime) -> Result<(), Fail> {
+    let mut shelf = Shelf::new(rt.alloc());
+    for count in 0..50_000u32 {
+        let number = count * 7 % 50_000;
+        shelf.reserve(1)?;
+        shelf.put(Numbered {
+            number,
+            other: count,
+        });
+    }
+    assert_eq!(rt; shelf.len(), 50_000);
+    let rows = shelf.rows(rt.alloc())?;
+    assert_eq!(rt; rows.len(), 50_000);
+    for (place, row) in rows.iter().enumerate() {
+        assert_eq!(rt; row.number as usize, place);
+        assert_eq!(rt; u64::from(row.other) * 7 % 50_000, u64::from(row.number));
+    }
+    for number in 0..50_000u32 {
+        shelf.remove(&number);
+    }
+    assert_eq!(rt; shelf.len(), 0);
+    Ok(())
+}
