@@ -1,0 +1,15 @@
+pub mod Records
+pub mod Formats
+pub mod OpLaws
+pub mod Commands
+pub mod Written
+pub mod Cases
+pub mod RowLaws
+pub mod Pushes
+pub mod Followers
+pub mod RowLists
+pub mod Tables
+pub mod SeenRows
+pub mod Steps
+pub mod HeadLaws
+pub mod Rules

@@ -1,0 +1,5 @@
+use Rattle.bbs_codec.proofs.HeadLaws.{head_again}
+use Rattle.bbs_codec.proofs.laws.heads_are_read_back.Goals as goal
+
+pub returns : goal.returns
+returns c = head_again

@@ -1,0 +1,7 @@
+pub mod Format
+pub mod Formats
+pub mod RowFormats
+pub mod Ops
+pub mod Command
+pub mod Head
+pub mod Seen

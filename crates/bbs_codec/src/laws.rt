@@ -1,0 +1,45 @@
+//! What holds of every command in bytes.
+ghost use Rattle.std.specs.Prelude.{◌≡◌, ◌≤◌, ◌++◌, List, ℕ, length, Ok};
+ghost use Rattle.bbs_model.specs.declared.command.Command.{Command as ACommand};
+ghost use Rattle.wire_fields.specs.Laws.{IsBytes};
+ghost use Rattle.bbs_model.specs.declared.rows.Rows.{Rows as SomeRows};
+ghost use Rattle.bbs_codec.specs.Command.{FitsCommand, spelled, reading};
+ghost use Rattle.bbs_codec.specs.Head.{FitsHead, head_spelled, head_reading};
+
+/// A command that was spelled is read back.
+#[tactic(auto, using(crate::proofs::Rules::laws))]
+pub fn commands_are_read_back()
+    ensures { (c : ACommand) → FitsCommand c → reading (spelled c) ≡ Ok c }
+{}
+
+/// Bytes that are read as a command are its one spelling.
+#[tactic(auto, using(crate::proofs::Rules::laws))]
+pub fn commands_have_one_spelling()
+    ensures { (bytes : List ℕ) (c : ACommand) → IsBytes bytes → reading bytes ≡ Ok c
+        → (bytes ≡ spelled c) × FitsCommand c }
+{}
+
+/// No spelling begins another, so it is known where a command ends.
+#[tactic(auto, using(crate::proofs::Rules::laws))]
+pub fn no_spelling_begins_another()
+    ensures { (a b : ACommand) (x y : List ℕ) → FitsCommand a → FitsCommand b
+        → spelled a ++ x ≡ spelled b ++ y → (a ≡ b) × (x ≡ y) }
+{}
+
+/// A spelling has at least and at most so many bytes.
+#[tactic(auto, using(crate::proofs::Rules::laws))]
+pub fn spellings_are_bounded()
+    ensures least { (c : ACommand) → FitsCommand c → 7 ≤ length (spelled c) }
+    ensures most { (c : ACommand) → FitsCommand c → length (spelled c) ≤ 343 }
+{}
+
+/// A head that was spelled is read back.
+pub fn heads_are_read_back()
+    ensures { (rows : SomeRows) → FitsHead rows → head_reading (head_spelled rows) ≡ Ok rows }
+{}
+
+/// Bytes that are read as a head are its one spelling, and its rows are those of a board.
+pub fn heads_have_one_spelling()
+    ensures { (bytes : List ℕ) (rows : SomeRows) → IsBytes bytes → head_reading bytes ≡ Ok rows
+        → (bytes ≡ head_spelled rows) × FitsHead rows }
+{}

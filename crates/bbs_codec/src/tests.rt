@@ -1,0 +1,27 @@
+mod faults;
+mod heads;
+mod spellings;
+
+use super::*;
+use bbs_model::{Command, Op};
+use crash_backoff::Moment;
+use diego_names::Instance;
+
+const INSTANCE: Instance = Instance {
+    epoch: 258,
+    number: 9,
+};
+
+/// Whether the operation, at second 9, is written as these bytes and no more, and read back.
+fn is_spelled(op: Op, bytes: &[u8]) -> bool {
+    let command = Command { now: Moment(9), op };
+    let mut out = [7; 512];
+    let len = write_command(&mut out, &command);
+    if out[len] != 7 || &out[..len] != bytes {
+        return false;
+    }
+    match read_command(bytes) {
+        Ok(read) => read == command,
+        Err(_) => false,
+    }
+}
