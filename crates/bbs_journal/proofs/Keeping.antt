@@ -1,18 +1,20 @@
 -- What a journal knows of its area goes on being so.
 use Rattle.std.specs.Prelude.{not}
 use Rattle.std.proofs.lemmas.Bool.Decides.{leb_tells}
-use Rattle.std.proofs.Common.{inl, inr, ◌-◌, ◌^◌, ◌≡◌, ℕ, ◌+◌, ◌≤◌, Bool, true, false, Option, Some, None, List, [], ◌∷◌, ◌++◌, length, is_some, refl, ap, ◌∙◌, arith, length-append}
+use Rattle.std.proofs.Common.{inl, inr, ◌-◌, ◌^◌, ◌≡◌, ℕ, ◌+◌, ◌≤◌, Bool, true, false, Option, Some, None, List, [], ◌∷◌, ◌++◌, length, is_some, refl, sym, ap, subst, ◌∙◌, arith, length-append}
 use Rattle.std.specs.Option.{ForSome}
-use Rattle.disk_trait.specs.Held.{Held}
-use Rattle.disk_trait.specs.Past.{Past, now, content}
+use Rattle.disk_trait.specs.Held.{Held, Has}
+use Rattle.disk_trait.specs.Past.{Past, now, content, other}
 use Rattle.disk_trait.specs.Steps.{Goes, Ticks}
 use Rattle.disk_trait.proofs.Told.{goes_back}
 use Rattle.disk_trait.proofs.Ranges.{length_overwritten}
-use Rattle.disk_trait.proofs.Steps.{wrote_content, synced_content}
+use Rattle.disk_trait.proofs.Steps.{wrote_content, synced_content, runs_there}
 use Rattle.disk_trait.specs.declared.area.Area.{Area}
-use Rattle.bbs_journal.specs.Areas.{Ready, Stands, body_of}
+use Rattle.bbs_journal.specs.Areas.{Ready, Stands, BeforeOrAfter, body_of}
 use Rattle.bbs_journal.specs.Calls.{WritesSynced, Adds, Closes}
-use Rattle.bbs_journal.specs.View.{View, IsKept}
+use Rattle.bbs_journal.specs.View.{View, HoldsFrames, IsKept}
+use Rattle.bbs_journal.specs.Other.{Yields}
+use Rattle.bbs_journal.specs.declared.other_gate.OtherGate.{OtherGate}
 use Rattle.bbs_journal.proofs.Bytes.{begins_length, staged_length}
 
 -- what follows of what a disk tells, before a call and after it
@@ -24,8 +26,8 @@ undoubted : (head : List ℕ) (payloads : List (List ℕ)) (doubt : Option (List
 undoubted head payloads None end held is stands = stands
 undoubted head payloads (Some payload) end held is stands = absurd (cc)
 
-ready_of : (area : Area) (end frames : ℕ) (p : Past) (kept : IsKept area end frames false p) → Ready kept.head kept.payloads end (now p area)
-ready_of area end frames p kept = undoubted kept.head kept.payloads kept.doubt end (now p area) kept.doubtful kept.stands
+ready_of : (area : Area) (end frames : ℕ) (p : Past) (holds : HoldsFrames area end frames false p) → Ready holds.head holds.payloads end (now p area)
+ready_of area end frames p holds = undoubted holds.head holds.payloads holds.doubt end (now p area) holds.doubtful holds.stands
 
 -- the gate is within the area
 ready_length : (head : List ℕ) (payloads : List (List ℕ)) (end : ℕ) (area : Area) (p : Past) → Ready head payloads end (now p area) → end + 1 ≤ length (content p area)
@@ -37,9 +39,10 @@ stands_length head payloads None end area p ready = ready_length head payloads e
 stands_length head payloads (Some payload) end area p waits =
     omega (arith, waits.place, staged_length (head ++ waits.frames) (body_of payload) (content p area) waits.has.reads)
 
-pub room : (t : Option Past) (area : Area) (end frames : ℕ) (waits : Bool) → ForSome t (IsKept area end frames waits) → ForSome t (λ p. end + 1 ≤ length (content p area))
-room t area end frames waits holds =
-    λ p is. let kept = holds p is in stands_length kept.head kept.payloads kept.doubt end area p kept.stands
+pub room : (t : Option Past) (area : Area) (generation end frames : ℕ) (waits broken : Bool) (gate : OtherGate) → broken ≡ false → ForSome t (IsKept area generation end frames waits broken gate)
+    → ForSome t (λ p. end + 1 ≤ length (content p area))
+room t area generation end frames waits broken gate whole kept =
+    λ p is. let holds = (kept p is).holds whole in stands_length holds.head holds.payloads holds.doubt end area p holds.stands
 
 -- and so it is once the body is written
 pub room_on : (t0 t1 : Option Past) (area : Area) (end : ℕ) (body : List ℕ) → Goes t0 t1 (WritesSynced true area (end + 1) body) → ForSome t0 (λ p. end + 1 ≤ length (content p area)) → ForSome t1 (λ p. end ≤ length (content p area))
@@ -52,69 +55,94 @@ room_on t0 t1 area end body goes holds =
         omega (arith, is, length_overwritten (end + 1) body (content p area) within)
 
 -- an append, by how it ends
-pub kept_done : (t0 t1 : Option Past) (area : Area) (payload : List ℕ) (end frames : ℕ) → Goes t0 t1 (Adds area true false payload end) → ForSome t0 (IsKept area end frames false) → ForSome t1 (IsKept area (end + 3 + length payload) (frames + 1) false)
-kept_done t0 t1 area payload end frames goes holds =
-    tells_on t0 t1 (Adds area true false payload end) (IsKept area end frames false) (IsKept area (end + 3 + length payload) (frames + 1) false)
-    (λ p q adds kept. record {
-      head = kept.head;
-      payloads = kept.payloads ++ payload ∷ [];
-      doubt = None;
-      count = omega (arith, kept.count, length-append kept.payloads (payload ∷ []));
-      doubtful = refl;
-      stands = (adds kept.head kept.payloads (ready_of area end frames p kept)).leaves;
-    }) goes holds
+added_done : (area : Area) (payload : List ℕ) (end frames : ℕ) (p q : Past) → HoldsFrames area end frames false p → Adds area true false payload end p q → HoldsFrames area (end + 3 + length payload) (frames + 1) false q
+added_done area payload end frames p q holds adds = record {
+  head = holds.head;
+  payloads = holds.payloads ++ payload ∷ [];
+  doubt = None;
+  count = omega (arith, holds.count, length-append holds.payloads (payload ∷ []));
+  doubtful = refl;
+  stands = (adds holds.head holds.payloads (ready_of area end frames p holds)).leaves;
+}
 
-pub kept_refused : (t0 t1 : Option Past) (area : Area) (payload : List ℕ) (end frames : ℕ) → Goes t0 t1 (Adds area false false payload end) → ForSome t0 (IsKept area end frames false) → ForSome t1 (IsKept area end frames false)
-kept_refused t0 t1 area payload end frames goes holds =
-    tells_on t0 t1 (Adds area false false payload end) (IsKept area end frames false) (IsKept area end frames false)
-    (λ p q adds kept. record {
-      head = kept.head;
-      payloads = kept.payloads;
-      doubt = None;
-      count = kept.count;
-      doubtful = refl;
-      stands = (adds kept.head kept.payloads (ready_of area end frames p kept)).leaves;
-    }) goes holds
+added_refused : (area : Area) (payload : List ℕ) (end frames : ℕ) (p q : Past) → HoldsFrames area end frames false p → Adds area false false payload end p q → HoldsFrames area end frames false q
+added_refused area payload end frames p q holds adds = record {
+  head = holds.head;
+  payloads = holds.payloads;
+  doubt = None;
+  count = holds.count;
+  doubtful = refl;
+  stands = (adds holds.head holds.payloads (ready_of area end frames p holds)).leaves;
+}
 
-pub kept_in_doubt : (t0 t1 : Option Past) (area : Area) (payload : List ℕ) (end frames : ℕ) → Goes t0 t1 (Adds area false true payload end) → ForSome t0 (IsKept area end frames false) → ForSome t1 (IsKept area end frames true)
-kept_in_doubt t0 t1 area payload end frames goes holds =
-    tells_on t0 t1 (Adds area false true payload end) (IsKept area end frames false) (IsKept area end frames true)
-    (λ p q adds kept. record {
-      head = kept.head;
-      payloads = kept.payloads;
-      doubt = Some payload;
-      count = kept.count;
-      doubtful = refl;
-      stands = (adds kept.head kept.payloads (ready_of area end frames p kept)).leaves;
-    }) goes holds
+added_in_doubt : (area : Area) (payload : List ℕ) (end frames : ℕ) (p q : Past) → HoldsFrames area end frames false p → Adds area false true payload end p q → HoldsFrames area end frames true q
+added_in_doubt area payload end frames p q holds adds = record {
+  head = holds.head;
+  payloads = holds.payloads;
+  doubt = Some payload;
+  count = holds.count;
+  doubtful = refl;
+  stands = (adds holds.head holds.payloads (ready_of area end frames p holds)).leaves;
+}
+
+-- an append leaves the other area as it was
+added_there : (area : Area) (ok waits : Bool) (payload : List ℕ) (end frames : ℕ) (p q : Past) → HoldsFrames area end frames false p → Adds area ok waits payload end p q → now q (other area) ≡ now p (other area)
+added_there area ok waits payload end frames p q holds adds =
+    runs_there (BeforeOrAfter holds.head holds.payloads payload) area p q (adds holds.head holds.payloads (ready_of area end frames p holds)).runs
+
+module _ (t0 t1 : Option Past) (area : Area) (payload : List ℕ) (generation end frames : ℕ) (broken : Bool) (gate : OtherGate) (whole : broken ≡ false) where
+  kept_added : (ok waits : Bool) (end' frames' : ℕ) → ((p q : Past) → HoldsFrames area end frames false p → Adds area ok waits payload end p q → HoldsFrames area end' frames' waits q)
+      → Goes t0 t1 (Adds area ok waits payload end) → ForSome t0 (IsKept area generation end frames false broken gate) → ForSome t1 (IsKept area generation end' frames' waits broken gate)
+  kept_added ok waits end' frames' step goes kept =
+      tells_on t0 t1 (Adds area ok waits payload end) (IsKept area generation end frames false broken gate) (IsKept area generation end' frames' waits broken gate)
+      (λ p q adds kept. record {
+        holds = λ _. step p q (kept.holds whole) adds;
+        yields = subst (Has (Yields gate generation)) (sym (added_there area ok waits payload end frames p q (kept.holds whole) adds)) kept.yields;
+      }) goes kept
+
+  pub kept_done : Goes t0 t1 (Adds area true false payload end) → ForSome t0 (IsKept area generation end frames false broken gate) → ForSome t1 (IsKept area generation (end + 3 + length payload) (frames + 1) false broken gate)
+  kept_done goes kept = kept_added true false (end + 3 + length payload) (frames + 1) (added_done area payload end frames) goes kept
+
+  pub kept_refused : Goes t0 t1 (Adds area false false payload end) → ForSome t0 (IsKept area generation end frames false broken gate) → ForSome t1 (IsKept area generation end frames false broken gate)
+  kept_refused goes kept = kept_added false false end frames (added_refused area payload end frames) goes kept
+
+  pub kept_in_doubt : Goes t0 t1 (Adds area false true payload end) → ForSome t0 (IsKept area generation end frames false broken gate) → ForSome t1 (IsKept area generation end frames true broken gate)
+  kept_in_doubt goes kept = kept_added false true end frames (added_in_doubt area payload end frames) goes kept
 
 -- a mend, by how it ends
-mended_so : (area : Area) (ok : Bool) (end frames : ℕ) (p q : Past) (head : List ℕ) (payloads : List (List ℕ)) (doubt : Option (List ℕ)) → frames ≡ length payloads → true ≡ is_some doubt → Stands head payloads doubt end (now p area)
-    → Closes area ok end p q → IsKept area end frames (not ok) q
-mended_so area ok end frames p q head payloads None count is stands closes = absurd (cc)
-mended_so area true end frames p q head payloads (Some payload) count is stands closes = record {
-  head = head;
-  payloads = payloads;
-  doubt = None;
-  count = count;
-  doubtful = refl;
-  stands = (closes head payloads payload stands).leaves;
-}
-mended_so area false end frames p q head payloads (Some payload) count is stands closes = record {
-  head = head;
-  payloads = payloads;
-  doubt = Some payload;
-  count = count;
-  doubtful = refl;
-  stands = (closes head payloads payload stands).leaves;
-}
+record Mended (area : Area) (ok : Bool) (end frames : ℕ) (p q : Past) : Type 0 where
+  holds : HoldsFrames area end frames (not ok) q
+  there : now q (other area) ≡ now p (other area)
 
-pub kept_mended : (t0 t1 : Option Past) (area : Area) (ok : Bool) (end frames : ℕ) → Goes t0 t1 (Closes area ok end) → ForSome t0 (IsKept area end frames true) → ForSome t1 (IsKept area end frames (not ok))
-kept_mended t0 t1 area ok end frames goes holds =
-    tells_on t0 t1 (Closes area ok end) (IsKept area end frames true) (IsKept area end frames (not ok))
-    (λ p q closes kept. mended_so area ok end frames p q kept.head kept.payloads kept.doubt kept.count kept.doubtful kept.stands closes) goes holds
+mended_so : (area : Area) (ok : Bool) (end frames : ℕ) (p q : Past) (head : List ℕ) (payloads : List (List ℕ)) (doubt : Option (List ℕ)) → frames ≡ length payloads → true ≡ is_some doubt → Stands head payloads doubt end (now p area)
+    → Closes area ok end p q → Mended area ok end frames p q
+mended_so area ok end frames p q head payloads None count is stands closes = absurd (cc)
+mended_so area true end frames p q head payloads (Some payload) count is stands closes =
+    let mends = closes head payloads payload stands in
+    record {
+      holds = record { head = head; payloads = payloads; doubt = None; count = count; doubtful = refl; stands = mends.leaves };
+      there = runs_there (BeforeOrAfter head payloads payload) area p q mends.runs;
+    }
+mended_so area false end frames p q head payloads (Some payload) count is stands closes =
+    let mends = closes head payloads payload stands in
+    record {
+      holds = record { head = head; payloads = payloads; doubt = Some payload; count = count; doubtful = refl; stands = mends.leaves };
+      there = runs_there (BeforeOrAfter head payloads payload) area p q mends.runs;
+    }
+
+pub kept_mended : (t0 t1 : Option Past) (area : Area) (ok : Bool) (generation end frames : ℕ) (broken : Bool) (gate : OtherGate) → broken ≡ false → Goes t0 t1 (Closes area ok end) → ForSome t0 (IsKept area generation end frames true broken gate)
+    → ForSome t1 (IsKept area generation end frames (not ok) broken gate)
+kept_mended t0 t1 area ok generation end frames broken gate whole goes kept =
+    tells_on t0 t1 (Closes area ok end) (IsKept area generation end frames true broken gate) (IsKept area generation end frames (not ok) broken gate)
+    (λ p q closes kept. let holds = kept.holds whole in let after = mended_so area ok end frames p q holds.head holds.payloads holds.doubt holds.count holds.doubtful holds.stands closes in record {
+      holds = λ _. after.holds;
+      yields = subst (Has (Yields gate generation)) (sym after.there) kept.yields;
+    }) goes kept
 
 -- what is so of a value is so of the fields that it shows
+pub broken_inside : {D : Type 0} (inside value : View D) (broken : Bool) → inside ≡ value → value.broken ≡ broken → inside.broken ≡ broken
+broken_inside {D = D} inside value broken is here = ap (λ (v : View D). v.broken) is ∙ here
+
 pub waits_inside : {D : Type 0} (inside value : View D) (waits : Bool) → inside ≡ value → value.waits ≡ waits → inside.waits ≡ waits
 waits_inside {D = D} inside value waits is here = ap (λ (v : View D). v.waits) is ∙ here
 

@@ -4,3 +4,14 @@ mod Turning
 mod Keeping
 mod Resuming
 mod Unique
+pub mod Peeking
+mod Reading
+mod FrameAt
+mod NextFrame
+mod Opening
+mod Choosing
+mod Loads
+pub mod Once
+pub mod Accepted
+pub mod Recovered
+pub mod Stops

@@ -1,22 +1,28 @@
--- Why a journal may be resumed on what was prepared.
-use Rattle.std.proofs.Common.{None, [], ◌∷◌, ◌++◌, refl}
-use Rattle.disk_trait.proofs.Steps.{settled_has}
-use Rattle.disk_trait.specs.Past.{now}
+-- What was prepared is opened as a journal without frames.
+use Rattle.std.proofs.Common.{◌≡◌, ℕ, List, [], ◌∷◌, ◌++◌, length, refl, ap, ◌∙◌, arith, inl}
+use Rattle.wire_fields.specs.Field.{field_number}
+use Rattle.disk_trait.specs.Past.{content}
 use Rattle.disk_trait.specs.declared.area.Area.TheVariants.{A}
-use Rattle.bbs_journal.specs.Areas.{Begins}
-use Rattle.bbs_journal.specs.Preparing.{first_head, TakesFrames}
+use Rattle.bbs_journal.specs.Grammar.{heading}
+use Rattle.bbs_journal.specs.Preparing.{first_head, no_rows, OpensEmpty}
+use Rattle.bbs_journal.specs.declared.other_gate.OtherGate.TheVariants.{Loose}
+use Rattle.bbs_journal.proofs.Accepted.{accepted}
 
-pub takes_frames : TakesFrames
-takes_frames p q prepares = record {
-  head = first_head;
-  payloads = [];
-  doubt = None;
-  count = refl;
-  doubtful = refl;
-  stands = record {
+first_heading : first_head ≡ 1 ∷ heading 1 no_rows
+unfolding field_number
+first_heading = refl
+
+pub opens_empty : OpensEmpty
+unfolding field_number
+opens_empty p q prepares = accepted (content q) A 1 no_rows [] (record {
+  gate = 1;
+  is_open = omega arith;
+  goes_with = record { above = omega arith; below = omega arith; fits = omega arith; not_ahead = λ eight. omega arith };
+  area_is = record {
     frames = [];
     whole = refl;
-    place = refl;
-    has = settled_has (Begins (first_head ++ [] ++ 0 ∷ [])) (now q A) (prepares.settled A) (record { rest = []; parts = prepares.a });
+    begins = record { rest = []; parts = prepares.a ∙ ap (λ (l : List ℕ). l ++ 0 ∷ []) first_heading };
   };
-}
+  beside = Loose;
+  yields = inl (omega (arith, ap length prepares.b));
+})

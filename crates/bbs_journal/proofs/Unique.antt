@@ -8,7 +8,7 @@ use Rattle.bbs_journal.specs.Frames.{IsPayload, spelled, Whole}
 use Rattle.bbs_journal.specs.Areas.{Begins, AreOne}
 
 -- two lists that begin with parts of one length
-split : (a b r s : List ℕ) → length a ≡ length b → a ++ r ≡ b ++ s → (a ≡ b) × (r ≡ s)
+pub split : (a b r s : List ℕ) → length a ≡ length b → a ++ r ≡ b ++ s → (a ≡ b) × (r ≡ s)
 split a b r s len e = (
   sym (take_at a r (length a) refl) ∙ ap (take (length a)) e ∙ take_at b s (length a) (sym len),
   sym (drop_at a r (length a) refl) ∙ ap (drop (length a)) e ∙ drop_at b s (length a) (sym len),
@@ -19,7 +19,7 @@ unfolding field_number
 number_one m n m_fits n_fits e = sym (from_be_bytes-to_be_bytes_2 m m_fits) ∙ ap (from_be_bytes w16) e ∙ from_be_bytes-to_be_bytes_2 n n_fits
 
 -- a spelled payload says where it ends
-spelled_one : (a b r s : List ℕ) → IsPayload a → IsPayload b → spelled a ++ r ≡ spelled b ++ s → (a ≡ b) × (r ≡ s)
+pub spelled_one : (a b r s : List ℕ) → IsPayload a → IsPayload b → spelled a ++ r ≡ spelled b ++ s → (a ≡ b) × (r ≡ s)
 spelled_one a b r s a_fits b_fits e =
     let m = field_number w16 (length a) in
     let n = field_number w16 (length b) in

@@ -9,12 +9,12 @@ use Rattle.bbs_journal.specs.Frames.{IsPayload}
 use Rattle.bbs_journal.specs.Areas.{BeforeOrAfter, Ready, Waits, Stands}
 use Rattle.bbs_journal.specs.View.{View}
 
--- what an append asks: a payload, nothing in doubt, and room for one more frame
+-- what an append asks: a payload, an area without a defect, nothing in doubt, and fewer frames than can be counted
 pub record Fits {D : Type 0} (bytes : List ℕ) (journal : View D) : Type 0 where
   pub payload : IsPayload bytes
+  pub whole : journal.broken ≡ false
   pub mended : journal.waits ≡ false
   pub frames : journal.frames < 2 ^ 48
-  pub end : journal.end < 2 ^ 63
 
 -- a write and then a sync; it failed where one of them did
 abbrev pub WritesSynced : Bool → Area → ℕ → List ℕ → Past → Past → Type 0
@@ -52,17 +52,24 @@ abbrev pub Closes : Area → Bool → ℕ → Past → Past → Type 0
 Closes area ok end p q =
     (head : List ℕ) (payloads : List (List ℕ)) (payload : List ℕ) → Waits head payloads payload end (now p area) → Mends area ok head payloads payload end p q
 
+-- what no append and no mend changes: the area, its generation, that it has no defect, and the other gate
+pub record Stays {D : Type 0} (old new : View D) : Type 0 where
+  pub area : new.area ≡ old.area
+  pub generation : new.generation ≡ old.generation
+  pub broken : new.broken ≡ old.broken
+  pub gate : new.gate ≡ old.gate
+
 -- what a journal knows by itself after a payload of this length: where its area ends, and that only
 -- a failed append leaves something to mend
 pub record Grows {D : Type 0} (ok : Bool) (len : ℕ) (old new : View D) : Type 0 where
-  pub area : new.area ≡ old.area
+  pub stays : Stays old new
   pub end : new.end ≡ (if ok then old.end + 3 + len else old.end)
   pub frames : new.frames ≡ (if ok then old.frames + 1 else old.frames)
   pub waits : ok ≡ true → new.waits ≡ false
 
 -- after a mend nothing waits, and after one that failed what waited waits still; all else is as it was
 pub record Settles {D : Type 0} (ok : Bool) (old new : View D) : Type 0 where
-  pub area : new.area ≡ old.area
+  pub stays : Stays old new
   pub end : new.end ≡ old.end
   pub frames : new.frames ≡ old.frames
   pub waits : new.waits ≡ (if ok then false else true)

@@ -1,5 +1,13 @@
 pub mod Frames
 pub mod Areas
+pub mod Header
+pub mod Other
 pub mod View
 pub mod Calls
+pub mod Opening
+pub mod Shows
+pub mod Reading
+pub mod Found
+pub mod Grammar
+pub mod Stops
 pub mod Preparing

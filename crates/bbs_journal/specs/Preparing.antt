@@ -1,10 +1,10 @@
 -- What preparing a disk for its first frame does.
-use Rattle.std.specs.Prelude.{◌≡◌, ◌≢◌, ◌⊎◌, List, ℕ, Bool, true, false, [], ◌∷◌, ◌++◌, Result, Ok, Err}
+use Rattle.std.specs.Prelude.{◌≡◌, ◌≢◌, ◌⊎◌, List, ℕ, Bool, true, false, None, [], ◌∷◌, ◌++◌, Result, Ok, Err}
 use Rattle.disk_trait.specs.Past.{Past, content, IsSettled}
 use Rattle.disk_trait.specs.Runs.{Extends}
 use Rattle.disk_trait.specs.declared.area.Area.{Area}
 use Rattle.disk_trait.specs.declared.area.Area.TheVariants.{A, B}
-use Rattle.bbs_journal.specs.View.{IsKept}
+use Rattle.bbs_journal.specs.Opening.{IsOpening}
 use Rattle.bbs_journal.specs.declared.preparing.PrepareFault.{PrepareFault}
 use Rattle.bbs_journal.specs.declared.preparing.PrepareFault.TheVariants.{Disk, NotEmpty}
 
@@ -41,6 +41,10 @@ is_disk_fault (Ok x) = false
 is_disk_fault (Err NotEmpty) = false
 is_disk_fault (Err Disk) = true
 
--- what was prepared stands as a journal without frames, whose first gate is at place 47
-abbrev pub TakesFrames : Type 0
-TakesFrames = (p q : Past) → Prepares p q → IsKept A 47 0 false q
+-- a head without rows
+abbrev pub no_rows : List ℕ
+no_rows = 0 ∷ 0 ∷ 0 ∷ 0 ∷ 0 ∷ 0 ∷ 0 ∷ 0 ∷ 0 ∷ 0 ∷ 0 ∷ 0 ∷ 0 ∷ 0 ∷ 0 ∷ 0 ∷ 0 ∷ 0 ∷ 0 ∷ 0 ∷ 0 ∷ 0 ∷ 0 ∷ 0 ∷ []
+
+-- what was prepared is opened as a journal of generation 1 without frames, whose first gate is at place 47
+abbrev pub OpensEmpty : Type 0
+OpensEmpty = (p q : Past) → Prepares p q → IsOpening (content q) A 1 no_rows [] None 47

@@ -1,6 +1,6 @@
 //! A frame is a gate, a length and a payload. It counts where its gate is open, and the gate is
 //! opened last, when the payload and the next closed gate behind it are on the disk.
-ghost use Rattle.std.specs.Prelude.{◌≡◌, ◌<◌, ◌+◌, ◌^◌, false, true, length, is_ok, is_err};
+ghost use Rattle.std.specs.Prelude.{◌≡◌, ◌<◌, ◌+◌, ◌*◌, ◌^◌, false, true, length, is_ok, is_err};
 ghost use Rattle.std.specs.Option.{ForSome};
 ghost use Rattle.byte_ports.specs.Cause.{HasCause};
 ghost use Rattle.disk_trait.specs.Steps.{Goes};
@@ -8,9 +8,10 @@ ghost use Rattle.bbs_journal.specs.Frames.{IsPayload};
 ghost use Rattle.bbs_journal.specs.View.{IsKept};
 ghost use Rattle.bbs_journal.specs.Calls.{Adds, Closes, Grows, Settles, Fits};
 
-use crate::DiskFault;
 use crate::body::{LONGEST, put_body};
+use crate::place::Place;
 use crate::synced::write_synced;
+use crate::{DiskFault, OtherGate};
 use disk_trait::{Area, Disk};
 use std::marker::Model;
 
@@ -26,12 +27,16 @@ const CLOSED: [u8; 1] = [0];
 pub struct Journal<D: Disk> {
     disk: D,
     area: Area,
+    generation: u64,
     end: u64,
     frames: u64,
     waits: bool,
+    broken: bool,
+    gate: OtherGate,
 }
 
 impl<D: Disk> Model for Journal<D> {
+    ghost use Rattle.std.specs.Prelude.{ℕ, ◌+◌, ◌*◌, ◌^◌, ◌<◌};
     ghost use Rattle.std.specs.Option.{ForSome};
     ghost use Rattle.bbs_journal.specs.View.{View, IsKept};
 
@@ -40,33 +45,45 @@ impl<D: Disk> Model for Journal<D> {
     ghost view = { λ j. record {
       disk = j.disk;
       area = j.area;
+      generation = j.generation;
       end = j.end;
       frames = j.frames;
       waits = j.waits;
+      broken = j.broken;
+      gate = j.gate;
     } };
 
-    ghost invariant = { λ j. ForSome (D.told j.disk) (IsKept j.area j.end j.frames j.waits) };
+    ghost invariant = { λ j. (j.end < 2 ^ 33 + 515 * j.frames)
+        × ForSome (D.told j.disk)
+        (IsKept j.area j.generation j.end j.frames j.waits j.broken j.gate) };
 }
 
 impl<D: Disk> Journal<D> {
-    /// Goes on with an area that holds this many frames, with a closed gate at `end` and nothing in
-    /// doubt: what a reader of the area found.
-    pub fn resume(disk: D, area: Area, end: u64, frames: u64) -> Journal<D>
-        requires { ForSome (D.told disk) (IsKept area end frames false) }
+    /// Goes on with what was found on the disk. Nothing is in doubt.
+    pub(crate) fn resume(disk: D, found: Place) -> Journal<D>
+        requires small { found.end < 2 ^ 33 + 515 * found.frames }
+        requires kept { ForSome (D.told disk) (IsKept found.area found.generation found.end
+            found.frames false found.broken found.gate) }
         ensures { result ≡ record {
           disk = disk;
-          area = area;
-          end = end;
-          frames = frames;
+          area = found.area;
+          generation = found.generation;
+          end = found.end;
+          frames = found.frames;
           waits = false;
+          broken = found.broken;
+          gate = found.gate;
         } }
     {
         Journal {
             disk,
-            area,
-            end,
-            frames,
+            area: found.area,
+            generation: found.generation,
+            end: found.end,
+            frames: found.frames,
             waits: false,
+            broken: found.broken,
+            gate: found.gate,
         }
     }
 
@@ -98,6 +115,7 @@ impl<D: Disk> Journal<D> {
     /// Closes the gate that a failed append may have left open, by a write and a sync. It makes no
     /// device call where nothing waits.
     pub fn mend(&mut self) -> Result<(), DiskFault>
+        requires { self.old.broken ≡ false }
         ensures does { self.old.waits ≡ true → Goes (D.told self.old.disk) (D.told self.new.disk)
             (Closes self.old.area (is_ok result) self.old.end) }
         ensures cause { HasCause (is_err result)
@@ -114,6 +132,13 @@ impl<D: Disk> Journal<D> {
         Ok(())
     }
 
+    /// The place of the gate behind the last frame.
+    pub fn end(&self) -> u64
+        ensures { result ≡ self.now.end }
+    {
+        self.end
+    }
+
     /// How many frames were acknowledged.
     pub fn frames(&self) -> u64
         ensures { result ≡ self.now.frames }
@@ -126,6 +151,13 @@ impl<D: Disk> Journal<D> {
         ensures { result ≡ self.now.area }
     {
         self.area
+    }
+
+    /// The generation of that area, at least 1.
+    pub fn generation(&self) -> u64
+        ensures { result ≡ self.now.generation }
+    {
+        self.generation
     }
 
     /// The number of device calls that the disk has had.
@@ -149,9 +181,12 @@ impl<D: Disk> Journal<D> {
         let Journal {
             disk,
             area: _,
+            generation: _,
             end: _,
             frames: _,
             waits: _,
+            broken: _,
+            gate: _,
         } = self;
         disk
     }

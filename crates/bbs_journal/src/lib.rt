@@ -1,17 +1,35 @@
 //! A journal of payloads in an area of a disk, safe against a stop at any moment.
 #![tactic(auto)]
 
+mod active;
 mod body;
 mod fault;
+mod find;
+mod frame;
+mod frame_list;
+mod head;
+mod header;
 mod journal;
 mod laws;
+mod load_fault;
+mod loading;
+mod look;
+mod other_gate;
+mod place;
 mod preparing;
 mod synced;
 
 pub use fault::DiskFault;
 pub use journal::Journal;
-pub use laws::an_area_holds_one_list_of_payloads;
-pub use preparing::{PrepareFault, a_prepared_area_takes_frames, prepare};
+pub use laws::{
+    a_stop_is_opened_before_or_after, an_area_holds_one_list_of_payloads, an_image_is_opened_once,
+    what_is_acknowledged_is_opened, what_is_opened_is_recovered, what_is_recovered_is_opened,
+    what_is_recovered_takes_frames,
+};
+pub use load_fault::LoadFault;
+pub use loading::{Loaded, load};
+pub use other_gate::OtherGate;
+pub use preparing::{PrepareFault, prepare, what_is_prepared_is_opened};
 
 #[cfg(test)]
 mod tests;

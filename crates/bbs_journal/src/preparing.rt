@@ -2,7 +2,7 @@
 ghost use Rattle.std.specs.Prelude.{◌≡◌};
 ghost use Rattle.byte_ports.specs.Cause.{HasCause};
 ghost use Rattle.disk_trait.specs.Steps.{Goes};
-ghost use Rattle.bbs_journal.specs.Preparing.{PreparesBy, TakesFrames, is_disk_fault};
+ghost use Rattle.bbs_journal.specs.Preparing.{PreparesBy, OpensEmpty, is_disk_fault};
 ghost use Rattle.bbs_journal.specs.declared.preparing.PrepareFault.TheVariants as faults;
 
 use byte_ports::Failed;
@@ -49,7 +49,7 @@ pub fn prepare<D: Disk>(disk: &mut D) -> Result<(), PrepareFault>
     Ok(())
 }
 
-/// A journal may be resumed on what was prepared, at place 47 and with no frame.
-pub fn a_prepared_area_takes_frames()
-    ensures { TakesFrames }
+/// What was prepared is opened without frames, and at place 47 stands the gate of the first.
+pub fn what_is_prepared_is_opened()
+    ensures { OpensEmpty }
 {}

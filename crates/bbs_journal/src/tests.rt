@@ -1,145 +1,219 @@
 ghost use Rattle.std.specs.Prelude.{◌≡◌, false, IfOk};
 
+mod failing;
+
 use super::*;
 use disk_trait::{Area, Disk, MemoryDisk, Torn};
 use std::alloc::Global;
+use std::process::Abort;
 use std::test::Fail;
 
-// A head of four bytes, and a closed gate.
-const EMPTY: [u8; 5] = [104, 101, 97, 100, 0];
+// A board without rows, as it is prepared: 47 bytes and a closed gate.
+const EMPTY: [u8; 48] = [
+    0x01, 0x44, 0x49, 0x45, 0x47, 0x4f, 0x42, 0x42, 0x53, 0, 1, 0, 0, 0, 0, 0, 0, 0, 1, 0, 0, 0,
+    0x18, 0, 0, 0, 0, 0, 0, 0, 0, 0, 0, 0, 0, 0, 0, 0, 0, 0, 0, 0, 0, 0, 0, 0, 0, 0,
+];
 
-// The same with a frame of "one", and of "two".
-const ONE: [u8; 11] = [104, 101, 97, 100, 1, 0, 3, 111, 110, 101, 0];
+// The same with the frame of one desire.
+const DESIRED: [u8; 81] = [
+    0x01, 0x44, 0x49, 0x45, 0x47, 0x4f, 0x42, 0x42, 0x53, 0, 1, 0, 0, 0, 0, 0, 0, 0, 1, 0, 0, 0,
+    0x18, 0, 0, 0, 0, 0, 0, 0, 0, 0, 0, 0, 0, 0, 0, 0, 0, 0, 0, 0, 0, 0, 0, 0, 0, 0x01, 0, 0x1e,
+    0x01, 0, 0, 0, 0, 0x03, 0x77, 0x65, 0x62, 0x04, 0x61, 0x70, 0x70, 0x73, 0, 0, 0, 3, 0, 0, 0,
+    0x40, 0, 0, 0, 0x80, 0, 0, 0x1f, 0x90, 0,
+];
 
-const TWO: [u8; 11] = [104, 101, 97, 100, 1, 0, 3, 116, 119, 111, 0];
+// How many device calls the load of the empty board makes.
+const CALLS: u64 = 7;
 
-// The front and the end of a frame of 512 sevens.
-const FRONT: [u8; 8] = [104, 101, 97, 100, 1, 2, 0, 7];
+// Frames of "one" and of "two", behind the 47 bytes.
+const ONE: [u8; 7] = [1, 0, 3, 111, 110, 101, 0];
 
-const BACK: [u8; 2] = [7, 0];
+const TWO: [u8; 7] = [1, 0, 3, 116, 119, 111, 0];
 
-fn empty_journal(alloc: Global, failing: &[u64]) -> Result<Journal<MemoryDisk>, Fail>
-    ensures { IfOk result (λ j. (j.end ≡ 4) × (j.frames ≡ 0) × (j.waits ≡ false)) }
+fn disk_of(alloc: Global, a: &[u8], b: &[u8], failing: &[u64]) -> Result<MemoryDisk, Fail> {
+    let a = a.to_vec(alloc)?;
+    let b = b.to_vec(alloc)?;
+    Ok(MemoryDisk::new(alloc, a, b, failing.to_vec(alloc)?))
+}
+
+fn empty_journal(
+    rt: &impl Abort,
+    alloc: Global,
+    failing: &[u64],
+) -> Result<Journal<MemoryDisk>, Fail>
+    ensures { IfOk result (λ j.
+        (j.frames ≡ 0) × (j.waits ≡ false) × (j.broken ≡ false)) }
 {
-    let a = EMPTY.to_vec(alloc)?;
-    let disk = MemoryDisk::new(alloc, a, Vec::new(alloc), failing.to_vec(alloc)?);
-    Ok(Journal::resume(disk, Area::A, 4, 0))
+    match load(alloc, disk_of(alloc, &EMPTY, &[], failing)?) {
+        Ok(loaded) => {
+            assert!(rt; loaded.broken.is_none());
+            assert!(rt; loaded.journal.frames() == 0);
+            assert_eq!(rt; loaded.journal.clock(), CALLS);
+            Ok(loaded.journal)
+        }
+        Err((_, fault)) => {
+            let failed: Result<Journal<MemoryDisk>, LoadFault> = Err(fault);
+            Ok(failed?)
+        }
+    }
+}
+
+// How many frames are read, and the place of the defect behind them.
+fn opened(
+    alloc: Global,
+    a: &[u8],
+    b: &[u8],
+) -> Result<Result<(usize, Option<u64>), LoadFault>, Fail> {
+    match load(alloc, disk_of(alloc, a, b, &[])?) {
+        Ok(loaded) => Ok(Ok((loaded.frames.len(), loaded.broken))),
+        Err((_, fault)) => Ok(Err(fault)),
+    }
 }
 
 #[test]
 fn a_frame_is_a_gate_a_length_and_a_payload(rt: HostRuntime) -> Result<(), Fail> {
-    let mut journal = empty_journal(rt.alloc(), &[])?;
+    let mut journal = empty_journal(&rt, rt.alloc(), &[])?;
     assert_eq!(rt; journal.append(b"one"), Ok(()));
     assert_eq!(rt; journal.frames(), 1);
-    assert_eq!(rt; journal.clock(), 4);
+    assert_eq!(rt; journal.end(), 53);
+    assert_eq!(rt; journal.clock(), CALLS + 4);
     assert_eq!(rt; journal.area(), Area::A);
+    assert_eq!(rt; journal.generation(), 1);
     let disk = journal.into_disk();
-    assert_eq!(rt; disk.bytes(Area::A), ONE.as_slice());
+    assert_eq!(rt; disk.bytes(Area::A).get(..47), EMPTY.get(..47));
+    assert_eq!(rt; disk.bytes(Area::A).get(47..), Some(ONE.as_slice()));
     assert!(rt; disk.bytes(Area::B).is_empty());
     Ok(())
 }
 
 #[test]
 fn the_longest_payload_has_512_bytes(rt: HostRuntime) -> Result<(), Fail> {
-    let mut journal = empty_journal(rt.alloc(), &[])?;
+    let alloc = rt.alloc();
+    let mut journal = empty_journal(&rt, alloc, &[])?;
     assert_eq!(rt; journal.append(&[7u8; 512]), Ok(()));
     let disk = journal.into_disk();
-    assert_eq!(rt; disk.bytes(Area::A).len(), 520);
-    assert!(rt; disk.bytes(Area::A).starts_with(&FRONT));
-    assert!(rt; disk.bytes(Area::A).ends_with(&BACK));
+    let bytes = disk.bytes(Area::A);
+    assert_eq!(rt; bytes.len(), 563);
+    assert_eq!(rt; bytes.get(47..51), Some([1, 2, 0, 7].as_slice()));
+    assert!(rt; bytes.ends_with(&[7, 0]));
+    assert_eq!(rt; opened(alloc, bytes, &[])?, Ok((1, None)));
     Ok(())
 }
 
 #[test]
-fn a_stop_within_an_append_leaves_the_gate_closed_or_a_whole_frame(
+fn a_cut_area_is_told_by_its_length_or_its_last_frame(rt: HostRuntime) -> Result<(), Fail> {
+    for n in 0..82usize {
+        let got = opened(rt.alloc(), &DESIRED[..n.min(81)], &[])?;
+        let at = n as u64;
+        let want = match n {
+            0..=10 => Err(LoadFault::NotABoard { area: Area::A }),
+            11..=46 => Err(LoadFault::Damaged { area: Area::A, at }),
+            47..=79 => Ok((0, Some(47))),
+            80 => Ok((1, Some(80))),
+            _ => Ok((1, None)),
+        };
+        assert_eq!(rt; got, want, "cut to {n}");
+    }
+    Ok(())
+}
+
+#[test]
+fn a_changed_byte_is_told_where_it_counts(rt: HostRuntime) -> Result<(), Fail> {
+    let not_ours = LoadFault::NotABoard { area: Area::A };
+    let generation = LoadFault::Damaged {
+        area: Area::A,
+        at: 11,
+    };
+    let table = [
+        (0, 0, Err(not_ours)),
+        (0, 9, Ok((1, None))),
+        (1, 9, Err(not_ours)),
+        (10, 2, Err(not_ours)),
+        (18, 0, Err(generation)),
+        (18, 2, Err(generation)),
+        (
+            22,
+            99,
+            Err(LoadFault::Damaged {
+                area: Area::A,
+                at: 81,
+            }),
+        ),
+        (47, 7, Ok((1, None))),
+        (49, 0, Ok((0, Some(47)))),
+        (48, 3, Ok((0, Some(47)))),
+        (50, 99, Ok((1, None))),
+        (80, 1, Ok((1, Some(80)))),
+    ];
+    for (place, byte, want) in table {
+        let mut bytes = DESIRED.to_vec(rt.alloc())?;
+        if let Some(cell) = bytes.get_mut(place) {
+            *cell = byte;
+        }
+        assert_eq!(rt; opened(rt.alloc(), &bytes, &[])?, want, "at {place}");
+    }
+    Ok(())
+}
+
+#[test]
+fn of_two_areas_the_newer_is_read(rt: HostRuntime) -> Result<(), Fail> {
+    let alloc = rt.alloc();
+    // Generation 2 over a head that begins with 1.
+    let mut newer = EMPTY;
+    newer[18] = 2;
+    newer[30] = 1;
+    let second = LoadFault::Damaged {
+        area: Area::B,
+        at: 11,
+    };
+    let foreign = LoadFault::NotABoard { area: Area::B };
+    assert_eq!(rt; opened(alloc, &DESIRED, &newer)?, Ok((0, None)));
+    assert_eq!(rt; opened(alloc, &newer, &DESIRED)?, Ok((0, None)));
+    assert_eq!(rt; opened(alloc, &DESIRED, &DESIRED)?, Err(second));
+    assert_eq!(rt; opened(alloc, &DESIRED, &[1, 2])?, Err(foreign));
+    assert_eq!(rt; opened(alloc, &DESIRED, &[0, 2])?, Ok((1, None)));
+    assert_eq!(rt; opened(alloc, &DESIRED, &[2])?, Ok((1, None)));
+    assert_eq!(rt; opened(alloc, &[0; 48], &DESIRED)?, Ok((1, None)));
+    Ok(())
+}
+
+#[test]
+fn a_stop_within_an_append_leaves_the_frames_before_or_one_more(
     rt: HostRuntime,
 ) -> Result<(), Fail> {
-    let mut journal = empty_journal(rt.alloc(), &[])?;
+    let alloc = rt.alloc();
+    let mut journal = empty_journal(&rt, alloc, &[])?;
     assert_eq!(rt; journal.append(b"one"), Ok(()));
     let disk = journal.into_disk();
     // The body, its sync, the gate, its sync. A byte of 9 is an open gate, too.
     let cases = [
-        (1, Torn::Old, 0u8, 5),
-        (1, Torn::New, 0, 11),
-        (1, Torn::Byte(9), 0, 11),
-        (2, Torn::Byte(9), 0, 11),
-        (3, Torn::Old, 0, 11),
-        (3, Torn::New, 1, 11),
-        (3, Torn::Byte(9), 9, 11),
-        (4, Torn::Byte(0), 0, 11),
-        (4, Torn::New, 1, 11),
+        (1, Torn::Old, 0),
+        (1, Torn::New, 0),
+        (1, Torn::Byte(9), 0),
+        (2, Torn::Byte(9), 0),
+        (3, Torn::Old, 0),
+        (3, Torn::New, 1),
+        (3, Torn::Byte(9), 1),
+        (4, Torn::Byte(0), 0),
+        (4, Torn::New, 1),
     ];
-    for (call, torn, gate, len) in cases {
-        assert!(rt; call <= disk.clock());
-        let (a, b) = disk.image(rt.alloc(), call, torn)?;
-        assert_eq!(rt; a.get(4).copied(), Some(gate), "at call {call}");
-        assert_eq!(rt; a.len(), len, "at call {call}");
-        if gate != 0 {
-            assert_eq!(rt; a.get(5..), ONE.get(5..), "at call {call}");
-        }
-        assert!(rt; b.is_empty());
+    for (call, torn, frames) in cases {
+        assert!(rt; CALLS + call <= disk.clock());
+        let (a, b) = disk.image(alloc, CALLS + call, torn)?;
+        assert_eq!(rt;
+            opened(alloc, &a, &b)?,
+            Ok((frames, None)),
+            "at call {call}"
+        );
     }
     Ok(())
 }
-
-#[test]
-fn what_was_refused_is_gone_after_the_mend(rt: HostRuntime) -> Result<(), Fail> {
-    for call in 1..5 {
-        let mut journal = empty_journal(rt.alloc(), &[call])?;
-        assert_eq!(rt; journal.append(b"one"), Err(DiskFault));
-        assert_eq!(rt; journal.frames(), 0);
-        assert_eq!(rt; journal.clock(), call);
-        assert_eq!(rt; journal.waits(), call > 2);
-        assert_eq!(rt; journal.mend(), Ok(()));
-        let mended = if call > 2 { call + 2 } else { call };
-        assert_eq!(rt; journal.clock(), mended);
-        assert_eq!(rt; journal.append(b"two"), Ok(()));
-        let disk = journal.into_disk();
-        assert_eq!(rt; disk.bytes(Area::A), TWO.as_slice());
-        for later in mended + 1..mended + 5 {
-            for torn in [Torn::Old, Torn::New] {
-                assert!(rt; later <= disk.clock());
-                let (a, _) = disk.image(rt.alloc(), later, torn)?;
-                let is_closed = a.get(4).copied() == Some(0);
-                assert!(rt;
-                    is_closed || a.as_slice() == TWO.as_slice(),
-                    "at call {later}"
-                );
-            }
-        }
-    }
-    Ok(())
-}
-
-#[test]
-fn a_mend_that_fails_leaves_the_gate_to_the_next(rt: HostRuntime) -> Result<(), Fail> {
-    for call in 4..6 {
-        let mut journal = empty_journal(rt.alloc(), &[3, call])?;
-        assert_eq!(rt; journal.append(b"one"), Err(DiskFault));
-        assert_eq!(rt; journal.mend(), Err(DiskFault));
-        assert!(rt; journal.waits());
-        assert_eq!(rt; journal.mend(), Ok(()));
-        assert!(rt; !journal.waits());
-        let disk = journal.into_disk();
-        assert_eq!(rt; disk.bytes(Area::A).get(..5), Some(EMPTY.as_slice()));
-    }
-    Ok(())
-}
-
-// The open header gate, the magic, version 1, generation 1, and the length of a head of 24 bytes.
-const HEADER: [u8; 23] = [
-    0x01, 0x44, 0x49, 0x45, 0x47, 0x4f, 0x42, 0x42, 0x53, 0, 1, 0, 0, 0, 0, 0, 0, 0, 1, 0, 0, 0,
-    0x18,
-];
 
 #[test]
 fn two_empty_areas_are_prepared_once(rt: HostRuntime) -> Result<(), Fail> {
-    let alloc = rt.alloc();
-    let mut disk = MemoryDisk::new(alloc, Vec::new(alloc), Vec::new(alloc), [8].to_vec(alloc)?);
+    let mut disk = disk_of(rt.alloc(), &[], &[], &[8])?;
     assert_eq!(rt; prepare(&mut disk), Ok(()));
-    assert_eq!(rt; disk.bytes(Area::A).len(), 48);
-    assert!(rt; disk.bytes(Area::A).starts_with(&HEADER));
-    assert!(rt; disk.bytes(Area::A).ends_with(&[0; 25]));
+    assert_eq!(rt; disk.bytes(Area::A), EMPTY.as_slice());
     assert!(rt; disk.bytes(Area::B).is_empty());
     assert_eq!(rt; prepare(&mut disk), Err(PrepareFault::NotEmpty));
     assert_eq!(rt; prepare(&mut disk), Err(PrepareFault::Disk));

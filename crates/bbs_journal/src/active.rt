@@ -1,0 +1,84 @@
+//! Which area holds the journal.
+ghost use Rattle.std.specs.Prelude.{◌≡◌, false, IfErr};
+ghost use Rattle.bbs_journal.specs.Opening.{active_of, newer};
+ghost use Rattle.bbs_journal.specs.Header.{gate_of};
+ghost use Rattle.bbs_journal.specs.Shows.{is_disk_fault};
+
+use crate::header::Header;
+use crate::{LoadFault, OtherGate};
+use disk_trait::Area;
+
+/// The place of the generation in an area.
+pub(crate) const GENERATION_AT: u64 = 11;
+
+/// The area that is read, and its generation.
+#[derive(Clone, Copy, Debug)]
+pub(crate) struct Active {
+    pub(crate) area: Area,
+    pub(crate) generation: u64,
+}
+
+/// Both areas are open, with these generations.
+fn choose_newer(a: u64, b: u64) -> Result<Active, LoadFault>
+    ensures value { result ≡ newer a b }
+    ensures told { IfErr result (λ e. is_disk_fault e ≡ false) }
+{
+    if a == b {
+        return Err(LoadFault::Damaged {
+            area: Area::B,
+            at: GENERATION_AT,
+        });
+    }
+    if b < a {
+        return Ok(Active {
+            area: Area::A,
+            generation: a,
+        });
+    }
+    Ok(Active {
+        area: Area::B,
+        generation: b,
+    })
+}
+
+/// These are the headers of both areas.
+pub(crate) fn choose(a: Header, b: Header) -> Result<Active, LoadFault>
+    ensures value { result ≡ active_of a b }
+    ensures told { IfErr result (λ e. is_disk_fault e ≡ false) }
+{
+    match a {
+        Header::Foreign => Err(LoadFault::NotABoard { area: Area::A }),
+        Header::Closed(_) => match b {
+            Header::Foreign => Err(LoadFault::NotABoard { area: Area::B }),
+            Header::Closed(_) => Err(LoadFault::NotABoard { area: Area::A }),
+            Header::Cut(at) => Err(LoadFault::Damaged { area: Area::B, at }),
+            Header::Open(generation) => Ok(Active {
+                area: Area::B,
+                generation,
+            }),
+        },
+        Header::Cut(at) => match b {
+            Header::Foreign => Err(LoadFault::NotABoard { area: Area::B }),
+            _ => Err(LoadFault::Damaged { area: Area::A, at }),
+        },
+        Header::Open(generation) => match b {
+            Header::Foreign => Err(LoadFault::NotABoard { area: Area::B }),
+            Header::Closed(_) => Ok(Active {
+                area: Area::A,
+                generation,
+            }),
+            Header::Cut(at) => Err(LoadFault::Damaged { area: Area::B, at }),
+            Header::Open(other) => choose_newer(generation, other),
+        },
+    }
+}
+
+/// What such a header tells of its gate.
+pub(crate) fn gate_in(header: Header) -> OtherGate
+    ensures { result ≡ gate_of header }
+{
+    match header {
+        Header::Closed(gate) => gate,
+        _ => OtherGate::Loose,
+    }
+}

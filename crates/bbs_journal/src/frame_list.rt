@@ -1,0 +1,93 @@
+//! Reading the frames of an area one by one.
+ghost use Rattle.std.specs.Prelude.{◌≡◌, ◌+◌, ◌-◌, ◌*◌, ◌≤◌, length, drop, IfOk, IfErr};
+ghost use Rattle.byte_ports.specs.Cause.{HasCause};
+ghost use Rattle.disk_trait.specs.Past.{Image};
+ghost use Rattle.disk_trait.specs.Steps.{Goes};
+ghost use Rattle.bbs_journal.specs.Shows.{Shows, Peeks, is_disk_fault, IsFree, failed};
+ghost use Rattle.bbs_journal.specs.Opening.{AreFrames};
+ghost use Rattle.bbs_journal.specs.Reading.{IsAt, IsWithin, payloads_of, bytes_of};
+
+use crate::LoadFault;
+use crate::body::LONGEST;
+use crate::frame::{Next, next_frame};
+use disk_trait::{Area, Disk};
+use std::alloc::Global;
+
+/// The payloads of an area's frames, the place behind the last, and that place again where no gate
+/// stands there.
+#[derive(Drop)]
+pub(crate) struct Frames {
+    pub(crate) payloads: Vec<Vec<u8>>,
+    pub(crate) end: u64,
+    pub(crate) broken: Option<u64>,
+}
+
+/// Reads as many bytes as the longest frame has, where the area has so many of its `len` bytes left.
+fn read_next<D: Disk>(
+    alloc: Global,
+    disk: &mut D,
+    area: Area,
+    at: u64,
+    len: u64,
+) -> Result<Next, LoadFault>
+    requires { at ≤ len }
+    ensures shows { IfOk result (λ next. (c : Image) → Shows (D.told disk.old) c →
+        len ≡ length (c area) → IsAt next (drop at (c area))) }
+    ensures within { IfOk result (λ next. IsWithin next (len - at)) }
+    ensures free { IfErr result IsFree }
+    ensures does { Goes (D.told disk.old) (D.told disk.new) Peeks }
+    ensures cause { HasCause (failed is_disk_fault result)
+        (D.fault_count disk.old) (D.fault_count disk.new) }
+{
+    let mut room = [0u8; LONGEST];
+    let count = disk.read_at(area, at, &mut room)?;
+    let count = count.min((len - at) as usize);
+    Ok(next_frame(alloc, &room[..count])?)
+}
+
+/// All frames from `start` on, of an area of `len` bytes.
+pub(crate) fn read_frames<D: Disk>(
+    alloc: Global,
+    disk: &mut D,
+    area: Area,
+    start: u64,
+    len: u64,
+) -> Result<Frames, LoadFault>
+    requires { start ≤ len }
+    ensures shows { IfOk result (λ f. (c : Image) → Shows (D.told disk.old) c →
+        len ≡ length (c area) →
+        AreFrames (payloads_of f.payloads.items) f.broken f.end start (drop start (c area))) }
+    ensures end { IfOk result (λ f.
+        f.end ≡ start + bytes_of (payloads_of f.payloads.items)) }
+    ensures within { IfOk result (λ f. f.end ≤ len) }
+    ensures few { IfOk result (λ f. f.end ≤ start + 515 * length f.payloads.items) }
+    ensures free { IfErr result IsFree }
+    ensures does { Goes (D.told disk.old) (D.told disk.new) Peeks }
+    ensures cause { HasCause (failed is_disk_fault result)
+        (D.fault_count disk.old) (D.fault_count disk.new) }
+{
+    let mut payloads = Vec::new(alloc);
+    let mut at = start;
+    loop {
+        match read_next(alloc, disk, area, at, len)? {
+            Next::Frame(payload) => {
+                at += 3 + payload.len() as u64;
+                payloads.push(payload)?;
+            }
+            Next::Gate => {
+                return Ok(Frames {
+                    payloads,
+                    end: at,
+                    broken: None,
+                });
+            }
+            Next::Defect => {
+                return Ok(Frames {
+                    payloads,
+                    end: at,
+                    broken: Some(at),
+                });
+            }
+        }
+    }
+}

@@ -1,0 +1,71 @@
+//! Opening a journal: both areas are made sure to stay as they are, and then read.
+ghost use Rattle.std.specs.Prelude.{◌≡◌, ◌+◌, ◌^◌, ◌<◌, false, length, is_some, IfOk, IfErr};
+ghost use Rattle.std.specs.Option.{ForSome};
+ghost use Rattle.byte_ports.specs.Cause.{HasCause};
+ghost use Rattle.disk_trait.specs.Past.{Image};
+ghost use Rattle.disk_trait.specs.Steps.{Goes};
+ghost use Rattle.bbs_journal.specs.View.{IsKept};
+ghost use Rattle.bbs_journal.specs.Opening.{headed, IsOpening};
+ghost use Rattle.bbs_journal.specs.Reading.{payloads_of, bytes_of};
+ghost use Rattle.bbs_journal.specs.Shows.{Shows, Keeps, Secures, is_disk_fault, Fails, failed};
+ghost use Rattle.bbs_journal.specs.Found.{IsFound, IsCounted, IsFresh};
+
+use crate::find::{Found, find};
+use crate::look::settle;
+use crate::{Journal, LoadFault};
+use disk_trait::Disk;
+use std::alloc::Global;
+
+/// A journal, the head of its area, and the payloads of its frames in their order.
+#[derive(Drop)]
+pub struct Loaded<D: Disk> {
+    pub journal: Journal<D>,
+    pub head: Vec<u8>,
+    pub frames: Vec<Vec<u8>>,
+    /// The place of the first frame that is not whole, or of a missing gate, behind those frames.
+    pub broken: Option<u64>,
+}
+
+fn read_disk<D: Disk>(alloc: Global, disk: &mut D) -> Result<Found, LoadFault>
+    ensures shows { IfOk result (λ f. (c : Image) → Shows (D.told disk.old) c → IsFound c f) }
+    ensures counts { IfOk result IsCounted }
+    ensures kept { IfOk result (λ f. ForSome (D.told disk.new) (IsKept f.place.area
+        f.place.generation f.place.end f.place.frames false f.place.broken f.place.gate)) }
+    ensures fault { IfErr result (λ e. (c : Image) → Shows (D.told disk.old) c →
+        Fails e (headed c)) }
+    ensures ok { IfOk result (λ f. Goes (D.told disk.old) (D.told disk.new) Secures) }
+    ensures err { IfErr result (λ e. Goes (D.told disk.old) (D.told disk.new) Keeps) }
+    ensures cause { HasCause (failed is_disk_fault result)
+        (D.fault_count disk.old) (D.fault_count disk.new) }
+{
+    settle(disk)?;
+    find(alloc, disk)
+}
+
+/// Reads a disk that holds a journal. At `Ok` both areas are synced. A frame that is not whole is no
+/// fault: what stands before it is read, and nothing can be appended or mended.
+pub fn load<D: Disk>(alloc: Global, mut disk: D) -> Result<Loaded<D>, (D, LoadFault)>
+    ensures found { IfOk result (λ l. (c : Image) → Shows (D.told disk) c →
+        IsOpening c l.journal.area l.journal.generation l.head.items
+        (payloads_of l.frames.items) l.broken l.journal.end) }
+    ensures end { IfOk result (λ l. l.journal.end ≡
+        23 + length l.head.items + bytes_of (payloads_of l.frames.items)) }
+    ensures fresh { IfOk result (λ l. IsFresh l.journal (length l.frames.items) l.broken) }
+    ensures fault { IfErr result (λ e. (c : Image) → Shows (D.told disk) c →
+        Fails e.1 (headed c)) }
+    ensures ok { IfOk result (λ l. Goes (D.told disk) (D.told l.journal.disk) Secures) }
+    ensures err { IfErr result (λ e. Goes (D.told disk) (D.told e.0) Keeps) }
+    ensures stood { IfOk result (λ l. D.fault_count l.journal.disk ≡ D.fault_count disk) }
+    ensures cause { IfErr result (λ e. HasCause (is_disk_fault e.1)
+        (D.fault_count disk) (D.fault_count e.0)) }
+{
+    match read_disk(alloc, &mut disk) {
+        Ok(found) => Ok(Loaded {
+            journal: Journal::resume(disk, found.place),
+            head: found.head,
+            frames: found.payloads,
+            broken: found.broken,
+        }),
+        Err(fault) => Err((disk, fault)),
+    }
+}
