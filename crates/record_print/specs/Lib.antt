@@ -1,0 +1,5 @@
+pub mod Words
+pub mod Spelled
+pub mod Causes
+pub mod PrintedRows
+pub mod Printed

@@ -1,0 +1,63 @@
+-- How instances and keys are spelled, what a command names, and what isn't there.
+use Rattle.std.specs.Prelude.{ℕ, Bool, List, ◌++◌, Option, Some, None, codes}
+use Rattle.std.specs.Fmt.{decimal}
+use Rattle.serde_json.specs.Data.{Data, null, boolean, number, unsigned, string}
+use Rattle.diego_names.specs.declared.instance.Instance.{Instance}
+use Rattle.diego_names.specs.declared.key.Key.{Key}
+use Rattle.bbs_model.specs.declared.command.Op.{Op}
+use Rattle.bbs_model.specs.declared.command.Op.TheVariants as op
+
+-- an instance: the epoch of its cell, a point, and its number there
+abbrev pub instance_text : Instance → List ℕ
+instance_text instance = decimal instance.epoch ++ (codes "." ++ decimal instance.number)
+
+-- a key: the process, a slash, and the index
+abbrev pub key_text : Key → List ℕ
+key_text key = key.process ++ (codes "/" ++ decimal key.index)
+
+-- what a command names: a process, an instance of one by its key, a task, or a cell
+abbrev pub subject_text : Op → List ℕ
+subject_text (op.Desire desired) = desired.process
+subject_text (op.Update process instances route port) = process
+subject_text (op.Undesire process) = process
+subject_text (op.Make key) = key_text key
+subject_text (op.Claim key instance cell) = key_text key
+subject_text (op.Start key instance cell) = key_text key
+subject_text (op.Crash key instance) = key_text key
+subject_text (op.Unclaim key instance) = key_text key
+subject_text (op.Restart key) = key_text key
+subject_text (op.Remove key instance) = key_text key
+subject_text (op.PlaceFail key) = key_text key
+subject_text (op.Evacuate key instance) = key_text key
+subject_text (op.DropEvacuating key instance) = key_text key
+subject_text (op.NewTask name memory disk tag) = name
+subject_text (op.StartTask name instance cell) = name
+subject_text (op.CompleteTask name instance failed) = name
+subject_text (op.CancelTask name) = name
+subject_text (op.ResolveTask name) = name
+subject_text (op.DeleteTask name) = name
+subject_text (op.KickTask name) = name
+subject_text (op.ExpireTask name) = name
+subject_text (op.Join cell zone tag totals ttl) = cell
+subject_text (op.Renew cell epoch ttl) = cell
+subject_text (op.Drain cell epoch) = cell
+subject_text (op.Vanish cell) = cell
+
+-- a whole number
+abbrev pub whole : ℕ → Data
+whole n = number (unsigned n)
+
+-- a name, or null
+abbrev pub optional_name_data : Option (List ℕ) → Data
+optional_name_data None = null
+optional_name_data (Some name) = string name
+
+-- an instance as its text, or null
+abbrev pub optional_instance_data : Option Instance → Data
+optional_instance_data None = null
+optional_instance_data (Some instance) = string (instance_text instance)
+
+-- a truth value, or null
+abbrev pub optional_truth_data : Option Bool → Data
+optional_truth_data None = null
+optional_truth_data (Some truth) = boolean truth

@@ -1,0 +1,56 @@
+//! The printed text, at lines that were worked out by hand.
+mod answers;
+mod events;
+
+use crate::{Summary, summary_text};
+use diego_names::{Instance, Key, Name};
+use std::process::Abort;
+use std::test::Fail;
+
+fn name(text: &str) -> Result<Name, Fail> {
+    Ok(Name::read(text.as_bytes())?)
+}
+
+fn key(process: &str, index: u32) -> Result<Key, Fail> {
+    let process = name(process)?;
+    Ok(Key { process, index })
+}
+
+const fn instance(epoch: u64, number: u32) -> Instance {
+    Instance { epoch, number }
+}
+
+/// That this is the line, with a newline behind it.
+fn reads(rt: &impl Abort, line: &[u8], want: &str) {
+    match line.split_last() {
+        Some((last, text)) => {
+            assert_eq!(rt; *last, b'\n');
+            assert_eq!(rt; text, want.as_bytes());
+        }
+        None => assert!(rt; false, "an empty line"),
+    }
+}
+
+#[test]
+fn a_run_ends_with_its_counts(rt: HostRuntime) -> Result<(), Fail> {
+    for (done, doubts, next, phases, want) in [
+        (
+            31,
+            0,
+            31,
+            18,
+            r#"{"done":31,"doubts":0,"next":31,"phases":18}"#,
+        ),
+        (0, 0, 1, 1, r#"{"done":0,"doubts":0,"next":1,"phases":1}"#),
+        (0, 1, 0, 1, r#"{"done":0,"doubts":1,"next":0,"phases":1}"#),
+    ] {
+        let summary = Summary {
+            done,
+            doubts,
+            next,
+            phases,
+        };
+        reads(&rt, summary_text(rt.alloc(), summary)?.as_slice(), want);
+    }
+    Ok(())
+}

@@ -1,0 +1,97 @@
+//! The words that stand in printed lines.
+ghost use Rattle.std.specs.Prelude.{◌≡◌};
+ghost use Rattle.record_print.specs.Words.{call_word, change_word, end_word, presence_word, state_word, table_word};
+
+use bbs_model::{CallEnd, CallFault, Change, Op, Reply, Row};
+use diego_names::StateName;
+use lrp_records::Presence;
+
+/// The word of a command. A scenario's own words for what a client asks are among them.
+pub fn call_word(op: &Op) -> &'static str
+    ensures { result.now ≡ call_word op.now }
+{
+    match op {
+        Op::Desire { .. } => "desire",
+        Op::Update { .. } => "update",
+        Op::Undesire { .. } => "undesire",
+        Op::Make { .. } => "make",
+        Op::Claim { .. } => "claim",
+        Op::Start { .. } => "start",
+        Op::Crash { .. } => "crash",
+        Op::Unclaim { .. } => "unclaim",
+        Op::Restart { .. } => "restart",
+        Op::Remove { .. } => "remove",
+        Op::PlaceFail { .. } => "placefail",
+        Op::Evacuate { .. } => "evacuate",
+        Op::DropEvacuating { .. } => "dropevacuating",
+        Op::NewTask { .. } => "task",
+        Op::StartTask { .. } => "starttask",
+        Op::CompleteTask { .. } => "completetask",
+        Op::CancelTask { .. } => "cancel",
+        Op::ResolveTask { .. } => "resolve",
+        Op::DeleteTask { .. } => "delete",
+        Op::KickTask { .. } => "kick",
+        Op::ExpireTask { .. } => "expire",
+        Op::Join { .. } => "join",
+        Op::Renew { .. } => "renew",
+        Op::Drain { .. } => "drain",
+        Op::Vanish { .. } => "vanish",
+    }
+}
+
+/// Empty for a call that wanted memory, whose phase isn't printed.
+pub fn end_word(end: &CallEnd) -> &'static str
+    ensures { result.now ≡ end_word end.now }
+{
+    match end {
+        CallEnd::Got(Reply::Ok { .. }) => "ok",
+        CallEnd::Got(Reply::Same { .. }) => "same",
+        CallEnd::Got(Reply::Refused { .. }) => "refused",
+        CallEnd::Fault(CallFault::Disk { .. }) => "disk",
+        CallEnd::Fault(CallFault::OutOfMemory) => "",
+    }
+}
+
+pub fn change_word(change: Change) -> &'static str
+    ensures { result.now ≡ change_word change }
+{
+    match change {
+        Change::Created => "created",
+        Change::Changed => "changed",
+        Change::Removed => "removed",
+    }
+}
+
+pub fn table_word(row: &Row) -> &'static str
+    ensures { result.now ≡ table_word row.now }
+{
+    match row {
+        Row::Desired(_) => "desired",
+        Row::Actual(_) => "actual",
+        Row::Task(_) => "task",
+        Row::Cell(_) => "cell",
+    }
+}
+
+pub fn presence_word(presence: Presence) -> &'static str
+    ensures { result.now ≡ presence_word presence }
+{
+    match presence {
+        Presence::Ordinary => "ordinary",
+        Presence::Evacuating => "evacuating",
+    }
+}
+
+pub fn state_word(state: StateName) -> &'static str
+    ensures { result.now ≡ state_word state }
+{
+    match state {
+        StateName::Unclaimed => "unclaimed",
+        StateName::Claimed => "claimed",
+        StateName::Running => "running",
+        StateName::Crashed => "crashed",
+        StateName::Pending => "pending",
+        StateName::Completed => "completed",
+        StateName::Resolving => "resolving",
+    }
+}
