@@ -1,0 +1,107 @@
+-- What was loaded is a board, and stands as one.
+use Rattle.std.proofs.Common.{◌≡◌, inl, inr, ℕ, ◌+◌, ◌≤◌, List, ◌∷◌, ◌++◌, length, Option, Some, None, Result, Ok, Err, refl, sym, subst, ◌∙◌, arith, length-append}
+use Rattle.std.specs.Int.{w32, w64}
+use Rattle.std.specs.Option.{ForSome}
+use Rattle.wire_fields.specs.Field.{field_number}
+use Rattle.wire_fields.proofs.Lengths.{length-field_number}
+use Rattle.disk_trait.specs.Past.{Past, Image, now, other, content}
+use Rattle.disk_trait.specs.Steps.{Goes}
+use Rattle.disk_trait.proofs.Steps.{settled_has}
+use Rattle.disk_trait.proofs.Told.{goes_back}
+use Rattle.disk_trait.specs.declared.area.Area.{Area}
+use Rattle.bbs_journal.specs.Areas.{Ready}
+use Rattle.bbs_journal.specs.Grammar.{heading}
+use Rattle.bbs_journal.specs.Header.{mark}
+use Rattle.bbs_journal.specs.Opening.{IsOpening}
+use Rattle.bbs_journal.specs.Other.{Yields}
+use Rattle.bbs_journal.specs.Reading.{bytes_of}
+use Rattle.bbs_journal.specs.Shows.{Shows, Secures}
+use Rattle.bbs_journal.specs.declared.load_fault.LoadFault.{LoadFault}
+use Rattle.bbs_journal.proofs.Once.{opens_once}
+use Rattle.bbs_journal.proofs.Recovered.{recovered, ready}
+use Rattle.bbs_model.specs.declared.rows.Rows.{Rows}
+use Rattle.bbs_board.specs.Opening.{rows_in, followed, board_of, IsBoard, IsRefused}
+use Rattle.bbs_board.specs.View.{Holds}
+use Rattle.bbs_board.proofs.Frames.{damaged_ok, next-followed, broken_followed}
+
+-- a board has no defect behind its frames
+pub unbroken : (area : Area) (head : List ℕ) (payloads : List (List ℕ)) (broken : Option ℕ) (rows : Rows) → board_of area head payloads broken ≡ Ok rows → broken ≡ None
+unbroken area head payloads None rows is = refl
+unbroken area head payloads (Some place) rows is =
+    let first = damaged_ok area 23 (rows_in head) (λ start. followed area (Some place) start (23 + length head) payloads) rows is in
+    absurd (broken_followed area place first.0 rows (23 + length head) payloads first.2)
+
+-- and has made a transition with each frame
+pub counted : (area : Area) (head : List ℕ) (payloads : List (List ℕ)) (rows : Rows) → board_of area head payloads None ≡ Ok rows → length payloads ≤ rows.next
+counted area head payloads rows is =
+    let first = damaged_ok area 23 (rows_in head) (λ start. followed area None start (23 + length head) payloads) rows is in
+    let next = next-followed area first.0 rows (23 + length head) payloads first.2 in
+    omega (arith, next)
+
+pub loaded_board : (c : Image) (area : Area) (generation : ℕ) (head : List ℕ) (payloads : List (List ℕ)) (broken : Option ℕ) (end : ℕ) (rows : Rows)
+    → IsOpening c area generation head payloads broken end → board_of area head payloads broken ≡ Ok rows → IsBoard rows c
+loaded_board c area generation head payloads broken end rows opening is =
+    let none : broken ≡ None = unbroken area head payloads broken rows is in
+    record {
+      area = area;
+      generation = generation;
+      head = head;
+      payloads = payloads;
+      end = end;
+      opening = subst (λ (b : Option ℕ). IsOpening c area generation head payloads b end) none opening;
+      rows_are = subst (λ (b : Option ℕ). board_of area head payloads b ≡ Ok rows) none is;
+    }
+
+length-heading : (generation : ℕ) (head : List ℕ) → length (heading generation head) ≡ 22 + length head
+length-heading generation head =
+    let number = field_number w64 generation in
+    let size = field_number w32 (length head) in
+    omega (arith, length-append mark (number ++ (size ++ head)), length-append number (size ++ head), length-append size head, length-field_number w64 generation, length-field_number w32 (length head))
+
+-- what was loaded stands on the disk, whatever a stop leaves
+pub loaded_holds : (t0 t1 : Option Past) (area : Area) (generation : ℕ) (head : List ℕ) (payloads : List (List ℕ)) (broken : Option ℕ) (end : ℕ) (rows : Rows) → Goes t0 t1 Secures
+    → ((c : Image) → Shows t0 c → IsOpening c area generation head payloads broken end) → end ≡ 23 + length head + bytes_of payloads → board_of area head payloads broken ≡ Ok rows
+    → ForSome t1 (Holds rows area generation end)
+loaded_holds t0 t1 area generation head payloads broken end rows goes found place is q told =
+    let back = goes_back t0 t1 Secures goes q told in
+    let shows : Shows t0 (content q) = subst (λ (t : Option Past). Shows t (content q)) (sym back.1) (λ a. sym (back.2.keeps.same a)) in
+    let none : broken ≡ None = unbroken area head payloads broken rows is in
+    let opening : IsOpening (content q) area generation head payloads None end =
+    subst (λ (b : Option ℕ). IsOpening (content q) area generation head payloads b end) none (found (content q) shows) in
+    let r = recovered (content q) area generation head payloads end (q.possible q.clock area).bytes opening in
+    let front : List ℕ = r.gate ∷ heading generation head in
+    let there : length front + bytes_of payloads ≡ end = omega (arith, place, length-heading generation head) in
+    record {
+      gate = r.gate;
+      is_open = r.is_open;
+      head = head;
+      payloads = payloads;
+      goes_with = r.goes_with;
+      ready = subst (λ (n : ℕ). Ready front payloads n (now q area)) there (ready front payloads (now q area) r.area_is (back.2.settled area));
+      beside = r.beside;
+      yields = settled_has (Yields r.beside generation) (now q (other area)) (back.2.settled (other area)) r.yields;
+      rows_are = subst (λ (b : Option ℕ). board_of area head payloads b ≡ Ok rows) none is;
+    }
+
+-- ---- an image is opened in one way
+
+both_ways : (rows : Rows) (fault : LoadFault) (r : Result Rows LoadFault) → r ≡ Ok rows → r ≡ Err fault → ⊥
+both_ways rows fault r first second = cc
+
+same_rows : (a b : Rows) (r : Result Rows LoadFault) → r ≡ Ok a → r ≡ Ok b → a ≡ b
+same_rows a b r first second = cc
+
+pub not_refused : (rows : Rows) (fault : LoadFault) (c : Image) → IsBoard rows c → IsRefused fault c → ⊥
+not_refused rows fault c board (inl refused) = cc (board.opening.head_is, refused)
+not_refused rows fault c board (inr damaged) =
+    let same = opens_once c board.area damaged.area board.generation damaged.generation board.head damaged.head board.payloads damaged.payloads None damaged.broken board.end damaged.end board.opening damaged.opening in
+    let there : board_of board.area board.head board.payloads None ≡ board_of damaged.area damaged.head damaged.payloads damaged.broken =
+    λ i. board_of (same.area_is i) (same.head_is i) (same.payloads_are i) (same.broken_is i) in
+    both_ways rows fault _ board.rows_are (there ∙ damaged.fault_is)
+
+pub one_board : (a b : Rows) (c : Image) → IsBoard a c → IsBoard b c → a ≡ b
+one_board a b c first second =
+    let same = opens_once c first.area second.area first.generation second.generation first.head second.head first.payloads second.payloads None None first.end second.end first.opening second.opening in
+    let there : board_of first.area first.head first.payloads None ≡ board_of second.area second.head second.payloads None =
+    λ i. board_of (same.area_is i) (same.head_is i) (same.payloads_are i) None in
+    same_rows a b _ first.rows_are (there ∙ second.rows_are)

@@ -1,0 +1,4 @@
+pub mod Opening
+pub mod Stops
+pub mod View
+pub mod Laws

@@ -1,0 +1,109 @@
+-- What a board is opened as: the rows of its head, and then its commands, one after another.
+use Rattle.std.specs.Prelude.{◌≡◌, ◌⊎◌, ℕ, ◌+◌, nat_eq, List, [], ◌∷◌, length, replicate, Option, Some, None, Result, Ok, Err, if◌then◌else◌}
+use Rattle.std.specs.Cmp.Lexicographic.{pointwise}
+use Rattle.disk_trait.specs.Past.{Image}
+use Rattle.disk_trait.specs.declared.area.Area.{Area}
+use Rattle.bbs_codec.specs.Command.{reading}
+use Rattle.bbs_codec.specs.declared.fault.CodecFault.{CodecFault}
+use Rattle.bbs_index.specs.Index.{Indexed}
+use Rattle.bbs_journal.specs.Opening.{IsOpening, headed}
+use Rattle.bbs_journal.specs.declared.load_fault.LoadFault.{LoadFault}
+use Rattle.bbs_journal.specs.declared.load_fault.LoadFault.TheVariants.{Disk, NotABoard, Damaged, OutOfMemory}
+use Rattle.bbs_model.specs.Runs.{if_legal}
+use Rattle.bbs_model.specs.Step.{verdict_of, rows_after}
+use Rattle.bbs_model.specs.Tables.{no_rows}
+use Rattle.bbs_model.specs.declared.command.Command.{Command}
+use Rattle.bbs_model.specs.declared.rows.Rows.{Rows}
+
+-- the head of a board without rows: the number of transitions and four counts, all 0
+abbrev pub empty_head : List ℕ
+empty_head = replicate 24 0
+
+-- the rows of a head: so far the head without rows alone is known
+abbrev pub rows_in : List ℕ → Option Rows
+rows_in head = if pointwise nat_eq head empty_head then Some no_rows else None
+
+-- the rows after a command, where it is legal
+abbrev pub after_legal : Rows → Command → Option Rows
+after_legal rows c = if_legal (verdict_of rows c) (Some (rows_after rows c)) None
+
+-- the rows after what was read of a payload
+abbrev pub after_read : Rows → Result Command CodecFault → Option Rows
+after_read rows (Ok c) = after_legal rows c
+after_read rows (Err fault) = None
+
+-- the rows after a payload, where it is a command that is legal there
+abbrev pub after_payload : Rows → List ℕ → Option Rows
+after_payload rows payload = after_read rows (reading payload)
+
+-- what comes of rows, if there are any, and else a defect at this place
+abbrev pub or_damaged : Area → ℕ → Option Rows → (Rows → Result Rows LoadFault) → Result Rows LoadFault
+or_damaged area at None go = Err (Damaged area at)
+or_damaged area at (Some rows) go = go rows
+
+-- rows that stand, unless there is a defect behind them
+abbrev pub unless_broken : Area → Option ℕ → Rows → Result Rows LoadFault
+unless_broken area None rows = Ok rows
+unless_broken area (Some place) rows = Err (Damaged area place)
+
+-- the rows after the frames of these payloads, which stand from a place on, or the defect that stands
+-- first: a frame whose payload isn't a legal command there, at its gate, or what is broken behind them
+abbrev pub followed : Area → Option ℕ → Rows → ℕ → List (List ℕ) → Result Rows LoadFault
+followed area broken rows at [] = unless_broken area broken rows
+followed area broken rows at (payload ∷ payloads) =
+    or_damaged area at (after_payload rows payload)
+    (λ next. followed area broken next (at + 3 + length payload) payloads)
+
+-- the defect that a reader tells is the one told; want of memory says nothing of what is read
+abbrev pub Blames : LoadFault → Result Rows LoadFault → Type 0
+Blames Disk told = ⊥
+Blames (NotABoard area) told = told ≡ Err (NotABoard area)
+Blames (Damaged area at) told = told ≡ Err (Damaged area at)
+Blames OutOfMemory told = Unit {0}
+
+-- an answer of a reader that left these rows: they are the ones told, or the defect is
+abbrev pub Tells : Result (Unit {0}) LoadFault → Rows → Result Rows LoadFault → Type 0
+Tells (Ok done) rows told = told ≡ Ok rows
+Tells (Err fault) rows told = Blames fault told
+
+-- the same of an answer that has the rows
+abbrev pub Gives : Result Indexed LoadFault → Result Rows LoadFault → Type 0
+Gives (Ok index) told = told ≡ Ok index.rows
+Gives (Err fault) told = Blames fault told
+
+-- the rows of a head and of the frames behind it, or the defect that stands first
+abbrev pub board_of : Area → List ℕ → List (List ℕ) → Option ℕ → Result Rows LoadFault
+board_of area head payloads broken =
+    or_damaged area 23 (rows_in head) (λ rows. followed area broken rows (23 + length head) payloads)
+
+-- the image is a board with these rows
+pub record IsBoard (rows : Rows) (c : Image) : Type 0 where
+  pub area : Area
+  pub generation : ℕ
+  pub head : List ℕ
+  pub payloads : List (List ℕ)
+  pub end : ℕ
+  pub opening : IsOpening c area generation head payloads None end
+  pub rows_are : board_of area head payloads None ≡ Ok rows
+
+-- the image has whole headers and a head, and this is the first defect from there on
+pub record IsDamaged (fault : LoadFault) (c : Image) : Type 0 where
+  pub area : Area
+  pub generation : ℕ
+  pub head : List ℕ
+  pub payloads : List (List ℕ)
+  pub broken : Option ℕ
+  pub end : ℕ
+  pub opening : IsOpening c area generation head payloads broken end
+  pub fault_is : board_of area head payloads broken ≡ Err fault
+
+-- the image is no board, and this is its first defect
+abbrev pub IsRefused : LoadFault → Image → Type 0
+IsRefused fault c = (headed c ≡ Err fault) ⊎ IsDamaged fault c
+
+-- the fault of a load, where the content of the disk is its cause
+abbrev pub Refuses : LoadFault → Image → Type 0
+Refuses Disk c = Unit {0}
+Refuses (NotABoard area) c = IsRefused (NotABoard area) c
+Refuses (Damaged area at) c = IsRefused (Damaged area at) c
+Refuses OutOfMemory c = Unit {0}

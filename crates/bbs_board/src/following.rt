@@ -1,0 +1,73 @@
+//! The rows that frames leave, one command after another.
+ghost use Rattle.std.specs.Prelude.{◌≡◌, ◌+◌, ◌<◌, ◌^◌, Ok, Err, Some, None, IfOk, IfErr};
+ghost use Rattle.std.specs.Bool.{MatchBool};
+ghost use Rattle.bbs_journal.specs.Reading.{payloads_of, bytes_of};
+ghost use Rattle.bbs_model.specs.Valid.{IsValid};
+ghost use Rattle.bbs_board.specs.Opening.{after_legal, after_payload, followed, Tells};
+
+use bbs_codec::read_command;
+use bbs_index::Index;
+use bbs_journal::LoadFault;
+use bbs_model::{Command, RowStore, Verdict};
+use bbs_transitions::{apply, decide};
+use diego_names::OutOfMemory;
+use disk_trait::Area;
+
+fn follow_command(index: &mut Index, command: &Command) -> Result<bool, OutOfMemory>
+    requires { IsValid index.old.rows }
+    ensures after { IfOk result (λ legal. MatchBool legal
+        (after_legal index.old.rows command.entry.now ≡ Some index.new.rows)
+        (after_legal index.old.rows command.entry.now ≡ None)) }
+    ensures valid { IsValid index.new.rows }
+{
+    if decide(index, command) != Verdict::Ok {
+        return Ok(false);
+    }
+    index.reserve(2)?;
+    let _events = apply(index, command);
+    Ok(true)
+}
+
+/// Does the command of a payload, and tells whether it is one that is legal there.
+fn follow_payload(index: &mut Index, payload: &[u8]) -> Result<bool, OutOfMemory>
+    requires { IsValid index.old.rows }
+    ensures after { IfOk result (λ legal. MatchBool legal
+        (after_payload index.old.rows payload.now ≡ Some index.new.rows)
+        (after_payload index.old.rows payload.now ≡ None)) }
+    ensures valid { IsValid index.new.rows }
+{
+    match read_command(payload) {
+        Ok(command) => follow_command(index, &command),
+        Err(_) => Ok(false),
+    }
+}
+
+/// Does the commands of an area's frames, whose first gate stands at `start`. Where a defect stands
+/// behind them, it is told unless one of the frames isn't a legal command.
+pub fn follow(
+    index: &mut Index,
+    area: Area,
+    start: u64,
+    frames: &[Vec<u8>],
+    broken: Option<u64>,
+) -> Result<(), LoadFault>
+    requires valid { IsValid index.old.rows }
+    requires within { start + bytes_of (payloads_of frames.now) < 2 ^ 64 }
+    ensures tells { Tells result index.new.rows
+        (followed area broken index.old.rows start (payloads_of frames.entry.now)) }
+    ensures valid { IsValid index.new.rows }
+{
+    let mut at = start;
+    for frame in frames {
+        match follow_payload(index, frame) {
+            Ok(true) => {}
+            Ok(false) => return Err(LoadFault::Damaged { area, at }),
+            Err(_) => return Err(LoadFault::OutOfMemory),
+        }
+        at += 3 + frame.len() as u64;
+    }
+    match broken {
+        None => Ok(()),
+        Some(at) => Err(LoadFault::Damaged { area, at }),
+    }
+}

@@ -1,0 +1,24 @@
+//! What the definition of a board's recovery comes to.
+ghost use Rattle.std.specs.Prelude.{Bool};
+ghost use Rattle.disk_trait.specs.Past.{Past};
+ghost use Rattle.bbs_model.specs.declared.command.Command.{Command};
+ghost use Rattle.bbs_model.specs.declared.rows.Rows.{Rows};
+ghost use Rattle.bbs_board.specs.Laws.{OpensInOneWay, RecoversOrRefuses, StopsLeaveBoards};
+ghost use Rattle.bbs_board.specs.Stops.{Stores};
+
+/// An image is a board with one set of rows only.
+pub fn a_board_is_opened_in_one_way()
+    ensures { OpensInOneWay }
+{}
+
+/// What is a board is refused for no defect.
+pub fn a_board_is_not_refused()
+    ensures { RecoversOrRefuses }
+{}
+
+/// A stop while a command is stored leaves the board before it or the one after it, and a stop after
+/// the acknowledgement the one after it.
+pub fn a_stop_leaves_the_board_before_or_after()
+    ensures { (stored : Bool) (rows : Rows) (command : Command) (p q : Past)
+        → Stores stored rows command p q → StopsLeaveBoards stored rows command p q }
+{}

@@ -1,0 +1,66 @@
+//! Loading a board: the journal, then the rows of its head, then its commands one after another.
+ghost use Rattle.std.specs.Prelude.{◌≡◌, ◌+◌, ◌<◌, ◌^◌, false, length, IfOk, IfErr};
+ghost use Rattle.byte_ports.specs.Cause.{HasCause};
+ghost use Rattle.disk_trait.specs.Past.{Image};
+ghost use Rattle.disk_trait.specs.Steps.{Goes};
+ghost use Rattle.bbs_journal.specs.Reading.{payloads_of, bytes_of};
+ghost use Rattle.bbs_journal.specs.Shows.{Shows, Keeps, Secures, is_disk_fault};
+ghost use Rattle.bbs_model.specs.Valid.{IsValid};
+ghost use Rattle.bbs_board.specs.Opening.{board_of, IsBoard, Refuses, Gives};
+
+use crate::Board;
+use crate::following::follow;
+use crate::head::rows_in;
+use bbs_index::Index;
+use bbs_journal::{LoadFault, Loaded};
+use disk_trait::{Area, Disk};
+use std::alloc::Global;
+
+/// The place of the head in an area.
+const HEAD: u64 = 23;
+
+/// The rows of a head and of the frames behind it, or the defect that stands first.
+fn board_of(
+    alloc: Global,
+    area: Area,
+    head: &[u8],
+    frames: &[Vec<u8>],
+    broken: Option<u64>,
+) -> Result<Index, LoadFault>
+    requires { 23 + length head.now + bytes_of (payloads_of frames.now) < 2 ^ 64 }
+    ensures gives { Gives result (board_of area head.now (payloads_of frames.now) broken) }
+    ensures valid { IfOk result (λ index. IsValid index.rows) }
+{
+    let Some(mut index) = rows_in(alloc, head) else {
+        return Err(LoadFault::Damaged { area, at: HEAD });
+    };
+    let start = HEAD + head.len() as u64;
+    follow(&mut index, area, start, frames, broken)?;
+    Ok(index)
+}
+
+/// Loads the board that a disk holds, and syncs both areas. It writes nothing.
+pub fn load<D: Disk>(alloc: Global, disk: D) -> Result<Board<D>, (D, LoadFault)>
+    ensures found { IfOk result (λ b. (c : Image) → Shows (D.told disk) c → IsBoard b.rows c) }
+    ensures calm { IfOk result (λ b. b.waits ≡ false) }
+    ensures refused { IfErr result (λ e. (c : Image) → Shows (D.told disk) c → Refuses e.1 c) }
+    ensures ok { IfOk result (λ b. Goes (D.told disk) (D.told b.disk) Secures) }
+    ensures err { IfErr result (λ e. Goes (D.told disk) (D.told e.0) Keeps) }
+    ensures stood { IfOk result (λ b. D.fault_count b.disk ≡ D.fault_count disk) }
+    ensures cause { IfErr result (λ e. HasCause (is_disk_fault e.1)
+        (D.fault_count disk) (D.fault_count e.0)) }
+{
+    let Loaded {
+        journal,
+        head,
+        frames,
+        broken,
+    } = match bbs_journal::load(alloc, disk) {
+        Ok(loaded) => loaded,
+        Err(refused) => return Err(refused),
+    };
+    match board_of(alloc, journal.area(), &head, &frames, broken) {
+        Ok(index) => Ok(Board { journal, index }),
+        Err(fault) => Err((journal.into_disk(), fault)),
+    }
+}
