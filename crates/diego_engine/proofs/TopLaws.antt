@@ -1,14 +1,17 @@
 -- What each status says, from how the program ends.
-use Rattle.std.proofs.Common.{◌≡◌, ◌⊎◌, ℕ, ◌+◌, ◌≤◌, Bool, true, false, not, List, [], ◌++◌, length, Option, Some, None, refl, sym, ap, subst, ◌∙◌, arith, inl, inr, length-append, append-nil}
-use Rattle.std.specs.Prelude.{◌==◌}
+use Rattle.std.proofs.Common.{◌≡◌, ◌⊎◌, ℕ, ◌+◌, ◌≤◌, true, List, ◌++◌, length, Option, Some, None, refl, sym, ap, subst, ◌∙◌, arith, inl, inr, length-append, append-nil}
 use Rattle.std.specs.Io.KnownBytes.{Consumes, IsAtEnd}
-use Rattle.byte_ports.specs.Cause.{Rose, HasCause}
+use Rattle.byte_ports.specs.Cause.{Rose}
 use Rattle.byte_ports.specs.Content.{Lost}
-use Rattle.disk_trait.specs.Past.{Past, Image}
+use Rattle.disk_trait.specs.Past.{Image}
 use Rattle.disk_trait.specs.Steps.{Goes}
-use Rattle.diego_engine.specs.Board.{Shows, IsNoBoard}
+use Rattle.bbs_board.specs.Opening.{IsRefused}
+use Rattle.bbs_board.proofs.Loaded.{not_refused}
+use Rattle.bbs_journal.specs.Shows.{Shows}
+use Rattle.bbs_journal.specs.Preparing.{FindsBytes}
+use Rattle.bbs_journal.specs.declared.load_fault.LoadFault.{LoadFault}
+use Rattle.bbs_journal.specs.declared.load_fault.LoadFault.TheVariants as fault
 use Rattle.diego_engine.specs.Ending.{number_of}
-use Rattle.diego_engine.specs.Preparing.{FindsBytes}
 use Rattle.diego_engine.specs.Running.{Ports}
 use Rattle.diego_engine.specs.Script.{script_of}
 use Rattle.diego_engine.specs.Top.{limit, ReadsWhole, Ends, RunsWhole, Meets, is_before_board}
@@ -53,10 +56,14 @@ module _ (e : Ended) (left left' : Option (List ℕ)) (v w : Ports) where
   unstored_from ending.Doubt None n h = absurd h.0
   unstored_from how what n h = absurd (omega (arith, n))
 
-  pub refused_from : (how : Ending) (what : Option Asked) → number_of how ≡ 6 → Ends how what e left left' v w → (image : Image) → Shows v.told image → IsNoBoard image
-  refused_from ending.NotABoard (Some asked.Run) n (script, reads, early) = early.1
-  refused_from ending.NotABoard (Some asked.Prepare) n h = absurd h.0
-  refused_from ending.NotABoard None n h = absurd h.0
+  pub refused_from : (how : Ending) (what : Option Asked) → number_of how ≡ 6 → Ends how what e left left' v w
+      → (why : LoadFault) × ((image : Image) → Shows v.told image → IsRefused why image)
+  refused_from (ending.NotABoard area) (Some asked.Run) n (script, reads, early) = (fault.NotABoard area, early.1)
+  refused_from (ending.Damaged area at) (Some asked.Run) n (script, reads, early) = (fault.Damaged area at, early.1)
+  refused_from (ending.NotABoard area) (Some asked.Prepare) n h = absurd h.0
+  refused_from (ending.NotABoard area) None n h = absurd h.0
+  refused_from (ending.Damaged area at) (Some asked.Prepare) n h = absurd h.0
+  refused_from (ending.Damaged area at) None n h = absurd h.0
   refused_from how what n h = absurd (omega (arith, n))
 
   pub too_long_from : (how : Ending) (what : Option Asked) → number_of how ≡ 8 → Ends how what e left left' v w → Lost left left' (limit + 1)
@@ -127,7 +134,10 @@ module _ (e : Ended) (left left' : Option (List ℕ)) (v w : Ports) where
   complete_from ending.Unwritten (Some asked.Run) is h m read sink disk = absurd (sink (unwritten_from ending.Unwritten (Some asked.Run) refl h))
   complete_from ending.Unopened (Some asked.Run) is h m read sink disk = absurd (disk (unstored_from ending.Unopened (Some asked.Run) refl h))
   complete_from ending.Doubt (Some asked.Run) is h m read sink disk = absurd (disk (unstored_from ending.Doubt (Some asked.Run) refl h))
-  complete_from ending.NotABoard (Some asked.Run) is (script, reads, early) m read sink disk = absurd (early.1 m.image m.shows m.commands m.board)
+  complete_from (ending.NotABoard area) (Some asked.Run) is (script, reads, early) m read sink disk =
+      absurd (not_refused m.rows (fault.NotABoard area) m.image m.board (early.1 m.image m.shows))
+  complete_from (ending.Damaged area at) (Some asked.Run) is (script, reads, early) m read sink disk =
+      absurd (not_refused m.rows (fault.Damaged area at) m.image m.board (early.1 m.image m.shows))
   complete_from ending.TooLong (Some asked.Run) is h m read sink disk =
       absurd (let more = not_more m.bytes (limit + 1) m.left_is h.1 in let few = m.few in omega (arith, more, few))
   complete_from ending.Script (Some asked.Run) is (untouched, (read_bytes, consumes, end, few, none)) m read sink disk =

@@ -1,16 +1,9 @@
-pub mod Appending
-pub mod Board
 pub mod Ending
-pub mod Frames
 pub mod LineKinds
 pub mod Lines
 pub mod Member
-pub mod OpenFault
 pub mod Phase
-pub mod Preparing
-pub mod Printed
 pub mod Running
 pub mod Script
-pub mod Spelling
 pub mod Top
 pub mod Words

@@ -1,9 +1,8 @@
 -- The phase of a script: its one call, how it ends, and what is told of it.
-use Rattle.std.specs.Prelude.{◌≡◌, ℕ, ◌+◌, Bool, true, false, List, [], ◌∷◌, ◌++◌, length, Option, Some}
+use Rattle.std.specs.Prelude.{◌≡◌, ℕ, ◌+◌, Bool, true, false, List, [], ◌∷◌, ◌++◌, length, Some}
 use Rattle.disk_trait.specs.Past.{Past}
 use Rattle.bbs_model.specs.declared.answered.Answered.{Answered}
 use Rattle.bbs_model.specs.declared.command.Command.{Command}
-use Rattle.bbs_model.specs.declared.command.Op.{Op}
 use Rattle.bbs_model.specs.declared.command.Op.TheVariants.{Desire}
 use Rattle.bbs_model.specs.declared.event.Change.TheVariants.{Created}
 use Rattle.bbs_model.specs.declared.event.Event.{Event}
@@ -17,12 +16,11 @@ use Rattle.bbs_model.specs.declared.reply.Reply.TheVariants as reply
 use Rattle.bbs_model.specs.declared.rows.Rows.{Rows}
 use Rattle.bbs_model.specs.declared.verdict.Verdict.{Verdict}
 use Rattle.bbs_model.specs.declared.verdict.Verdict.TheVariants as verdict
-use Rattle.bbs_model.specs.Step.{verdict_of}
-use Rattle.diego_engine.specs.Appending.{Appends, Tears}
-use Rattle.diego_engine.specs.Board.{Rests}
-use Rattle.diego_engine.specs.Printed.{line_text, answer_data, event_data, summary_data}
+use Rattle.bbs_board.specs.Stops.{Stores}
+use Rattle.lrp_records.specs.declared.desired.Desired.{Desired}
+use Rattle.record_print.specs.Printed.{line_text, answer_data, event_data, summary_data}
+use Rattle.record_print.specs.declared.summary.Summary.{Summary}
 use Rattle.diego_engine.specs.declared.phase.Phase.{Phase}
-use Rattle.diego_engine.specs.declared.printing.summary.Counts.{Counts}
 use Rattle.diego_engine.specs.declared.script.Script.{Script}
 
 -- the command that the script's line makes
@@ -50,17 +48,17 @@ is_doubt (Got reply) = false
 is_doubt (Fault (fault.Disk place)) = true
 is_doubt (Fault fault.OutOfMemory) = false
 
--- what became of the row that a command names
-abbrev pub event_of : Op → Event
-event_of (Desire d) = record { change = Created; row = row.Desired d }
+-- what a legal desire does
+abbrev pub event_of : Desired → Event
+event_of d = record { change = Created; row = row.Desired d }
 
 -- the lines of the events of a call
-abbrev pub events_text : CallEnd → Op → List ℕ
-events_text (Got (reply.Ok place stamp)) op = line_text (event_data (event_of op))
-events_text end op = []
+abbrev pub events_text : CallEnd → Desired → List ℕ
+events_text (Got (reply.Ok place stamp)) d = line_text (event_data (event_of d))
+events_text end d = []
 
 -- the counts of a run of this one call, at a board with so many transitions
-abbrev pub counts_of : CallEnd → ℕ → Counts
+abbrev pub counts_of : CallEnd → ℕ → Summary
 counts_of (Got (reply.Ok place stamp)) next = record { done = 1; doubts = 0; next = next + 1; phases = 1 }
 counts_of (Fault (fault.Disk place)) next = record { done = 0; doubts = 1; next = next; phases = 1 }
 counts_of end next = record { done = 0; doubts = 0; next = next; phases = 1 }
@@ -69,7 +67,7 @@ counts_of end next = record { done = 0; doubts = 0; next = next; phases = 1 }
 abbrev pub run_text : Script → CallEnd → ℕ → List ℕ
 run_text script end next =
     line_text (answer_data script.client script.line (Desire script.desired) end)
-    ++ (events_text end (Desire script.desired) ++ line_text (summary_data (counts_of end next)))
+    ++ (events_text end script.desired ++ line_text (summary_data (counts_of end next)))
 
 -- the answer to the script's line
 abbrev pub answered_of : Script → CallEnd → Answered
@@ -83,9 +81,8 @@ pub record Tells (script : Script) (end : CallEnd) (next : ℕ) (phase : Phase) 
   pub answers : phase.answers.items ≡ answered_of script end ∷ []
   pub doubt : phase.doubt ≡ is_doubt end
 
--- what a call does to a disk whose frames end at this place
-abbrev pub StoresBy : Verdict → Bool → ℕ → Command → Past → Past → Type 0
-StoresBy verdict.Ok true end command p q = Appends end command p q
-StoresBy verdict.Ok false end command p q = Tears end p q
-StoresBy verdict.Same stored end command p q = Rests p q
-StoresBy (verdict.Refused why) stored end command p q = Rests p q
+-- what a call does to a disk, by the verdict of its command at these rows
+abbrev pub StoresBy : Verdict → Bool → Rows → Command → Past → Past → Type 0
+StoresBy verdict.Ok stored rows command p q = Stores stored rows command p q
+StoresBy verdict.Same stored rows command p q = q ≡ p
+StoresBy (verdict.Refused why) stored rows command p q = q ≡ p

@@ -1,5 +1,5 @@
 -- How the run of a script ends, by what the ports and the disk did.
-use Rattle.std.specs.Prelude.{◌≡◌, ℕ, Bool, true, false, not, List, [], ◌∷◌, length, All, Option, Result, Ok, Err}
+use Rattle.std.specs.Prelude.{◌≡◌, ◌⊎◌, ℕ, Bool, true, false, not, List, [], ◌∷◌, length, All, Option, Result, Ok, Err}
 use Rattle.std.specs.Io.KnownBytes.{Appends}
 use Rattle.byte_ports.specs.Cause.{HasCause}
 use Rattle.byte_ports.specs.Content.{HoldsFront}
@@ -9,7 +9,10 @@ use Rattle.std.specs.declared.alloc.AllocError.{AllocError}
 use Rattle.bbs_model.specs.declared.reply.CallEnd.{CallEnd}
 use Rattle.bbs_model.specs.declared.rows.Rows.{Rows}
 use Rattle.bbs_model.specs.Step.{verdict_of}
-use Rattle.diego_engine.specs.Board.{Shows, Rests, Opens, IsNoBoard}
+use Rattle.bbs_board.specs.Opening.{IsBoard, IsRefused}
+use Rattle.bbs_journal.specs.Shows.{Shows, Keeps as KeepsContent, Secures}
+use Rattle.bbs_journal.specs.declared.load_fault.LoadFault.{LoadFault}
+use Rattle.bbs_journal.specs.declared.load_fault.LoadFault.TheVariants as fault
 use Rattle.diego_engine.specs.Ending.{line_of}
 use Rattle.diego_engine.specs.Phase.{Tells, StoresBy, command_of, end_of, log_of, is_doubt, run_text, answered_of}
 use Rattle.diego_engine.specs.declared.ending.Ending.{Ending}
@@ -53,11 +56,11 @@ abbrev pub is_doubtful : Result Phase AllocError → Bool
 is_doubtful (Ok phase) = phase.doubt
 is_doubtful (Err e) = false
 
--- the call of a script at a board with these rows, whose frames end at this place
-pub record Calls (script : Script) (rows : Rows) (end : ℕ) (phase : Phase) (before after : Option Past) (clock : ℕ) : Type 0 where
+-- the call of a script at a board with these rows
+pub record Calls (script : Script) (rows : Rows) (phase : Phase) (before after : Option Past) (clock : ℕ) : Type 0 where
   pub stored : Bool
   pub tells : Tells script (end_of (verdict_of rows (command_of script)) rows.next stored) rows.next phase
-  pub does : Goes before after (StoresBy (verdict_of rows (command_of script)) stored end (command_of script))
+  pub does : Goes before after (StoresBy (verdict_of rows (command_of script)) stored rows (command_of script))
   pub marks : All (λ m. m ≡ clock) phase.marks.items
 
 -- no call was made
@@ -69,18 +72,18 @@ pub record IsEmpty (e : Ended) : Type 0 where
 -- the run ended before a call, with a line; the disk failed or not, and a read gives what it gave
 pub record EndsEarly (failed : Bool) (e : Ended) (v w : Ports) : Type 0 where
   pub empty : IsEmpty e
-  pub rests : Goes v.told w.told Rests
+  pub rests : Goes v.told w.told KeepsContent
   pub cause : HasCause failed v.disk_faults w.disk_faults
   pub whole : Bool
   pub prints : Prints whole (line_of e.ending) v w
 
--- the run made its call at a board with these rows, whose frames end at this place; the disk failed in it or not, and its text was
+-- the run made its call at a board with these rows; the disk failed in it or not, and its text was
 -- written whole or not
-pub record EndsCall (script : Script) (rows : Rows) (end : ℕ) (whole failed : Bool) (e : Ended) (v w : Ports) : Type 0 where
+pub record EndsCall (script : Script) (rows : Rows) (whole failed : Bool) (e : Ended) (v w : Ports) : Type 0 where
   pub stored : Bool
   pub call_end : CallEnd
   pub end_is : call_end ≡ end_of (verdict_of rows (command_of script)) rows.next stored
-  pub stores : Goes v.told w.told (StoresBy (verdict_of rows (command_of script)) stored end (command_of script))
+  pub stores : Goes v.told w.told (StoresBy (verdict_of rows (command_of script)) stored rows (command_of script))
   pub failed_is : failed ≡ is_doubt call_end
   pub cause : HasCause failed v.disk_faults w.disk_faults
   pub log : e.log.items ≡ log_of call_end (command_of script)
@@ -89,30 +92,27 @@ pub record EndsCall (script : Script) (rows : Rows) (end : ℕ) (whole failed : 
   pub marks : All (λ m. m ≡ w.clock) e.marks.items
   pub prints : Prints whole (run_text script call_end rows.next) v w
 
--- how the run ends of a script at a board that was opened
-abbrev pub CallEnds : Ending → Script → Rows → ℕ → Ended → Ports → Ports → Type 0
-CallEnds ending.Done script rows end e v w = EndsCall script rows end true false e v w
-CallEnds ending.Doubt script rows end e v w = EndsCall script rows end true true e v w
-CallEnds ending.Unwritten script rows end e v w = (failed : Bool) × EndsCall script rows end false failed e v w
-CallEnds ending.OutOfMemory script rows end e v w = EndsEarly false e v w
-CallEnds ending.Unopened script rows end e v w = ⊥
-CallEnds ending.NotABoard script rows end e v w = ⊥
-CallEnds ending.Usage script rows end e v w = ⊥
-CallEnds ending.Script script rows end e v w = ⊥
-CallEnds ending.Read script rows end e v w = ⊥
-CallEnds ending.TooLong script rows end e v w = ⊥
-CallEnds ending.Exists script rows end e v w = ⊥
+-- how the run ends of a script at a board that was loaded
+abbrev pub CallEnds : Ending → Script → Rows → Ended → Ports → Ports → Type 0
+CallEnds ending.Done script rows e v w = EndsCall script rows true false e v w
+CallEnds ending.Doubt script rows e v w = EndsCall script rows true true e v w
+CallEnds ending.Unwritten script rows e v w = (failed : Bool) × EndsCall script rows false failed e v w
+CallEnds ending.OutOfMemory script rows e v w = EndsEarly false e v w
+CallEnds other script rows e v w = ⊥
 
--- the run opened a board, and made its call
+-- the run loaded a board, and made its call
 pub record EndsLate (script : Script) (whole failed : Bool) (e : Ended) (v w : Ports) : Type 0 where
   pub rows : Rows
-  pub end : ℕ
   pub between : Ports
-  pub opens : (image : Image) → Shows v.told image → Opens rows end image
-  pub rests : Goes v.told between.told Rests
+  pub opens : (image : Image) → Shows v.told image → IsBoard rows image
+  pub secures : Goes v.told between.told Secures
   pub same_sink : (between.held ≡ v.held) × (between.write_faults ≡ v.write_faults)
   pub no_fault : between.disk_faults ≡ v.disk_faults
-  pub call : EndsCall script rows end whole failed e between w
+  pub call : EndsCall script rows whole failed e between w
+
+-- no board was loaded, for this fault, which the content of the disk explains
+abbrev pub EndsRefused : LoadFault → Ended → Ports → Ports → Type 0
+EndsRefused why e v w = EndsEarly false e v w × ((image : Image) → Shows v.told image → IsRefused why image)
 
 -- how the run of a script ends
 abbrev pub ScriptEnds : Ending → Script → Ended → Ports → Ports → Type 0
@@ -120,10 +120,14 @@ ScriptEnds ending.Done script e v w = EndsLate script true false e v w
 ScriptEnds ending.Doubt script e v w = EndsLate script true true e v w
 ScriptEnds ending.Unwritten script e v w = (failed : Bool) × EndsLate script false failed e v w
 ScriptEnds ending.Unopened script e v w = EndsEarly true e v w
-ScriptEnds ending.NotABoard script e v w = EndsEarly false e v w × ((image : Image) → Shows v.told image → IsNoBoard image)
+ScriptEnds (ending.NotABoard area) script e v w = EndsRefused (fault.NotABoard area) e v w
+ScriptEnds (ending.Damaged area at) script e v w = EndsRefused (fault.Damaged area at) e v w
 ScriptEnds ending.OutOfMemory script e v w = EndsEarly false e v w
-ScriptEnds ending.Usage script e v w = ⊥
-ScriptEnds ending.Script script e v w = ⊥
-ScriptEnds ending.Read script e v w = ⊥
-ScriptEnds ending.TooLong script e v w = ⊥
-ScriptEnds ending.Exists script e v w = ⊥
+ScriptEnds other script e v w = ⊥
+
+-- how a run ends whose board wasn't loaded: a line that tells a place may want memory
+abbrev pub EndsAs : LoadFault → Ending → Type 0
+EndsAs fault.Disk how = how ≡ ending.Unopened
+EndsAs (fault.NotABoard area) how = how ≡ ending.NotABoard area
+EndsAs (fault.Damaged area at) how = (how ≡ ending.Damaged area at) ⊎ (how ≡ ending.OutOfMemory)
+EndsAs fault.OutOfMemory how = how ≡ ending.OutOfMemory

@@ -5,11 +5,12 @@ use Rattle.byte_ports.specs.Cause.{HasCause}
 use Rattle.byte_ports.specs.Content.{Lost, LostAtMost}
 use Rattle.disk_trait.specs.Past.{Past, Image}
 use Rattle.disk_trait.specs.Runs.{Extends}
-use Rattle.bbs_model.specs.declared.command.Command.{Command}
-use Rattle.diego_engine.specs.Board.{Shows, IsBoard}
+use Rattle.bbs_model.specs.declared.rows.Rows.{Rows}
+use Rattle.bbs_board.specs.Opening.{IsBoard}
+use Rattle.bbs_journal.specs.Shows.{Shows}
+use Rattle.bbs_journal.specs.Preparing.{Prepares, FindsBytes}
 use Rattle.disk_trait.specs.Steps.{Goes}
 use Rattle.diego_engine.specs.Ending.{line_of}
-use Rattle.diego_engine.specs.Preparing.{Prepares, FindsBytes}
 use Rattle.diego_engine.specs.Running.{Ports, IsEmpty, Prints, EndsEarly, EndsLate, ScriptEnds}
 use Rattle.diego_engine.specs.Script.{script_of}
 use Rattle.diego_engine.specs.declared.ending.Ending.{Ending}
@@ -39,7 +40,8 @@ Reads (Err ending.Usage) left left' = ⊥
 Reads (Err ending.Unwritten) left left' = ⊥
 Reads (Err ending.Unopened) left left' = ⊥
 Reads (Err ending.Doubt) left left' = ⊥
-Reads (Err ending.NotABoard) left left' = ⊥
+Reads (Err (ending.NotABoard area)) left left' = ⊥
+Reads (Err (ending.Damaged area at)) left left' = ⊥
 Reads (Err ending.Exists) left left' = ⊥
 
 -- the source failed
@@ -70,7 +72,8 @@ RunEnds ending.Done e left left' v w = RunsScript ending.Done e left left' v w
 RunEnds ending.Doubt e left left' v w = RunsScript ending.Doubt e left left' v w
 RunEnds ending.Unwritten e left left' v w = RunsScript ending.Unwritten e left left' v w
 RunEnds ending.Unopened e left left' v w = RunsScript ending.Unopened e left left' v w
-RunEnds ending.NotABoard e left left' v w = RunsScript ending.NotABoard e left left' v w
+RunEnds (ending.NotABoard area) e left left' v w = RunsScript (ending.NotABoard area) e left left' v w
+RunEnds (ending.Damaged area at) e left left' v w = RunsScript (ending.Damaged area at) e left left' v w
 RunEnds ending.OutOfMemory e left left' v w = EndsEarly false e v w × LostAtMost left left' limit
 RunEnds ending.Script e left left' v w = EndsUntouched e v w × ReadsWhole left left' (λ bytes. script_of bytes ≡ None)
 RunEnds ending.Read e left left' v w = EndsUntouched e v w × LostAtMost left left' limit
@@ -103,17 +106,17 @@ Ends how None e left left' v w = StillEnds how None e v w × (left' ≡ left)
 abbrev pub is_before_board : ℕ → Bool
 is_before_board status = (status == 1) || ((status == 2) || ((status == 3) || (status == 8)))
 
--- the source tells a script that isn't too long, and the disk a board that took these commands
+-- the source tells a script that isn't too long, and the disk a board with these rows
 pub record Meets (left : Option (List ℕ)) (told : Option Past) : Type 0 where
   pub bytes : List ℕ
   pub script : Script
-  pub commands : List Command
+  pub rows : Rows
   pub image : Image
   pub left_is : left ≡ Some bytes
   pub few : length bytes ≤ limit
   pub script_is : script_of bytes ≡ Some script
   pub shows : Shows told image
-  pub board : IsBoard commands image
+  pub board : IsBoard rows image
 
 -- a script was read, its call was made, and its text was written whole, and no fault was met
 abbrev pub RunsWhole : Ended → Option (List ℕ) → Option (List ℕ) → Ports → Ports → Type 0

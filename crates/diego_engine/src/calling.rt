@@ -1,19 +1,14 @@
 //! The one call of a script.
-ghost use Rattle.std.specs.Prelude.{◌≡◌, ◌<◌, ◌≤◌, ◌^◌, length, All, IfOk, OnErr, is_err};
-ghost use Rattle.std.specs.Option.{ForSome};
+ghost use Rattle.std.specs.Prelude.{◌≡◌, false, length, All, IfOk, OnErr};
 ghost use Rattle.byte_ports.specs.Cause.{HasCause};
-ghost use Rattle.disk_trait.specs.Past.{content};
-ghost use Rattle.disk_trait.specs.declared.area.Area.TheVariants.{A};
 ghost use Rattle.bbs_model.specs.Step.{verdict_of};
-ghost use Rattle.bbs_model.specs.Valid.{IsValid};
-ghost use Rattle.diego_engine.specs.Phase.{command_of, Tells};
+ghost use Rattle.diego_engine.specs.Phase.{command_of};
 ghost use Rattle.diego_engine.specs.Running.{Calls, is_doubtful};
 
-use crate::appending::append;
-use crate::opening::Opened;
 use crate::phase::{Phase, command_of, phase_of};
 use crate::script::Script;
-use bbs_model::{CallEnd, CallFault, Reply, Verdict, decide};
+use bbs_board::{Board, StoreFault};
+use bbs_model::{CallEnd, CallFault, Reply, Verdict};
 use disk_trait::Disk;
 use std::alloc::{AllocError, Global};
 
@@ -51,24 +46,18 @@ fn marked(phase: Phase, clock: u64) -> Phase
     }
 }
 
-/// Stores a legal command. All memory is had before the first device call, so that no transition
-/// stays untold for want of it.
-fn store<D: Disk>(
-    alloc: Global,
-    script: &Script,
-    opened: &Opened,
-    disk: &mut D,
-) -> Result<Phase, AllocError>
-    requires legal { verdict_of opened.now.rows (command_of script.now) ≡ Verdict.Ok }
-    requires next { opened.now.rows.next < 2 ^ 63 }
-    requires at { ForSome (D.told disk.old) (λ p. opened.now.end < length (content p A)) }
-    requires within { opened.now.end < 2 ^ 63 }
-    ensures calls { IfOk result (λ phase. Calls script.now opened.now.rows opened.now.end phase
-        (D.told disk.old) (D.told disk.new) (D.moment disk.new)) }
-    ensures cause { HasCause (is_doubtful result) (D.fault_count disk.old) (D.fault_count disk.new) }
-    ensures starved { OnErr result (D.told disk.new ≡ D.told disk.old) }
+/// Stores a legal command. The text of either end is had before the first device call, so that no
+/// transition stays untold for want of memory.
+fn store<D: Disk>(alloc: Global, script: &Script, board: &mut Board<D>) -> Result<Phase, AllocError>
+    requires legal { verdict_of board.old.rows (command_of script.now) ≡ Verdict.Ok }
+    requires calm { board.old.waits ≡ false }
+    ensures calls { IfOk result (λ phase. Calls script.now board.old.rows phase
+        (D.told board.old.disk) (D.told board.new.disk) (D.moment board.new.disk)) }
+    ensures cause { HasCause (is_doubtful result)
+        (D.fault_count board.old.disk) (D.fault_count board.new.disk) }
+    ensures starved { OnErr result (D.told board.new.disk ≡ D.told board.old.disk) }
 {
-    let next = opened.rows.next;
+    let next = board.next();
     let ok = Reply::Ok {
         place: 0,
         stamp: next,
@@ -76,45 +65,31 @@ fn store<D: Disk>(
     let fault = CallFault::Disk { place: 0 };
     let done = phase_of(alloc, script, CallEnd::Got(ok), next)?;
     let doubt = phase_of(alloc, script, CallEnd::Fault(fault), next)?;
-    let command = command_of(script);
-    match append(disk, opened.end, &command) {
-        Ok(()) => Ok(marked(done, disk.clock())),
-        Err(_) => Ok(marked(doubt, disk.clock())),
+    match board.store(&command_of(script)) {
+        Ok(()) => Ok(marked(done, board.clock())),
+        Err(StoreFault::Disk) => Ok(marked(doubt, board.clock())),
+        Err(StoreFault::OutOfMemory) => Err(AllocError),
     }
 }
 
-/// Makes the call of a script at a board that was opened.
+/// Makes the call of a script at a board.
 pub fn call<D: Disk>(
     alloc: Global,
     script: &Script,
-    opened: &Opened,
-    disk: &mut D,
+    board: &mut Board<D>,
 ) -> Result<Phase, AllocError>
-    requires valid { IsValid opened.now.rows }
-    requires at { ForSome (D.told disk.old) (λ p. opened.now.end < length (content p A)) }
-    requires within { opened.now.end < 2 ^ 63 }
-    ensures calls { IfOk result (λ phase. Calls script.now opened.now.rows opened.now.end phase
-        (D.told disk.old) (D.told disk.new) (D.moment disk.new)) }
-    ensures cause { HasCause (is_doubtful result) (D.fault_count disk.old) (D.fault_count disk.new) }
-    ensures starved { OnErr result (D.told disk.new ≡ D.told disk.old) }
+    requires { board.old.waits ≡ false }
+    ensures calls { IfOk result (λ phase. Calls script.now board.old.rows phase
+        (D.told board.old.disk) (D.told board.new.disk) (D.moment board.new.disk)) }
+    ensures cause { HasCause (is_doubtful result)
+        (D.fault_count board.old.disk) (D.fault_count board.new.disk) }
+    ensures starved { OnErr result (D.told board.new.disk ≡ D.told board.old.disk) }
 {
-    let command = command_of(script);
-    let next = opened.rows.next;
-    match decide(&opened.rows, &command) {
-        Verdict::Ok => store(alloc, script, opened, disk),
-        Verdict::Same => {
-            let same = Reply::Same { place: 0 };
-            Ok(marked(
-                phase_of(alloc, script, CallEnd::Got(same), next)?,
-                disk.clock(),
-            ))
-        }
-        Verdict::Refused(why) => {
-            let refused = Reply::Refused { why, place: 0 };
-            Ok(marked(
-                phase_of(alloc, script, CallEnd::Got(refused), next)?,
-                disk.clock(),
-            ))
-        }
-    }
+    let end = match board.verdict(&command_of(script)) {
+        Verdict::Ok => return store(alloc, script, board),
+        Verdict::Same => Reply::Same { place: 0 },
+        Verdict::Refused(why) => Reply::Refused { why, place: 0 },
+    };
+    let phase = phase_of(alloc, script, CallEnd::Got(end), board.next())?;
+    Ok(marked(phase, board.clock()))
 }

@@ -5,10 +5,10 @@ ghost use Rattle.diego_engine.specs.Top.{Reads, RunEnds, StillEnds, is_read, is_
 ghost use Rattle.diego_engine.specs.declared.words.Asked.TheVariants as wanted;
 
 use crate::ending::Ending;
-use crate::preparing::{PrepareFault, prepare};
 use crate::running::{Ended, ended_early, run_script};
 use crate::script::{Script, ScriptFault, read_script};
 use crate::words::Asked;
+use bbs_board::{PrepareFault, prepare};
 use byte_ports::{Gate, ReadFault, Sink, Source, read_whole};
 use disk_trait::Disk;
 use std::alloc::Global;
@@ -38,29 +38,29 @@ pub fn run<S: Source, K: Sink, D: Disk, G: Gate>(
     alloc: Global,
     source: &mut S,
     sink: &mut K,
-    disk: &mut D,
+    disk: D,
     gate: &G,
-) -> Ended
-    ensures ends { RunEnds result.ending result (S.left source.old) (S.left source.new)
+) -> (Ended, D)
+    ensures ends { RunEnds result.0.ending result.0 (S.left source.old) (S.left source.new)
         (record {
           held = K.held sink.old;
           write_faults = K.faults sink.old;
-          told = D.told disk.old;
-          disk_faults = D.fault_count disk.old;
-          clock = D.moment disk.old;
+          told = D.told disk;
+          disk_faults = D.fault_count disk;
+          clock = D.moment disk;
         })
         (record {
           held = K.held sink.new;
           write_faults = K.faults sink.new;
-          told = D.told disk.new;
-          disk_faults = D.fault_count disk.new;
-          clock = D.moment disk.new;
+          told = D.told result.1;
+          disk_faults = D.fault_count result.1;
+          clock = D.moment result.1;
         }) }
-    ensures cause { HasCause (is_read result.ending) (S.faults source.old) (S.faults source.new) }
+    ensures cause { HasCause (is_read result.0.ending) (S.faults source.old) (S.faults source.new) }
 {
     match read(alloc, source) {
         Ok(script) => run_script(alloc, &script, sink, disk, gate),
-        Err(ending) => ended_early(alloc, sink, ending),
+        Err(ending) => (ended_early(alloc, sink, ending), disk),
     }
 }
 

@@ -2,9 +2,10 @@
 ghost use Rattle.std.specs.Prelude.{◌≡◌, ◌+◌, ◌<◌, ◌^◌, [], ◌∷◌, length, IfOk, OnErr, replicate, Bool, ℕ};
 ghost use Rattle.diego_engine.specs.Phase.{Tells, events_text, counts_of, log_of, run_text, event_of, is_doubt, command_of};
 
-use crate::printing::{Counts, answer_text, event_text, summary_text};
 use crate::script::Script;
 use bbs_model::{Answered, CallEnd, CallFault, Change, Command, Event, Item, Op, Reply, Row};
+use lrp_records::Desired;
+use record_print::{Summary, answer_text, event_text, summary_text};
 use std::alloc::{AllocError, Global};
 
 /// The number of the script's one actor.
@@ -34,27 +35,26 @@ pub fn command_of(script: &Script) -> Command
     }
 }
 
-fn event_of(op: &Op) -> Event
-    ensures { result ≡ event_of op.now }
+/// What a legal desire does.
+fn event_of(desired: Desired) -> Event
+    ensures { result ≡ event_of desired }
 {
-    match op {
-        Op::Desire { desired } => Event {
-            change: Change::Created,
-            row: Row::Desired(*desired),
-        },
+    Event {
+        change: Change::Created,
+        row: Row::Desired(desired),
     }
 }
 
-fn events_text(alloc: Global, end: &CallEnd, op: &Op) -> Result<Vec<u8>, AllocError>
-    ensures { IfOk result (λ v. v.items ≡ events_text end.now op.now) }
+fn events_text(alloc: Global, end: &CallEnd, desired: Desired) -> Result<Vec<u8>, AllocError>
+    ensures { IfOk result (λ v. v.items ≡ events_text end.now desired) }
 {
     match end {
-        CallEnd::Got(Reply::Ok { place: _, stamp: _ }) => event_text(alloc, &event_of(op)),
+        CallEnd::Got(Reply::Ok { place: _, stamp: _ }) => event_text(alloc, &event_of(desired)),
         _ => Ok(Vec::new(alloc)),
     }
 }
 
-fn counts_of(end: &CallEnd, next: u64) -> Counts
+fn counts_of(end: &CallEnd, next: u64) -> Summary
     requires { next < 2 ^ 63 }
     ensures { result ≡ counts_of end.now next }
 {
@@ -63,7 +63,7 @@ fn counts_of(end: &CallEnd, next: u64) -> Counts
         CallEnd::Fault(CallFault::Disk { place: _ }) => (0, 1),
         _ => (0, 0),
     };
-    Counts {
+    Summary {
         done,
         doubts,
         next: next + done,
@@ -107,7 +107,7 @@ fn run_text(
     ensures { IfOk result (λ v. v.items ≡ run_text script.now end.now next) }
 {
     let mut text = answer_text(alloc, &script.client, script.line, &command.op, end)?;
-    let events = events_text(alloc, end, &command.op)?;
+    let events = events_text(alloc, end, script.desired)?;
     let summary = summary_text(alloc, counts_of(end, next))?;
     text.extend_from_slice(&events)?;
     text.extend_from_slice(&summary)?;

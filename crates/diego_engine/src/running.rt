@@ -1,23 +1,21 @@
 //! The run of a script: the opening, the call, and its text.
-ghost use Rattle.std.specs.Prelude.{◌≡◌, ◌<◌, ◌^◌, Bool, true, not, length};
+ghost use Rattle.std.specs.Prelude.{◌≡◌, ◌⊎◌, Bool, true, false, not};
 ghost use Rattle.byte_ports.specs.Cause.{HasCause};
 ghost use Rattle.byte_ports.specs.Content.{HoldsFront};
 ghost use Rattle.std.specs.Io.KnownBytes.{Appends};
-ghost use Rattle.std.specs.Option.{ForSome};
-ghost use Rattle.disk_trait.specs.Past.{content};
-ghost use Rattle.disk_trait.specs.declared.area.Area.TheVariants.{A};
-ghost use Rattle.bbs_model.specs.Valid.{IsValid};
-ghost use Rattle.diego_engine.specs.Ending.{line_of};
-ghost use Rattle.diego_engine.specs.Running.{IsEmpty, PrintsTo, Keeps, CallEnds, ScriptEnds, ending_of};
+ghost use Rattle.diego_engine.specs.Ending.{constant_line, line_of};
+ghost use Rattle.diego_engine.specs.declared.ending.Ending.{Ending as AnEnding};
+ghost use Rattle.diego_engine.specs.declared.ending.Ending.TheVariants as ending;
+ghost use Rattle.diego_engine.specs.Running.{IsEmpty, PrintsTo, Keeps, CallEnds, ScriptEnds, EndsAs, ending_of};
 
 use crate::calling::call;
-use crate::ending::{Ending, line_of};
-use crate::opening::{OpenFault, Opened, open};
+use crate::ending::{Ending, constant_line, damaged_line};
 use crate::phase::{ACTOR, Phase};
 use crate::script::Script;
+use bbs_board::{Board, LoadFault, load};
 use bbs_model::{Answered, Item};
 use byte_ports::{Gate, Sink, write_whole};
-use disk_trait::Disk;
+use disk_trait::{Area, Disk};
 use std::alloc::Global;
 
 /// How a run ended, and what it did.
@@ -38,19 +36,42 @@ fn written<K: Sink>(sink: &mut K, text: &[u8]) -> bool
     write_whole(sink, text).is_ok()
 }
 
-/// Ends before a call was made, with the line of the ending. Where writing it fails, the ending stays.
-pub fn ended_early<K: Sink>(alloc: Global, sink: &mut K, ending: Ending) -> Ended
+/// Ends before a call was made, with a line. Where writing it fails, the ending stays.
+fn ended_with<K: Sink>(alloc: Global, sink: &mut K, ending: Ending, line: &[u8]) -> Ended
     ensures ending { result.ending ≡ ending }
     ensures empty { IsEmpty result }
-    ensures prints { (whole : Bool) × PrintsTo whole (line_of ending)
+    ensures prints { (whole : Bool) × PrintsTo whole line.now
         (K.held sink.old) (K.held sink.new) (K.faults sink.old) (K.faults sink.new) }
 {
-    let _whole = written(sink, line_of(ending));
+    let _whole = written(sink, line);
     Ended {
         ending,
         log: Vec::new(alloc),
         marks: Vec::new(alloc),
         answers: Vec::new(alloc),
+    }
+}
+
+/// Ends before a call was made, with the line of the ending, where that tells no place.
+pub fn ended_early<K: Sink>(alloc: Global, sink: &mut K, ending: Ending) -> Ended
+    ensures ending { result.ending ≡ ending }
+    ensures empty { IsEmpty result }
+    ensures prints { (whole : Bool) × PrintsTo whole (constant_line ending)
+        (K.held sink.old) (K.held sink.new) (K.faults sink.old) (K.faults sink.new) }
+{
+    ended_with(alloc, sink, ending, constant_line(ending))
+}
+
+/// Ends at a defect, with its place. Where there is no memory for that line, it ends for want of it.
+fn ended_at_defect<K: Sink>(alloc: Global, sink: &mut K, area: Area, at: u64) -> Ended
+    ensures ending { (result.ending ≡ ending.Damaged area at) ⊎ (result.ending ≡ ending.OutOfMemory) }
+    ensures empty { IsEmpty result }
+    ensures prints { (whole : Bool) × PrintsTo whole (line_of result.ending)
+        (K.held sink.old) (K.held sink.new) (K.faults sink.old) (K.faults sink.new) }
+{
+    match damaged_line(alloc, area, at) {
+        Ok(line) => ended_with(alloc, sink, Ending::Damaged { area, at }, line.as_bytes()),
+        Err(_) => ended_early(alloc, sink, Ending::OutOfMemory),
     }
 }
 
@@ -89,69 +110,82 @@ fn printed<K: Sink>(sink: &mut K, phase: Phase) -> Ended
     }
 }
 
-/// Makes the call of a script at a board that was opened, and prints what is told of it.
-fn run_opened<K: Sink, D: Disk, G: Gate>(
+/// Makes the call of a script at a board that was loaded, and prints what is told of it.
+fn run_loaded<K: Sink, D: Disk, G: Gate>(
     alloc: Global,
     script: &Script,
-    opened: &Opened,
+    board: &mut Board<D>,
     sink: &mut K,
-    disk: &mut D,
     gate: &G,
 ) -> Ended
-    requires valid { IsValid opened.now.rows }
-    requires at { ForSome (D.told disk.old) (λ p. opened.now.end < length (content p A)) }
-    requires within { opened.now.end < 2 ^ 63 }
-    ensures { CallEnds result.ending script.now opened.now.rows opened.now.end result
+    requires { board.old.waits ≡ false }
+    ensures { CallEnds result.ending script.now board.old.rows result
         (record {
           held = K.held sink.old;
           write_faults = K.faults sink.old;
-          told = D.told disk.old;
-          disk_faults = D.fault_count disk.old;
-          clock = D.moment disk.old;
+          told = D.told board.old.disk;
+          disk_faults = D.fault_count board.old.disk;
+          clock = D.moment board.old.disk;
         })
         (record {
           held = K.held sink.new;
           write_faults = K.faults sink.new;
-          told = D.told disk.new;
-          disk_faults = D.fault_count disk.new;
-          clock = D.moment disk.new;
+          told = D.told board.new.disk;
+          disk_faults = D.fault_count board.new.disk;
+          clock = D.moment board.new.disk;
         }) }
 {
     gate.pass(ACTOR);
-    match call(alloc, script, opened, disk) {
+    match call(alloc, script, board) {
         Ok(phase) => printed(sink, phase),
         Err(_) => ended_early(alloc, sink, Ending::OutOfMemory),
     }
 }
 
-/// Runs a script on the board that the disk holds.
+/// Ends where no board was loaded.
+fn refused<K: Sink>(alloc: Global, sink: &mut K, fault: LoadFault) -> Ended
+    ensures ending { EndsAs fault result.ending }
+    ensures empty { IsEmpty result }
+    ensures prints { (whole : Bool) × PrintsTo whole (line_of result.ending)
+        (K.held sink.old) (K.held sink.new) (K.faults sink.old) (K.faults sink.new) }
+{
+    match fault {
+        LoadFault::Disk => ended_early(alloc, sink, Ending::Unopened),
+        LoadFault::NotABoard { area } => ended_early(alloc, sink, Ending::NotABoard { area }),
+        LoadFault::Damaged { area, at } => ended_at_defect(alloc, sink, area, at),
+        LoadFault::OutOfMemory => ended_early(alloc, sink, Ending::OutOfMemory),
+    }
+}
+
+/// Runs a script on the board that the disk holds, and gives the disk back.
 pub fn run_script<K: Sink, D: Disk, G: Gate>(
     alloc: Global,
     script: &Script,
     sink: &mut K,
-    disk: &mut D,
+    disk: D,
     gate: &G,
-) -> Ended
-    ensures { ScriptEnds result.ending script.now result
+) -> (Ended, D)
+    ensures { ScriptEnds result.0.ending script.now result.0
         (record {
           held = K.held sink.old;
           write_faults = K.faults sink.old;
-          told = D.told disk.old;
-          disk_faults = D.fault_count disk.old;
-          clock = D.moment disk.old;
+          told = D.told disk;
+          disk_faults = D.fault_count disk;
+          clock = D.moment disk;
         })
         (record {
           held = K.held sink.new;
           write_faults = K.faults sink.new;
-          told = D.told disk.new;
-          disk_faults = D.fault_count disk.new;
-          clock = D.moment disk.new;
+          told = D.told result.1;
+          disk_faults = D.fault_count result.1;
+          clock = D.moment result.1;
         }) }
 {
-    match open(alloc, disk) {
-        Ok(opened) => run_opened(alloc, script, &opened, sink, disk, gate),
-        Err(OpenFault::Disk) => ended_early(alloc, sink, Ending::Unopened),
-        Err(OpenFault::NotABoard) => ended_early(alloc, sink, Ending::NotABoard),
-        Err(OpenFault::OutOfMemory) => ended_early(alloc, sink, Ending::OutOfMemory),
+    match load(alloc, disk) {
+        Ok(mut board) => {
+            let ended = run_loaded(alloc, script, &mut board, sink, gate);
+            (ended, board.into_disk())
+        }
+        Err((disk, fault)) => (refused(alloc, sink, fault), disk),
     }
 }

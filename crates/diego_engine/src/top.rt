@@ -4,8 +4,10 @@ ghost use Rattle.byte_ports.specs.Cause.{HasCause, Rose};
 ghost use Rattle.byte_ports.specs.Content.{Lost};
 ghost use Rattle.disk_trait.specs.Past.{Image};
 ghost use Rattle.disk_trait.specs.Steps.{Goes};
-ghost use Rattle.diego_engine.specs.Board.{Shows, IsNoBoard};
-ghost use Rattle.diego_engine.specs.Preparing.{FindsBytes};
+ghost use Rattle.bbs_board.specs.Opening.{IsRefused};
+ghost use Rattle.bbs_journal.specs.Shows.{Shows};
+ghost use Rattle.bbs_journal.specs.Preparing.{FindsBytes};
+ghost use Rattle.bbs_journal.specs.declared.load_fault.LoadFault.{LoadFault as Why};
 ghost use Rattle.diego_engine.specs.Script.{script_of};
 ghost use Rattle.diego_engine.specs.Ending.{number_of};
 ghost use Rattle.diego_engine.specs.Top.{ReadsWhole, StillEnds, Ends, Meets, RunsWhole, is_before_board, limit};
@@ -102,7 +104,7 @@ fn whole_top<S: Source, K: Sink, D: Disk, G: Gate>(
     words: &[String],
     mut source: S,
     mut sink: K,
-    mut disk: D,
+    disk: D,
     gate: &G,
 ) -> TopEnd<S, K, D>
     ensures ends { (how : AnEnding) × (result.status ≡ number_of how)
@@ -128,7 +130,7 @@ fn whole_top<S: Source, K: Sink, D: Disk, G: Gate>(
     if !asks_for_a_run(words) {
         return still_top(alloc, words, source, sink, disk);
     }
-    let ended = run(alloc, &mut source, &mut sink, &mut disk, gate);
+    let (ended, disk) = run(alloc, &mut source, &mut sink, disk, gate);
     top_end(ended, source, sink, disk)
 }
 
@@ -168,8 +170,8 @@ pub fn diego_top<S: Source, K: Sink, D: Disk, G: Gate>(
     ensures read { HasCause (result.status == 3) (S.faults source) (S.faults result.source) }
     ensures unwritten { result.status ≡ 4 → Rose (K.faults sink) (K.faults result.sink) }
     ensures unstored { result.status ≡ 5 → Rose (D.fault_count disk) (D.fault_count result.disk) }
-    ensures refused { result.status ≡ 6
-        → (image : Image) → Shows (D.told disk) image → IsNoBoard image }
+    ensures refused { result.status ≡ 6 → (why : Why)
+        × ((image : Image) → Shows (D.told disk) image → IsRefused why image) }
     ensures too_long { result.status ≡ 8 → Lost (S.left source) (S.left result.source) (limit + 1) }
     ensures exists { result.status ≡ 9 → Goes (D.told disk) (D.told result.disk) FindsBytes }
     ensures untouched { is_before_board result.status ≡ true

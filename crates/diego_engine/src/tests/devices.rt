@@ -16,7 +16,7 @@ const DOUBT: &str = r#"{"actor":"cli","answer":"disk","call":"desire","line":2,"
 
 #[test]
 fn a_disk_that_fails_at_the_opening_or_a_preparing_ends_it(rt: HostRuntime) -> Result<(), Fail> {
-    for call in 1..4 {
+    for call in 1..8 {
         let given = Given {
             calls: &[call],
             ..first_run()
@@ -43,7 +43,7 @@ fn a_disk_that_fails_at_the_opening_or_a_preparing_ends_it(rt: HostRuntime) -> R
 
 #[test]
 fn a_disk_that_fails_in_the_call_leaves_a_doubt(rt: HostRuntime) -> Result<(), Fail> {
-    for call in 4..8 {
+    for call in 8..12 {
         let given = Given {
             calls: &[call],
             ..first_run()

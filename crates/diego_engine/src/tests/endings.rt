@@ -8,6 +8,8 @@ use std::test::Fail;
 
 const NO_BOARD: &str = "{\"area\":\"a\",\"at\":0,\"fault\":\"not a board\"}\n";
 
+const NO_BOARD_IN_B: &str = "{\"area\":\"b\",\"at\":0,\"fault\":\"not a board\"}\n";
+
 #[test]
 fn words_that_are_not_in_the_grammar_are_told_how_it_is_used(rt: HostRuntime) -> Result<(), Fail> {
     let cases: [&[&str]; 6] = [
@@ -70,40 +72,56 @@ fn stored_twice(alloc: Global) -> Result<Vec<u8>, Fail> {
     Ok(twice)
 }
 
-fn is_no_board(rt: &impl Abort, alloc: Global, a: &[u8], b: &[u8]) -> Result<(), Fail> {
+fn is_refused(rt: &impl Abort, alloc: Global, a: &[u8], b: &[u8], line: &str) -> Result<(), Fail> {
     let given = Given {
         a,
         b,
         ..first_run()
     };
     let left = run(alloc, &given)?;
-    ends(rt, &left, 6, NO_BOARD);
+    ends(rt, &left, 6, line);
     tells_nothing(rt, &left);
     assert_eq!(rt; left.disk.bytes(Area::A), a);
     assert_eq!(rt; left.disk.bytes(Area::B), b);
     Ok(())
 }
 
-#[test]
-fn other_areas_are_no_board(rt: HostRuntime) -> Result<(), Fail> {
-    let alloc = rt.alloc();
-    is_no_board(&rt, alloc, b"", b"")?;
-    is_no_board(&rt, alloc, PREPARED, b"\0")?;
-    let magic = changed(alloc, PREPARED, 1, b'd')?;
-    is_no_board(&rt, alloc, &magic, b"")?;
-    let generation = changed(alloc, PREPARED, 18, 2)?;
-    is_no_board(&rt, alloc, &generation, b"")
+// The line that tells of a defect of area A.
+fn damaged(alloc: Global, at: u64) -> Result<String, Fail> {
+    Ok(format!(in alloc; "{{\"area\":\"a\",\"at\":{at},\"fault\":\"damaged\"}}\n")?)
 }
 
 #[test]
-fn other_frames_are_no_board(rt: HostRuntime) -> Result<(), Fail> {
+fn areas_that_are_not_of_a_board_are_told(rt: HostRuntime) -> Result<(), Fail> {
     let alloc = rt.alloc();
-    let cut = STORED.get(..60).ok_or("60 bytes")?;
-    is_no_board(&rt, alloc, cut, b"")?;
-    let unclosed = STORED.get(..80).ok_or("80 bytes")?;
-    is_no_board(&rt, alloc, unclosed, b"")?;
-    let port = changed(alloc, STORED, 79, 0x91)?;
-    is_no_board(&rt, alloc, &port, b"")?;
+    is_refused(&rt, alloc, b"", b"", NO_BOARD)?;
+    let magic = changed(alloc, PREPARED, 1, b'd')?;
+    is_refused(&rt, alloc, &magic, b"", NO_BOARD)?;
+    is_refused(&rt, alloc, PREPARED, &magic, NO_BOARD_IN_B)
+}
+
+#[test]
+fn the_first_defect_of_a_board_is_told_with_its_place(rt: HostRuntime) -> Result<(), Fail> {
+    let alloc = rt.alloc();
+    let cases: [(usize, u8, u64); 6] = [
+        // A generation above the number of transitions and 1, and generation 0.
+        (18, 2, 11),
+        (18, 0, 11),
+        // A head with a transition, and one that doesn't fit.
+        (30, 1, 23),
+        (22, 99, 81),
+        // A frame of no length, and one of a kind of command that there isn't.
+        (49, 0, 47),
+        (50, 99, 47),
+    ];
+    for (place, value, at) in cases {
+        let bytes = changed(alloc, STORED, place, value)?;
+        is_refused(&rt, alloc, &bytes, b"", &damaged(alloc, at)?)?;
+    }
     let twice = stored_twice(alloc)?;
-    is_no_board(&rt, alloc, &twice, b"")
+    is_refused(&rt, alloc, &twice, b"", &damaged(alloc, 80)?)?;
+    let cut = STORED.get(..60).ok_or("60 bytes")?;
+    is_refused(&rt, alloc, cut, b"", &damaged(alloc, 47)?)?;
+    let unclosed = STORED.get(..80).ok_or("80 bytes")?;
+    is_refused(&rt, alloc, unclosed, b"", &damaged(alloc, 80)?)
 }

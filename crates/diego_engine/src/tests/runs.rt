@@ -20,7 +20,7 @@ fn the_first_run_stores_a_process_and_tells_it(rt: HostRuntime) -> Result<(), Fa
     assert!(rt; left.disk.bytes(Area::B).is_empty());
     let item = Item::Done(1, command()?);
     assert_eq!(rt; left.log.as_slice(), [item].as_slice());
-    assert_eq!(rt; left.marks.as_slice(), [7].as_slice());
+    assert_eq!(rt; left.marks.as_slice(), [11].as_slice());
     let ok = answer(CallEnd::Got(Reply::Ok { place: 0, stamp: 0 }))?;
     assert_eq!(rt; left.answers.as_slice(), [ok].as_slice());
     Ok(())
@@ -36,7 +36,7 @@ fn the_same_run_once_more_is_refused_and_writes_nothing(rt: HostRuntime) -> Resu
     ends(&rt, &left, 0, REFUSED);
     assert_eq!(rt; left.disk.bytes(Area::A), STORED.as_slice());
     assert!(rt; left.disk.bytes(Area::B).is_empty());
-    assert_eq!(rt; left.disk.clock(), 3);
+    assert_eq!(rt; left.disk.clock(), 8);
     assert!(rt; left.log.is_empty());
     assert!(rt; left.marks.is_empty());
     let why = BoardRefusal::Exists;

@@ -11,15 +11,15 @@ fn a_stop_within_an_append_leaves_the_gate_closed_or_a_whole_frame(
     let left = run(rt.alloc(), &first_run())?;
     // The body, its sync, the gate, its sync. A byte of 7 is an open gate, too.
     let cases = [
-        (4, Torn::Old, 0u8),
-        (4, Torn::New, 0),
-        (4, Torn::Byte(7), 0),
-        (5, Torn::Byte(7), 0),
-        (6, Torn::Old, 0),
-        (6, Torn::New, 1),
-        (6, Torn::Byte(7), 7),
-        (7, Torn::Byte(0), 0),
-        (7, Torn::New, 1),
+        (8, Torn::Old, 0u8),
+        (8, Torn::New, 0),
+        (8, Torn::Byte(7), 0),
+        (9, Torn::Byte(7), 0),
+        (10, Torn::Old, 0),
+        (10, Torn::New, 1),
+        (10, Torn::Byte(7), 7),
+        (11, Torn::Byte(0), 0),
+        (11, Torn::New, 1),
     ];
     for (call, torn, gate) in cases {
         assert!(rt; call <= left.disk.clock());

@@ -1,8 +1,0 @@
-use Rattle.std.proofs.Common.{arith}
-use Rattle.diego_engine.specs.Spelling.{field_amounts}
-use Rattle.wire_fields.proofs.Places.{Puts-then}
-use Rattle.diego_engine.proofs.spelling.writing.put_amounts.Goals as goal
-
-pub returns : goal.returns
-unfolding field_amounts
-returns c = Puts-then (omega arith) c.put_u32-after.ensures c.put_u32.ensures
