@@ -15,6 +15,7 @@ use Rattle.task_records.specs.declared.move_kind.TaskMove.{TaskMove}
 use Rattle.task_records.specs.declared.state.TaskState.{TaskState}
 use Rattle.task_records.specs.declared.state.TaskState.TheVariants.{Pending, Running, Completed, Resolving}
 use Rattle.task_records.specs.declared.task.Task.{Task}
+use Rattle.task_records.proofs.LifeLaws.{completed_is_finished}
 use Rattle.task_records.proofs.MoveLaws.{KeepsTask-task_move, NeverTurnsBack-task_move}
 use Rattle.bbs_model.specs.Attempts.{if_joined, put, drop_row}
 use Rattle.bbs_model.specs.Births.{born_at, is_waiting, is_ended, is_completed_between, completions}
@@ -40,13 +41,6 @@ use Rattle.bbs_model.proofs.KeepLogs.{IsValid-after_item, IsLawful-append, IsLaw
 use Rattle.bbs_model.proofs.KeepRuns.{next-rows_after}
 use Rattle.bbs_model.proofs.KeepSteps.{none_from, by_passing, by_knowing, by_joining}
 use Rattle.bbs_model.proofs.KeepWalk.{each-evacuate, IsNoTask, IsOfFound, each-attempt}
-
--- what has its outcome doesn't wait for it
-completed_is_finished : (state : TaskState) → is_completed state ≡ true → is_unfinished state ≡ false
-completed_is_finished Pending e = cc
-completed_is_finished (Running instance cell) e = cc
-completed_is_finished (Completed failed) e = refl
-completed_is_finished (Resolving failed) e = refl
 
 ended_first : (found : Option Task) → option_map_or (λ (t : Task). is_completed t.state) found false ≡ true
     → option_map_or (λ (t : Task). is_unfinished t.state) found false ≡ false

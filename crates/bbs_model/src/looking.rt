@@ -71,7 +71,8 @@ impl Rows {
     }
 
     fn evacuating_for(&self, op: &Op) -> Option<Actual>
-        ensures { result ≡ option_and_then (λ key. find_actual self.now key Evacuating) (evacuating_in op.now) }
+        ensures { result
+            ≡ option_and_then (λ key. find_actual self.now key Evacuating) (evacuating_in op.now) }
     {
         match op.evacuating() {
             Some(key) => find_in(self.actual.items(), &(key, Presence::Evacuating)),

@@ -42,7 +42,8 @@ fn change(
     second: &Option<Edit>,
 ) -> Result<Events, OutOfMemory>
     requires { rows.old.next < most_transitions }
-    ensures ok { OnOk result (rows.new ≡ advanced (edited_again (edited rows.old first.entry.now) second.entry.now)) }
+    ensures ok { OnOk result (rows.new
+        ≡ advanced (edited_again (edited rows.old first.entry.now) second.entry.now)) }
     ensures events { IfOk result (λ events. events ≡ record {
       first = event_of rows.old first.entry.now;
       second = event_again (edited rows.old first.entry.now) second.entry.now;
@@ -78,7 +79,8 @@ fn change_two(
     second: &Edit,
 ) -> Result<Events, OutOfMemory>
     requires { rows.old.next < most_transitions }
-    ensures ok { OnOk result (rows.new ≡ advanced (edited (edited rows.old first.entry.now) second.entry.now)) }
+    ensures ok { OnOk result (rows.new
+        ≡ advanced (edited (edited rows.old first.entry.now) second.entry.now)) }
     ensures events { IfOk result (λ events. events ≡ record {
       first = event_of rows.old first.entry.now;
       second = Some (event_of (edited rows.old first.entry.now) second.entry.now);

@@ -19,7 +19,7 @@ pub is_completion-IsCompletion : (old new : Task) → IsTrue (is_completion old 
 is_completion-IsCompletion old new = grind (arith, common_steps)
 
 -- a COMPLETED task has its outcome
-completed_is_finished : (state : TaskState) → is_completed state ≡ true → is_unfinished state ≡ false
+pub completed_is_finished : (state : TaskState) → is_completed state ≡ true → is_unfinished state ≡ false
 completed_is_finished Pending e = cc
 completed_is_finished (Running instance cell) e = cc
 completed_is_finished (Completed failed) e = refl
