@@ -6,3 +6,4 @@ pub mod Ranges
 pub mod Steps
 pub mod Told
 mod PickLemmas
+mod ChoiceLemmas

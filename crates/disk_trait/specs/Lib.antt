@@ -8,3 +8,4 @@ pub mod Possible
 pub mod MemoryAreas
 pub mod Memory
 pub mod Picks
+pub mod Chosen

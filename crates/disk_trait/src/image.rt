@@ -6,6 +6,7 @@ ghost use Rattle.disk_trait.specs.Deeds.{before, undone, held_until};
 ghost use Rattle.disk_trait.specs.MemoryPast.{held_at};
 ghost use Rattle.disk_trait.specs.Memory.{memory_past, calls_of};
 ghost use Rattle.disk_trait.specs.Picks.{image_of, Tears, Picked, Follows, Reaches};
+ghost use Rattle.disk_trait.specs.Chosen.{covered_in, left_as, picked_as, StoppedIn, Chooses, ChoosesAll};
 
 use crate::MemoryDisk;
 use crate::deed::{Deed, Entry};
@@ -31,7 +32,9 @@ impl MemoryDisk {
         torn: Torn,
     ) -> Result<(Vec<u8>, Vec<u8>), AllocError>
         requires { call ≤ calls_of self.now }
-        ensures { IfOk result (λ both. ImagesSince (memory_past self.now) (call - 1)
+        ensures leaves { IfOk result (λ both. ImagesSince (memory_past self.now) (call - 1)
+            (image_of both.0.items both.1.items)) }
+        ensures chosen { IfOk result (λ both. StoppedIn (memory_past self.now) call torn
             (image_of both.0.items both.1.items)) }
     {
         let moment = self.moment_of(call);
@@ -55,7 +58,8 @@ fn is_sync(entries: &[Entry], call: u64) -> bool {
 }
 
 fn left_at(alloc: Global, area: &MemoryArea, moment: u64, torn: Torn) -> Result<Vec<u8>, AllocError>
-    ensures { IfOk result (λ left. Leaves (held_at area.now moment) left.items) }
+    ensures leaves { IfOk result (λ left. Leaves (held_at area.now moment) left.items) }
+    ensures chosen { IfOk result (λ left. left.items ≡ left_as torn (held_at area.now moment)) }
 {
     let first = undo_all(alloc, &area.entries, &area.bytes)?;
     left_by(alloc, &area.entries, &area.bytes, moment, first, torn)
@@ -111,7 +115,10 @@ fn left_by(
     left: Vec<u8>,
     torn: Torn,
 ) -> Result<Vec<u8>, AllocError>
-    ensures { IfOk result (λ last. Reaches moment entries.now bytes.now left.items last.items) }
+    ensures reaches { IfOk result (λ last.
+        Reaches moment entries.now bytes.now left.items last.items) }
+    ensures chosen { IfOk result (λ last.
+        ChoosesAll torn moment entries.now bytes.now left.items last.items) }
 {
     match entries {
         [] => Ok(left),
@@ -133,7 +140,9 @@ fn left_after(
     after: Vec<u8>,
     torn: Torn,
 ) -> Result<Vec<u8>, AllocError>
-    ensures { IfOk result (λ next. Follows deed.now left.items after.items next.items) }
+    ensures follows { IfOk result (λ next. Follows deed.now left.items after.items next.items) }
+    ensures chosen { IfOk result (λ next.
+        Chooses torn deed.now left.items after.items next.items) }
 {
     match deed {
         Deed::Write { from, len, .. } => pick(alloc, *from, *len, left, after, torn),
@@ -150,7 +159,9 @@ fn pick(
     after: Vec<u8>,
     torn: Torn,
 ) -> Result<Vec<u8>, AllocError>
-    ensures { IfOk result (λ next. Picked from len left.items after.items next.items) }
+    ensures picked { IfOk result (λ next. Picked from len left.items after.items next.items) }
+    ensures chosen { IfOk result (λ next.
+        next.items ≡ picked_as torn from len left.items after.items) }
 {
     match torn {
         Torn::Old => Ok(left),
@@ -167,7 +178,8 @@ fn cover(
     mut left: Vec<u8>,
     byte: u8,
 ) -> Result<Vec<u8>, AllocError>
-    ensures { IfOk result (λ next. Tears from len left.items next.items) }
+    ensures tears { IfOk result (λ next. Tears from len left.items next.items) }
+    ensures bytes { IfOk result (λ next. next.items ≡ covered_in byte from len left.items) }
 {
     if from > left.len() {
         return Ok(left);

@@ -81,6 +81,12 @@ fn two_files_keep_what_is_written(rt: HostRuntime) -> Result<(), Fail> {
     assert_eq!(rt; second.len(Area::A), Ok(4));
     assert_eq!(rt; second.len(Area::B), Ok(1));
 
+    // Each area is the file of its own name.
+    let in_a = std::fs::read(&rt, a.as_str())?;
+    let in_b = std::fs::read(&rt, b.as_str())?;
+    assert_eq!(rt; in_a.as_slice(), b"abde".as_slice());
+    assert_eq!(rt; in_b.as_slice(), b"f".as_slice());
+
     std::fs::remove_file(&rt, a.as_str())?;
     std::fs::remove_file(&rt, b.as_str())?;
     Ok(())
