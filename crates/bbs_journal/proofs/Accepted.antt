@@ -29,7 +29,7 @@ use Rattle.bbs_journal.proofs.Opening.{GivesWay, open_gate, headed_ok}
 abbrev pub ok_of : ℕ → Result ℕ LoadFault
 ok_of n = Ok n
 
-abbrev active_ok : Area → ℕ → Result Active LoadFault
+abbrev pub active_ok : Area → ℕ → Result Active LoadFault
 active_ok area generation = Ok (record { area = area; generation = generation })
 
 -- ---- frames
@@ -186,10 +186,10 @@ by_tests a b same less first second = rw (first, second) refl
 by_tests_b : (a b : ℕ) (same less : Bool) → same ≡ false → less ≡ false → (if same then Err (Damaged B 11) else (if less then Ok (record { area = A; generation = a }) else Ok (record { area = B; generation = b }))) ≡ active_ok B b
 by_tests_b a b same less first second = rw (first, second) refl
 
-newer_a : (a b : ℕ) → b < a → newer a b ≡ active_ok A a
+pub newer_a : (a b : ℕ) → b < a → newer a b ≡ active_ok A a
 newer_a a b less = by_tests a b (a == b) (nat_lt b a) (grind (arith, nat_tests)) (grind (arith, nat_tests))
 
-newer_b : (a b : ℕ) → a < b → newer a b ≡ active_ok B b
+pub newer_b : (a b : ℕ) → a < b → newer a b ≡ active_ok B b
 newer_b a b less = by_tests_b a b (a == b) (nat_lt b a) (grind (arith, nat_tests)) (grind (arith, nat_tests))
 
 active_a : (generation : ℕ) (b : Header) → GivesWay generation b → active_of (Open generation) b ≡ active_ok A generation

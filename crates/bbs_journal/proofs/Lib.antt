@@ -14,4 +14,5 @@ mod Loads
 pub mod Once
 pub mod Accepted
 pub mod Recovered
+pub mod Newer
 pub mod Stops

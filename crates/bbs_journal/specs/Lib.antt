@@ -9,5 +9,6 @@ pub mod Shows
 pub mod Reading
 pub mod Found
 pub mod Grammar
+pub mod Newer
 pub mod Stops
 pub mod Preparing

@@ -1,6 +1,7 @@
 //! What the definitions of an area and of an opening come to.
 ghost use Rattle.bbs_journal.specs.Areas.{AreOne};
 ghost use Rattle.bbs_journal.specs.Grammar.{AreOpened, AreRecovered, AreReady, OpensOnce};
+ghost use Rattle.bbs_journal.specs.Newer.{NewerIsOpened, NewerIsRecovered, RecoversOnce};
 ghost use Rattle.bbs_journal.specs.Stops.{StopsAreOpened, AcknowledgedAreOpened};
 
 /// The head and the bytes of an area tell its payloads.
@@ -16,6 +17,17 @@ pub fn what_is_recovered_is_opened()
 /// Two openings of one image agree in everything.
 pub fn an_image_is_opened_once()
     ensures { OpensOnce }
+{}
+
+/// The grammar finds one journal in an image at most.
+pub fn an_image_is_recovered_once()
+    ensures { RecoversOnce }
+{}
+
+/// Where both areas are open, the one of the greater generation is the journal, or none is.
+pub fn of_two_open_areas_the_newer_is_opened()
+    ensures opened { NewerIsOpened }
+    ensures recovered { NewerIsRecovered }
 {}
 
 /// What is opened without a defect is what the grammar describes.

@@ -1,9 +1,10 @@
 ghost use Rattle.std.specs.Prelude.{◌≡◌, false, IfOk};
 
 mod failing;
+mod stops;
 
 use super::*;
-use disk_trait::{Area, Disk, MemoryDisk, Torn};
+use disk_trait::{Area, Disk, MemoryDisk};
 use std::alloc::Global;
 use std::process::Abort;
 use std::test::Fail;
@@ -70,6 +71,25 @@ fn opened(
     }
 }
 
+// The payloads that these areas hold, with a blank behind each. No defect stands behind them.
+fn held(rt: &impl Abort, alloc: Global, a: &[u8], b: &[u8]) -> Result<Vec<u8>, Fail> {
+    let mut text = Vec::new(alloc);
+    match load(alloc, disk_of(alloc, a, b, &[])?) {
+        Ok(loaded) => {
+            assert!(rt; loaded.broken.is_none());
+            for frame in &loaded.frames {
+                text.extend_from_slice(frame)?;
+                text.push(b' ')?;
+            }
+        }
+        Err((_, fault)) => {
+            let failed: Result<Vec<u8>, LoadFault> = Err(fault);
+            return Ok(failed?);
+        }
+    }
+    Ok(text)
+}
+
 #[test]
 fn a_frame_is_a_gate_a_length_and_a_payload(rt: HostRuntime) -> Result<(), Fail> {
     let mut journal = empty_journal(&rt, rt.alloc(), &[])?;
@@ -83,6 +103,33 @@ fn a_frame_is_a_gate_a_length_and_a_payload(rt: HostRuntime) -> Result<(), Fail>
     assert_eq!(rt; disk.bytes(Area::A).get(..47), EMPTY.get(..47));
     assert_eq!(rt; disk.bytes(Area::A).get(47..), Some(ONE.as_slice()));
     assert!(rt; disk.bytes(Area::B).is_empty());
+    Ok(())
+}
+
+#[test]
+fn one_desire_makes_an_area_of_81_bytes(rt: HostRuntime) -> Result<(), Fail> {
+    let alloc = rt.alloc();
+    let mut journal = empty_journal(&rt, alloc, &[])?;
+    assert_eq!(rt; journal.append(&DESIRED[50..80]), Ok(()));
+    let disk = journal.into_disk();
+    assert_eq!(rt; disk.bytes(Area::A), DESIRED.as_slice());
+    assert_eq!(rt;
+        held(&rt, alloc, &DESIRED, &[])?.strip_suffix(b" "),
+        DESIRED.get(50..80)
+    );
+    Ok(())
+}
+
+#[test]
+fn bytes_behind_the_closed_gate_are_free(rt: HostRuntime) -> Result<(), Fail> {
+    let alloc = rt.alloc();
+    let mut bytes = EMPTY.to_vec(alloc)?;
+    bytes.extend_from_slice(&[0xff, 0xff])?;
+    assert_eq!(rt; opened(alloc, &bytes, &[])?, Ok((0, None)));
+    // The same where a whole frame stands behind the gate.
+    bytes.truncate(48);
+    bytes.extend_from_slice(&ONE)?;
+    assert_eq!(rt; opened(alloc, &bytes, &[])?, Ok((0, None)));
     Ok(())
 }
 
@@ -174,38 +221,6 @@ fn of_two_areas_the_newer_is_read(rt: HostRuntime) -> Result<(), Fail> {
     assert_eq!(rt; opened(alloc, &DESIRED, &[0, 2])?, Ok((1, None)));
     assert_eq!(rt; opened(alloc, &DESIRED, &[2])?, Ok((1, None)));
     assert_eq!(rt; opened(alloc, &[0; 48], &DESIRED)?, Ok((1, None)));
-    Ok(())
-}
-
-#[test]
-fn a_stop_within_an_append_leaves_the_frames_before_or_one_more(
-    rt: HostRuntime,
-) -> Result<(), Fail> {
-    let alloc = rt.alloc();
-    let mut journal = empty_journal(&rt, alloc, &[])?;
-    assert_eq!(rt; journal.append(b"one"), Ok(()));
-    let disk = journal.into_disk();
-    // The body, its sync, the gate, its sync. A byte of 9 is an open gate, too.
-    let cases = [
-        (1, Torn::Old, 0),
-        (1, Torn::New, 0),
-        (1, Torn::Byte(9), 0),
-        (2, Torn::Byte(9), 0),
-        (3, Torn::Old, 0),
-        (3, Torn::New, 1),
-        (3, Torn::Byte(9), 1),
-        (4, Torn::Byte(0), 0),
-        (4, Torn::New, 1),
-    ];
-    for (call, torn, frames) in cases {
-        assert!(rt; CALLS + call <= disk.clock());
-        let (a, b) = disk.image(alloc, CALLS + call, torn)?;
-        assert_eq!(rt;
-            opened(alloc, &a, &b)?,
-            Ok((frames, None)),
-            "at call {call}"
-        );
-    }
     Ok(())
 }
 

@@ -1,6 +1,7 @@
 ghost use Rattle.std.specs.Prelude.{◌≡◌, false};
 
 use super::*;
+use disk_trait::Torn;
 
 // The disk after a load that failed, and why it did.
 fn failed_load(alloc: Global, failing: &[u64]) -> Result<(MemoryDisk, Option<LoadFault>), Fail> {
@@ -104,24 +105,6 @@ fn put_four(
     Ok(accepted)
 }
 
-// The payloads that these areas hold, with a blank behind each.
-fn held(alloc: Global, a: &[u8], b: &[u8]) -> Result<Vec<u8>, Fail> {
-    let mut text = Vec::new(alloc);
-    match load(alloc, disk_of(alloc, a, b, &[])?) {
-        Ok(loaded) => {
-            for frame in &loaded.frames {
-                text.extend_from_slice(frame)?;
-                text.push(b' ')?;
-            }
-        }
-        Err((_, fault)) => {
-            let failed: Result<Vec<u8>, LoadFault> = Err(fault);
-            return Ok(failed?);
-        }
-    }
-    Ok(text)
-}
-
 // Puts where these calls fail, and then stops: only what was accepted is left.
 fn stop_after_puts(rt: &impl Abort, alloc: Global, failing: &[u64]) -> Result<(), Fail> {
     let mut journal = empty_journal(rt, alloc, failing)?;
@@ -134,7 +117,7 @@ fn stop_after_puts(rt: &impl Abort, alloc: Global, failing: &[u64]) -> Result<()
     for torn in [Torn::Old, Torn::New, Torn::Byte(7)] {
         assert!(rt; end < disk.clock());
         let (a, b) = disk.image(alloc, end + 1, torn)?;
-        assert_eq!(rt; held(alloc, &a, &b)?, accepted, "{failing:?}, {torn:?}");
+        assert_eq!(rt; held(rt, alloc, &a, &b)?, accepted, "{failing:?}, {torn:?}");
     }
     Ok(())
 }
@@ -144,9 +127,12 @@ fn a_stop_leaves_what_was_accepted_and_nothing_that_was_refused(
     rt: HostRuntime,
 ) -> Result<(), Fail> {
     let alloc = rt.alloc();
+    // Each call of three appends. Of those behind it, up to the last call of the mend that it asks for,
+    // one fails besides.
     for call in CALLS + 1..CALLS + 13 {
         stop_after_puts(&rt, alloc, &[call])?;
         stop_after_puts(&rt, alloc, &[call, call + 1])?;
+        stop_after_puts(&rt, alloc, &[call, call + 2])?;
     }
     Ok(())
 }
