@@ -11,5 +11,10 @@ pub mod RowLists
 pub mod Tables
 pub mod SeenRows
 pub mod Steps
+pub mod ReadTables
+pub mod HeadParts
 pub mod HeadLaws
+pub mod HeadAgain
+pub mod Within
+pub mod HeadPlaces
 pub mod Rules

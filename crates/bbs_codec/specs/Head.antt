@@ -25,7 +25,7 @@ use Rattle.bbs_codec.specs.Format.{Format, both, number32, number64}
 use Rattle.bbs_codec.specs.Formats.{desired}
 use Rattle.bbs_codec.specs.RowFormats.{Reads, actual, task_row, cell_row}
 use Rattle.bbs_codec.specs.declared.fault.CodecFault.{CodecFault}
-use Rattle.bbs_codec.specs.declared.fault.CodecFault.TheVariants.{BadField, Trailing}
+use Rattle.bbs_codec.specs.declared.fault.CodecFault.TheVariants.{Short, BadKind, BadField, Trailing}
 
 -- `next`, and how many rows each table has
 abbrev pub Counts : Type 0
@@ -185,3 +185,10 @@ head_reading bytes = do
   t ← tasks_at c.0.0 c.0.1.1.0 bytes a.1
   r ← cells_at c.0.0 c.0.1.1.1 bytes t.1
   head_ended bytes (record { desired = d.0; actual = a.0; tasks = t.0; cells = r.0; next = c.0.0 }) r.1
+
+-- the place that a fault tells
+abbrev pub fault_place : CodecFault → ℕ
+fault_place (Short at) = at
+fault_place (BadKind at) = at
+fault_place (BadField at) = at
+fault_place (Trailing at) = at

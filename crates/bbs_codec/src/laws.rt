@@ -1,10 +1,11 @@
-//! What holds of every command in bytes.
-ghost use Rattle.std.specs.Prelude.{◌≡◌, ◌≤◌, ◌++◌, List, ℕ, length, Ok};
+//! What holds of every command and every head in bytes.
+ghost use Rattle.std.specs.Prelude.{◌≡◌, ◌≤◌, ◌++◌, List, ℕ, length, Ok, Err};
 ghost use Rattle.bbs_model.specs.declared.command.Command.{Command as ACommand};
 ghost use Rattle.wire_fields.specs.Laws.{IsBytes};
 ghost use Rattle.bbs_model.specs.declared.rows.Rows.{Rows as SomeRows};
 ghost use Rattle.bbs_codec.specs.Command.{FitsCommand, spelled, reading};
-ghost use Rattle.bbs_codec.specs.Head.{FitsHead, head_spelled, head_reading};
+ghost use Rattle.bbs_codec.specs.Head.{FitsHead, head_spelled, head_reading, fault_place};
+ghost use Rattle.bbs_codec.specs.declared.fault.CodecFault.{CodecFault as AFault};
 
 /// A command that was spelled is read back.
 #[tactic(auto, using(crate::proofs::Rules::laws))]
@@ -42,4 +43,16 @@ pub fn heads_are_read_back()
 pub fn heads_have_one_spelling()
     ensures { (bytes : List ℕ) (rows : SomeRows) → IsBytes bytes → head_reading bytes ≡ Ok rows
         → (bytes ≡ head_spelled rows) × FitsHead rows }
+{}
+
+/// No head begins another, so it is known where a head ends.
+pub fn no_head_begins_another()
+    ensures { (a b : SomeRows) (x y : List ℕ) → FitsHead a → FitsHead b
+        → head_spelled a ++ x ≡ head_spelled b ++ y → (a ≡ b) × (x ≡ y) }
+{}
+
+/// The place of a head's fault is within its bytes, or just behind them.
+pub fn head_faults_lie_within_the_bytes()
+    ensures { (bytes : List ℕ) (fault : AFault) → head_reading bytes ≡ Err fault
+        → fault_place fault ≤ length bytes }
 {}

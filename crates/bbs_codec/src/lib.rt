@@ -1,4 +1,4 @@
-//! Commands in bytes, as the journal keeps them.
+//! Commands in bytes, as the journal keeps them, and the rows of a board, as its head has them.
 #![tactic(auto)]
 
 mod fault;
@@ -12,8 +12,9 @@ mod writing;
 pub use fault::CodecFault;
 pub use head::{HeadFault, read_head, write_head};
 pub use laws::{
-    commands_are_read_back, commands_have_one_spelling, heads_are_read_back,
-    heads_have_one_spelling, no_spelling_begins_another, spellings_are_bounded,
+    commands_are_read_back, commands_have_one_spelling, head_faults_lie_within_the_bytes,
+    heads_are_read_back, heads_have_one_spelling, no_head_begins_another,
+    no_spelling_begins_another, spellings_are_bounded,
 };
 pub use reading::read_command;
 pub use writing::write_command;

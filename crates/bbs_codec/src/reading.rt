@@ -37,7 +37,8 @@ fn read_front(bytes: &[u8]) -> Result<(Command, usize), CodecFault>
     Ok((command, at))
 }
 
-/// The command that these bytes are, all of them. Otherwise it answers the first fault from the left.
+/// The command that these bytes are, all of them. Otherwise it answers the first fault from the
+/// left.
 pub fn read_command(bytes: &[u8]) -> Result<Command, CodecFault>
     ensures { result ≡ reading bytes.now }
 {

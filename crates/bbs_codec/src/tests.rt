@@ -1,4 +1,6 @@
+mod bad_heads;
 mod faults;
+mod full_tables;
 mod heads;
 mod spellings;
 

@@ -7,9 +7,9 @@ use thiserror::Error;
 /// Why bytes are no head, or were not read.
 #[derive(Clone, Copy, Debug, PartialEq, Eq, Error)]
 pub enum HeadFault {
-    /// The first fault from the left: a bad field at the front for the number of transitions and the
-    /// counts, one at the first byte of the first row that is none or may not stand there, or bytes
-    /// that are left over.
+    /// The first fault from the left: a bad field at the front for the number of transitions and
+    /// the counts, one at the first byte of the first row that is none or may not stand there, or
+    /// bytes that are left over.
     #[error("{0}")]
     Codec(CodecFault),
     /// There was no memory for the rows. It says nothing of the bytes.

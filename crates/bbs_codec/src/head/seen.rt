@@ -30,7 +30,8 @@ fn has_room<X: HeadRow>(rows: &[X], wanted: u32, row: X) -> bool
 
 /// Whether all but its number allows the row to stand behind these.
 pub fn is_next<X: HeadRow>(rows: &[X], last: Option<X>, wanted: u32, next: u64, row: X) -> bool
-    requires above { is_above X.Key.cmp X.key rows.now row ≡ is_above_last X.Key.cmp X.key last row }
+    requires above { is_above X.Key.cmp X.key rows.now row
+        ≡ is_above_last X.Key.cmp X.key last row }
     requires sum { wanted ≡ sum_by X.keeps.wants rows.now }
     requires few { wanted ≤ 50000 }
     ensures { result ≡ ((is_above X.Key.cmp X.key rows.now row && has_room X.keeps rows.now row)
@@ -42,7 +43,8 @@ pub fn is_next<X: HeadRow>(rows: &[X], last: Option<X>, wanted: u32, next: u64, 
 /// Notes the number of a row, and gives whether it was not among those that were noted.
 pub fn note<X: HeadRow>(stamps: &mut BTreeSet<u64>, row: X) -> Result<bool, OutOfMemory>
     ensures fresh { IfOk result (λ fresh.
-        fresh ≡ option_map_or (λ stamp. not (contains nat_cmp stamps.old (stamp row))) X.keeps.stamp true) }
+        fresh ≡ option_map_or (λ stamp. not (contains nat_cmp stamps.old (stamp row)))
+        X.keeps.stamp true) }
     ensures noted { OnOk result ((n : ℕ) → contains nat_cmp stamps.new n
         ≡ (is_stamped X.keeps.stamp n (row ∷ []) || contains nat_cmp stamps.old n)) }
 {

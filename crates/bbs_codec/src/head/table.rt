@@ -22,8 +22,10 @@ pub struct Table<X> {
 
 /// Puts a row behind the others, where it may stand there.
 fn keep<X: HeadRow>(table: &mut Table<X>, next: u64, row: X) -> Result<bool, OutOfMemory>
-    requires { IsSeen X.Key.cmp X.key X.keeps table.old.rows table.old.last table.old.wanted table.old.stamps }
-    ensures kept { IfOk result (λ kept. kept ≡ may_follow X.Key.cmp X.key X.keeps next table.old.rows row) }
+    requires { IsSeen X.Key.cmp X.key X.keeps
+        table.old.rows table.old.last table.old.wanted table.old.stamps }
+    ensures kept { IfOk result (λ kept.
+        kept ≡ may_follow X.Key.cmp X.key X.keeps next table.old.rows row) }
     ensures rows { IfOk result (λ kept. kept ≡ true → table.new.rows ≡ table.old.rows ++ row ∷ []) }
     ensures seen { IfOk result (λ kept. kept ≡ true → IsSeen X.Key.cmp X.key X.keeps
         table.new.rows table.new.last table.new.wanted table.new.stamps) }
@@ -48,10 +50,12 @@ fn read_row<X: HeadRow>(
     at: usize,
 ) -> Result<usize, HeadFault>
     requires place { at ≤ length bytes.now }
-    requires seen { IsSeen X.Key.cmp X.key X.keeps table.old.rows table.old.last table.old.wanted table.old.stamps }
-    ensures ok { IfOk result (λ after. row_kept (may_follow X.Key.cmp X.key X.keeps next) (table.old.rows, at)
-        (X.format.read bytes.now at) ≡ Ok (table.new.rows, after)) }
-    ensures err { IfErr result (λ fault. Blames fault (row_kept (may_follow X.Key.cmp X.key X.keeps next)
+    requires seen { IsSeen X.Key.cmp X.key X.keeps
+        table.old.rows table.old.last table.old.wanted table.old.stamps }
+    ensures ok { IfOk result (λ after. row_kept (may_follow X.Key.cmp X.key X.keeps next)
+        (table.old.rows, at) (X.format.read bytes.now at) ≡ Ok (table.new.rows, after)) }
+    ensures err { IfErr result (λ fault. Blames fault
+        (row_kept (may_follow X.Key.cmp X.key X.keeps next)
         (table.old.rows, at) (X.format.read bytes.now at))) }
     ensures seen { IfOk result (λ after. IsSeen X.Key.cmp X.key X.keeps
         table.new.rows table.new.last table.new.wanted table.new.stamps) }
@@ -78,8 +82,8 @@ pub fn read_rows<X: HeadRow>(
     at: usize,
 ) -> Result<(List<X>, usize), HeadFault>
     requires { at ≤ length bytes.now }
-    ensures told { Tells result (rows_at X.format.read (may_follow X.Key.cmp X.key X.keeps next) count
-        bytes.now ([], at)) }
+    ensures told { Tells result (rows_at X.format.read (may_follow X.Key.cmp X.key X.keeps next)
+        count bytes.now ([], at)) }
     ensures within { IfOk result (λ read. read.1 ≤ length bytes.now) }
 {
     let mut table = Table {

@@ -26,7 +26,8 @@ fn append<X: Fields>(out: &mut Vec<u8>, value: X) -> Result<(), OutOfMemory>
 
 /// Writes the rows of a table, each behind the one before it.
 fn append_rows<X: HeadRow>(out: &mut Vec<u8>, rows: &[X]) -> Result<(), OutOfMemory>
-    ensures bytes { OnOk result (out.new.items ≡ out.old.items ++ flat_map X.format.spelling rows.entry.now) }
+    ensures bytes { OnOk result (out.new.items
+        ≡ out.old.items ++ flat_map X.format.spelling rows.entry.now) }
     ensures fits { OnOk result (AllByRecursion X.format.Fits rows.entry.now) }
 {
     for row in rows {

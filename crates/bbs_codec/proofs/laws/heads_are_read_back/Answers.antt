@@ -1,4 +1,4 @@
-use Rattle.bbs_codec.proofs.HeadLaws.{head_again}
+use Rattle.bbs_codec.proofs.HeadAgain.{head_again}
 use Rattle.bbs_codec.proofs.laws.heads_are_read_back.Goals as goal
 
 pub returns : goal.returns
