@@ -1,3 +1,5 @@
 mod commands;
+mod instances;
 mod runs;
+mod tasks;
 mod verdicts;

@@ -3,9 +3,17 @@ mod answers;
 mod events;
 
 use crate::{Summary, summary_text};
+use cell_records::Amounts;
 use diego_names::{Instance, Key, Name};
+use lrp_records::Desired;
 use std::process::Abort;
 use std::test::Fail;
+
+const TOTALS: Amounts = Amounts {
+    memory: 1024,
+    disk: 4096,
+    containers: 10,
+};
 
 fn name(text: &str) -> Result<Name, Fail> {
     Ok(Name::read(text.as_bytes())?)
@@ -18,6 +26,19 @@ fn key(process: &str, index: u32) -> Result<Key, Fail> {
 
 const fn instance(epoch: u64, number: u32) -> Instance {
     Instance { epoch, number }
+}
+
+fn desired() -> Result<Desired, Fail> {
+    Ok(Desired {
+        process: name("web")?,
+        domain: name("apps")?,
+        instances: 1,
+        memory: 64,
+        disk: 128,
+        tag: None,
+        route: None,
+        port: 8080,
+    })
 }
 
 /// That this is the line, with a newline behind it.

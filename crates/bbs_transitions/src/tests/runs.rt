@@ -3,7 +3,9 @@ ghost use Rattle.std.specs.Prelude.{◌≡◌};
 ghost use Rattle.bbs_model.specs.Tables.{no_rows};
 ghost use Rattle.bbs_model.specs.Valid.{IsValid};
 
-use crate::tests::commands::{all_names, beginning, commands_of, crashes, end_of_a_process, tasks};
+use crate::tests::commands::{all_names, beginning, commands_of};
+use crate::tests::instances::{crashes, end_of_a_process};
+use crate::tests::tasks::two_tasks;
 use crate::{apply, decide};
 use bbs_index::Index;
 use bbs_model::{Command, Op, RowStore, Rows, Verdict, first_board_is_valid, run_all};
@@ -88,7 +90,7 @@ fn the_step_in_place_does_what_the_plain_one_does(rt: HostRuntime) -> Result<(),
     let mut rows = first_board(rt.alloc());
     run_alike(&rt, rt.alloc(), &mut rows, &beginning(&n), 5)?;
     run_alike(&rt, rt.alloc(), &mut rows, &crashes(&n), 13)?;
-    run_alike(&rt, rt.alloc(), &mut rows, &tasks(&n), 10)?;
+    run_alike(&rt, rt.alloc(), &mut rows, &two_tasks(&n), 10)?;
     run_alike(&rt, rt.alloc(), &mut rows, &end_of_a_process(&n), 8)?;
     Ok(())
 }

@@ -1,9 +1,8 @@
-use super::{instance, key, name, reads};
+use super::{TOTALS, desired, instance, key, name, reads};
 use crate::{answer_text, call_word, subject_text, why_text};
 use bbs_model::{BoardRefusal, CallEnd, CallFault, Op, Reply};
-use cell_records::Amounts;
 use diego_names::StateName;
-use lrp_records::{Desired, LrpRefusal};
+use lrp_records::LrpRefusal;
 use std::test::Fail;
 use task_records::TaskRefusal;
 
@@ -17,40 +16,30 @@ const fn refused(why: BoardRefusal) -> CallEnd {
     CallEnd::Got(Reply::Refused { why, place: 0 })
 }
 
-fn desired() -> Result<Desired, Fail> {
-    Ok(Desired {
-        process: name("web")?,
-        domain: name("apps")?,
-        instances: 1,
-        memory: 64,
-        disk: 128,
-        tag: None,
-        route: None,
-        port: 8080,
+fn desire() -> Result<Op, Fail> {
+    let desired = desired()?;
+    Ok(Op::Desire { desired })
+}
+
+fn claim() -> Result<Op, Fail> {
+    Ok(Op::Claim {
+        key: key("web", 0)?,
+        instance: instance(1, 1),
+        cell: name("c2")?,
+    })
+}
+
+fn complete() -> Result<Op, Fail> {
+    Ok(Op::CompleteTask {
+        name: name("job")?,
+        instance: instance(1, 1),
+        failed: false,
     })
 }
 
 #[test]
 fn an_answer_tells_who_asked_and_what_came_of_it(rt: HostRuntime) -> Result<(), Fail> {
-    let (key, job, cell) = (key("web", 0)?, name("job")?, name("c1")?);
-    let held = BoardRefusal::Lrp(LrpRefusal::Held { by: instance(0, 1) });
-    let ended = BoardRefusal::Task(TaskRefusal::WrongState {
-        state: StateName::Completed,
-    });
-    let instance = instance(1, 1);
-    let complete = Op::CompleteTask {
-        name: job,
-        instance,
-        failed: false,
-    };
-    let claim = Op::Claim {
-        key,
-        instance,
-        cell: name("c2")?,
-    };
-    let desire = Op::Desire {
-        desired: desired()?,
-    };
+    let (key, cell, instance) = (key("web", 0)?, name("c1")?, instance(1, 1));
     for (actor, line, op, end, want) in [
         (
             "c1",
@@ -67,36 +56,48 @@ fn an_answer_tells_who_asked_and_what_came_of_it(rt: HostRuntime) -> Result<(), 
             r#"{"actor":"c1","answer":"ok","call":"evacuate","line":10,"subject":"web/0"}"#,
         ),
         (
+            "cli",
+            2,
+            desire()?,
+            DISK,
+            r#"{"actor":"cli","answer":"disk","call":"desire","line":2,"subject":"web"}"#,
+        ),
+    ] {
+        let text = answer_text(rt.alloc(), &name(actor)?, line, &op, &end)?;
+        reads(&rt, text.as_slice(), want);
+    }
+    Ok(())
+}
+
+#[test]
+fn a_refused_answer_tells_why(rt: HostRuntime) -> Result<(), Fail> {
+    let held = LrpRefusal::Held { by: instance(0, 1) };
+    let state = StateName::Completed;
+    for (actor, line, op, why, want) in [
+        (
             "c2",
             12,
-            claim,
-            refused(held),
+            claim()?,
+            BoardRefusal::Lrp(held),
             r#"{"actor":"c2","answer":"refused","call":"claim","line":12,"subject":"web/0","why":"held 0.1"}"#,
         ),
         (
             "c1",
             8,
-            complete,
-            refused(ended),
+            complete()?,
+            BoardRefusal::Task(TaskRefusal::WrongState { state }),
             r#"{"actor":"c1","answer":"refused","call":"completetask","line":8,"subject":"job","why":"wrong state completed"}"#,
         ),
         (
             "cli",
             3,
-            desire,
-            refused(BoardRefusal::Exists),
+            desire()?,
+            BoardRefusal::Exists,
             r#"{"actor":"cli","answer":"refused","call":"desire","line":3,"subject":"web","why":"exists"}"#,
         ),
-        (
-            "cli",
-            2,
-            desire,
-            DISK,
-            r#"{"actor":"cli","answer":"disk","call":"desire","line":2,"subject":"web"}"#,
-        ),
     ] {
-        let line = answer_text(rt.alloc(), &name(actor)?, line, &op, &end)?;
-        reads(&rt, line.as_slice(), want);
+        let text = answer_text(rt.alloc(), &name(actor)?, line, &op, &refused(why))?;
+        reads(&rt, text.as_slice(), want);
     }
     Ok(())
 }
@@ -104,11 +105,6 @@ fn an_answer_tells_who_asked_and_what_came_of_it(rt: HostRuntime) -> Result<(), 
 #[test]
 fn a_command_is_told_by_its_word_and_what_it_names(rt: HostRuntime) -> Result<(), Fail> {
     let (key, process, job, cell) = (key("web", 12)?, name("web")?, name("job")?, name("c1")?);
-    let totals = Amounts {
-        memory: 1024,
-        disk: 4096,
-        containers: 10,
-    };
     let update = Op::Update {
         process,
         instances: 2,
@@ -119,7 +115,7 @@ fn a_command_is_told_by_its_word_and_what_it_names(rt: HostRuntime) -> Result<()
         cell,
         zone: name("z1")?,
         tag: None,
-        totals,
+        totals: TOTALS,
         ttl: 600,
     };
     let task = Op::NewTask {

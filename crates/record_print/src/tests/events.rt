@@ -1,9 +1,11 @@
-use super::{instance, key, name, reads};
+use super::{TOTALS, desired, instance, key, name, reads};
 use crate::{event_text, row_text};
 use bbs_model::{Change, Event, Row};
-use cell_records::{Amounts, CellRow};
+use cell_records::CellRow;
 use crash_backoff::Moment;
 use lrp_records::{Actual, Desired, LrpState, Presence};
+use std::alloc::Global;
+use std::process::Abort;
 use std::test::Fail;
 use task_records::{Task, TaskState};
 
@@ -12,11 +14,7 @@ fn evacuating_cell() -> Result<CellRow, Fail> {
         cell: name("c1")?,
         zone: name("z1")?,
         tag: None,
-        totals: Amounts {
-            memory: 1024,
-            disk: 4096,
-            containers: 10,
-        },
+        totals: TOTALS,
         epoch: 0,
         until: 600,
         evacuating: true,
@@ -24,16 +22,20 @@ fn evacuating_cell() -> Result<CellRow, Fail> {
 }
 
 fn tagged() -> Result<Desired, Fail> {
-    Ok(Desired {
-        process: name("web")?,
-        domain: name("apps")?,
-        instances: 1,
-        memory: 64,
-        disk: 128,
-        tag: Some(name("gpu")?),
-        route: None,
-        port: 8080,
-    })
+    let tag = Some(name("gpu")?);
+    Ok(Desired { tag, ..desired()? })
+}
+
+fn event_reads(
+    rt: &impl Abort,
+    alloc: Global,
+    change: Change,
+    row: Row,
+    want: &str,
+) -> Result<(), Fail> {
+    let line = event_text(alloc, &Event { change, row })?;
+    reads(rt, line.as_slice(), want);
+    Ok(())
 }
 
 #[test]
@@ -50,15 +52,13 @@ fn an_event_of_a_process_or_a_cell_tells_its_row(rt: HostRuntime) -> Result<(), 
             r#"{"event":"changed","row":{"cell":"c1","containers":10,"disk":4096,"epoch":0,"evacuating":true,"memory":1024,"tag":null,"until":600,"zone":"z1"},"table":"cell"}"#,
         ),
     ] {
-        let line = event_text(rt.alloc(), &Event { change, row })?;
-        reads(&rt, line.as_slice(), want);
+        event_reads(&rt, rt.alloc(), change, row, want)?;
     }
     Ok(())
 }
 
-#[test]
-fn an_event_of_an_instance_tells_its_container(rt: HostRuntime) -> Result<(), Fail> {
-    let evacuating = Actual {
+fn evacuating() -> Result<Actual, Fail> {
+    Ok(Actual {
         key: key("web", 0)?,
         presence: Presence::Evacuating,
         state: LrpState::Running {
@@ -68,94 +68,94 @@ fn an_event_of_an_instance_tells_its_container(rt: HostRuntime) -> Result<(), Fa
         count: 0,
         since: Moment(2),
         error: false,
-    };
-    let unplaced = Actual {
+    })
+}
+
+fn unplaced() -> Result<Actual, Fail> {
+    Ok(Actual {
         presence: Presence::Ordinary,
         state: LrpState::Unclaimed,
         since: Moment(3),
         error: true,
-        ..evacuating
-    };
-    let claimed = Actual {
+        ..evacuating()?
+    })
+}
+
+fn claimed() -> Result<Actual, Fail> {
+    Ok(Actual {
         presence: Presence::Ordinary,
         state: LrpState::Claimed {
             instance: instance(8, 1),
             cell: name("c2")?,
         },
         since: Moment(6),
-        ..evacuating
-    };
+        ..evacuating()?
+    })
+}
+
+#[test]
+fn an_event_of_an_instance_tells_its_container(rt: HostRuntime) -> Result<(), Fail> {
     for (change, row, want) in [
         (
             Change::Removed,
-            evacuating,
+            evacuating()?,
             r#"{"event":"removed","row":{"cell":"c1","count":0,"error":false,"index":0,"instance":"0.1","presence":"evacuating","process":"web","since":2,"state":"running"},"table":"actual"}"#,
         ),
         (
             Change::Changed,
-            unplaced,
+            unplaced()?,
             r#"{"event":"changed","row":{"cell":null,"count":0,"error":true,"index":0,"instance":null,"presence":"ordinary","process":"web","since":3,"state":"unclaimed"},"table":"actual"}"#,
         ),
         (
             Change::Changed,
-            claimed,
+            claimed()?,
             r#"{"event":"changed","row":{"cell":"c2","count":0,"error":false,"index":0,"instance":"8.1","presence":"ordinary","process":"web","since":6,"state":"claimed"},"table":"actual"}"#,
         ),
     ] {
-        let row = Row::Actual(row);
-        let line = event_text(rt.alloc(), &Event { change, row })?;
-        reads(&rt, line.as_slice(), want);
+        event_reads(&rt, rt.alloc(), change, Row::Actual(row), want)?;
     }
     Ok(())
 }
 
+fn job(birth: u64, since: u32, state: TaskState) -> Result<Task, Fail> {
+    Ok(Task {
+        name: name("job")?,
+        birth,
+        state,
+        since: Moment(since),
+        memory: 64,
+        disk: 64,
+        tag: None,
+    })
+}
+
 #[test]
 fn a_task_has_failed_or_not_once_it_has_its_outcome(rt: HostRuntime) -> Result<(), Fail> {
-    let running = TaskState::Running {
-        instance: instance(0, 1),
-        cell: name("c1")?,
-    };
-    for (change, birth, since, state, want) in [
+    let (instance, cell) = (instance(0, 1), name("c1")?);
+    let failed = false;
+    for (change, task, want) in [
         (
             Change::Created,
-            6,
-            10,
-            TaskState::Pending,
+            job(6, 10, TaskState::Pending)?,
             r#"{"event":"created","row":{"birth":6,"cell":null,"disk":64,"failed":null,"instance":null,"memory":64,"name":"job","since":10,"state":"pending","tag":null},"table":"task"}"#,
         ),
         (
             Change::Changed,
-            1,
-            1,
-            running,
+            job(1, 1, TaskState::Running { instance, cell })?,
             r#"{"event":"changed","row":{"birth":1,"cell":"c1","disk":64,"failed":null,"instance":"0.1","memory":64,"name":"job","since":1,"state":"running","tag":null},"table":"task"}"#,
         ),
         (
             Change::Changed,
-            1,
-            9,
-            TaskState::Completed { failed: false },
+            job(1, 9, TaskState::Completed { failed })?,
             r#"{"event":"changed","row":{"birth":1,"cell":null,"disk":64,"failed":false,"instance":null,"memory":64,"name":"job","since":9,"state":"completed","tag":null},"table":"task"}"#,
         ),
         (
             Change::Removed,
-            1,
-            10,
-            TaskState::Resolving { failed: false },
+            job(1, 10, TaskState::Resolving { failed })?,
             r#"{"event":"removed","row":{"birth":1,"cell":null,"disk":64,"failed":false,"instance":null,"memory":64,"name":"job","since":10,"state":"resolving","tag":null},"table":"task"}"#,
         ),
     ] {
-        let row = Row::Task(Task {
-            name: name("job")?,
-            birth,
-            state,
-            since: Moment(since),
-            memory: 64,
-            disk: 64,
-            tag: None,
-        });
-        let line = event_text(rt.alloc(), &Event { change, row })?;
-        reads(&rt, line.as_slice(), want);
+        event_reads(&rt, rt.alloc(), change, Row::Task(task), want)?;
     }
     Ok(())
 }
