@@ -1,7 +1,10 @@
 -- Following frames, one after another.
 use Rattle.std.proofs.Common.{◌≡◌, ℕ, ◌+◌, List, [], ◌∷◌, ◌++◌, length, Option, Some, None, Result, Ok, Err, refl, sym, ap, ◌∙◌, arith}
+use Rattle.wire_fields.specs.Reading.{◌>>=◌}
+use Rattle.wire_fields.proofs.Pairs.{bind_ok}
 use Rattle.disk_trait.specs.declared.area.Area.{Area}
-use Rattle.bbs_codec.specs.Command.{reading}
+use Rattle.bbs_codec.specs.Command.{reading, spelled, FitsCommand}
+use Rattle.bbs_codec.proofs.Commands.{command_again}
 use Rattle.bbs_codec.specs.declared.fault.CodecFault.{CodecFault}
 use Rattle.bbs_journal.specs.declared.load_fault.LoadFault.{LoadFault}
 use Rattle.bbs_model.specs.Runs.{if_legal}
@@ -11,7 +14,7 @@ use Rattle.bbs_model.specs.declared.rows.Rows.{Rows}
 use Rattle.bbs_model.specs.declared.verdict.Verdict.{Verdict}
 use Rattle.bbs_model.specs.declared.verdict.Verdict.TheVariants as verdict
 use Rattle.bbs_model.proofs.KeepRuns.{next-rows_after}
-use Rattle.bbs_board.specs.Opening.{after_read, after_payload, or_damaged, followed}
+use Rattle.bbs_board.specs.Opening.{rows_in, after_read, after_payload, or_damaged, followed, board_of}
 
 -- what was read on with was there
 pub damaged_ok : (area : Area) (at : ℕ) (o : Option Rows) (go : Rows → Result Rows LoadFault) (after : Rows) → or_damaged area at o go ≡ Ok after
@@ -76,3 +79,17 @@ legal_to v x is = ap (λ (w : Verdict). if_legal w (Some x) None) is
 pub legal_followed : (rows : Rows) (payload : List ℕ) (c : Command) → reading payload ≡ Ok c → IsLegal rows c → after_payload rows payload ≡ Some (rows_after rows c)
 legal_followed rows payload c read legal =
     ap (λ (r : Result Command CodecFault). after_read rows r) read ∙ legal_to (verdict_of rows c) (rows_after rows c) legal
+
+-- one payload more on a board
+pub board_more : (area : Area) (head : List ℕ) (payloads : List (List ℕ)) (payload : List ℕ) (rows after : Rows) → board_of area head payloads None ≡ Ok rows
+    → after_payload rows payload ≡ Some after → board_of area head (payloads ++ payload ∷ []) None ≡ Ok after
+board_more area head payloads payload rows after is more =
+    let first = bind_ok (rows_in area head) (λ start. followed area None start (23 + length head) payloads) rows is in
+    ap (λ (r : Result Rows LoadFault). r >>= λ start. followed area None start (23 + length head) (payloads ++ payload ∷ [])) first.1
+    ∙ followed_more area first.0 rows after (23 + length head) payloads payload first.2 more
+
+-- a legal command is a payload more
+pub command_more : (area : Area) (head : List ℕ) (payloads : List (List ℕ)) (c : Command) (rows : Rows) → FitsCommand c → IsLegal rows c → board_of area head payloads None ≡ Ok rows
+    → board_of area head (payloads ++ spelled c ∷ []) None ≡ Ok (rows_after rows c)
+command_more area head payloads c rows fits legal is =
+    board_more area head payloads (spelled c) rows (rows_after rows c) is (legal_followed rows (spelled c) c (command_again c fits) legal)

@@ -1,3 +1,8 @@
 pub mod Frames
-pub mod Storing
 pub mod Loaded
+pub mod Logs
+pub mod Mending
+pub mod Storing
+pub mod Keeping
+pub mod Held
+pub mod Completing

@@ -1,10 +1,12 @@
 -- What was loaded is a board, and stands as one.
-use Rattle.std.proofs.Common.{◌≡◌, inl, inr, ℕ, ◌+◌, ◌≤◌, List, ◌∷◌, ◌++◌, length, Option, Some, None, Result, Ok, Err, refl, sym, subst, ◌∙◌, arith, length-append}
+use Rattle.std.proofs.Common.{◌≡◌, inl, inr, ℕ, false, ◌+◌, ◌≤◌, List, [], ◌∷◌, ◌++◌, length, Option, Some, None, Result, Ok, Err, refl, sym, subst, ◌∙◌, arith, length-append}
 use Rattle.std.specs.Int.{w32, w64}
 use Rattle.std.specs.Option.{ForSome}
 use Rattle.wire_fields.specs.Field.{field_number}
 use Rattle.wire_fields.proofs.Lengths.{length-field_number}
-use Rattle.disk_trait.specs.Past.{Past, Image, now, other, content}
+use Rattle.wire_fields.proofs.Pairs.{bind_ok}
+use Rattle.disk_trait.specs.Held.{Has, Leaves}
+use Rattle.disk_trait.specs.Past.{Past, Image, Images, ImagesSince, now, other, content}
 use Rattle.disk_trait.specs.Steps.{Goes}
 use Rattle.disk_trait.proofs.Steps.{settled_has}
 use Rattle.disk_trait.proofs.Told.{goes_back}
@@ -17,24 +19,27 @@ use Rattle.bbs_journal.specs.Other.{Yields}
 use Rattle.bbs_journal.specs.Reading.{bytes_of}
 use Rattle.bbs_journal.specs.Shows.{Shows, Secures}
 use Rattle.bbs_journal.specs.declared.load_fault.LoadFault.{LoadFault}
+use Rattle.bbs_journal.proofs.Accepted.{accepted}
 use Rattle.bbs_journal.proofs.Once.{opens_once}
 use Rattle.bbs_journal.proofs.Recovered.{recovered, ready}
 use Rattle.bbs_model.specs.declared.rows.Rows.{Rows}
 use Rattle.bbs_board.specs.Opening.{rows_in, followed, board_of, IsBoard, IsRefused}
+use Rattle.bbs_board.specs.Kept.{IsFound, Kept}
 use Rattle.bbs_board.specs.View.{Holds}
-use Rattle.bbs_board.proofs.Frames.{damaged_ok, next-followed, broken_followed}
+use Rattle.bbs_board.proofs.Logs.{reached_end}
+use Rattle.bbs_board.proofs.Frames.{next-followed, broken_followed}
 
 -- a board has no defect behind its frames
 pub unbroken : (area : Area) (head : List ℕ) (payloads : List (List ℕ)) (broken : Option ℕ) (rows : Rows) → board_of area head payloads broken ≡ Ok rows → broken ≡ None
 unbroken area head payloads None rows is = refl
 unbroken area head payloads (Some place) rows is =
-    let first = damaged_ok area 23 (rows_in head) (λ start. followed area (Some place) start (23 + length head) payloads) rows is in
+    let first = bind_ok (rows_in area head) (λ start. followed area (Some place) start (23 + length head) payloads) rows is in
     absurd (broken_followed area place first.0 rows (23 + length head) payloads first.2)
 
 -- and has made a transition with each frame
 pub counted : (area : Area) (head : List ℕ) (payloads : List (List ℕ)) (rows : Rows) → board_of area head payloads None ≡ Ok rows → length payloads ≤ rows.next
 counted area head payloads rows is =
-    let first = damaged_ok area 23 (rows_in head) (λ start. followed area None start (23 + length head) payloads) rows is in
+    let first = bind_ok (rows_in area head) (λ start. followed area None start (23 + length head) payloads) rows is in
     let next = next-followed area first.0 rows (23 + length head) payloads first.2 in
     omega (arith, next)
 
@@ -58,11 +63,31 @@ length-heading generation head =
     let size = field_number w32 (length head) in
     omega (arith, length-append mark (number ++ (size ++ head)), length-append number (size ++ head), length-append size head, length-field_number w64 generation, length-field_number w32 (length head))
 
+-- a board that was just loaded is kept
+module _ (base : Rows) (since : ℕ) (q : Past) (since_is : q.clock ≡ since) (loaded : (image : Image) → Images q image → IsBoard base image) where
+  found_now : (image : Image) → ImagesSince q since image → IsFound base [] 0 image
+  found_now image images = record {
+    rows = base;
+    board = loaded image (λ a.
+        let here : images.moment ≡ q.clock = let from = images.from in let to = images.to in omega (arith, from, to, since_is) in
+        subst (λ (m : ℕ). Leaves (q.held m a) (image a)) here (images.leaves a));
+    reached = reached_end base [] 0 (omega arith);
+  }
+
+  kept_now : Kept base [] [] since q
+  kept_now = record {
+    count = refl;
+    rising = omega (arith, since_is);
+    found = found_now;
+    acknowledged = λ place mark by command item marked image images. absurd (cc (item));
+  }
+
 -- what was loaded stands on the disk, whatever a stop leaves
-pub loaded_holds : (t0 t1 : Option Past) (area : Area) (generation : ℕ) (head : List ℕ) (payloads : List (List ℕ)) (broken : Option ℕ) (end : ℕ) (rows : Rows) → Goes t0 t1 Secures
+pub loaded_holds : (t0 t1 : Option Past) (area : Area) (generation : ℕ) (head : List ℕ) (payloads : List (List ℕ)) (broken : Option ℕ) (end : ℕ) (rows : Rows) (since : ℕ) → Goes t0 t1 Secures
+    → ((q : Past) → t1 ≡ Some q → q.clock ≡ since)
     → ((c : Image) → Shows t0 c → IsOpening c area generation head payloads broken end) → end ≡ 23 + length head + bytes_of payloads → board_of area head payloads broken ≡ Ok rows
-    → ForSome t1 (Holds rows area generation end)
-loaded_holds t0 t1 area generation head payloads broken end rows goes found place is q told =
+    → ForSome t1 (Holds rows [] [] since area generation end false)
+loaded_holds t0 t1 area generation head payloads broken end rows since goes timed found place is q told =
     let back = goes_back t0 t1 Secures goes q told in
     let shows : Shows t0 (content q) = subst (λ (t : Option Past). Shows t (content q)) (sym back.1) (λ a. sym (back.2.keeps.same a)) in
     let none : broken ≡ None = unbroken area head payloads broken rows is in
@@ -71,16 +96,38 @@ loaded_holds t0 t1 area generation head payloads broken end rows goes found plac
     let r = recovered (content q) area generation head payloads end (q.possible q.clock area).bytes opening in
     let front : List ℕ = r.gate ∷ heading generation head in
     let there : length front + bytes_of payloads ≡ end = omega (arith, place, length-heading generation head) in
+    let stands : Ready front payloads end (now q area) = subst (λ (n : ℕ). Ready front payloads n (now q area)) there (ready front payloads (now q area) r.area_is (back.2.settled area)) in
+    let beside : Has (Yields r.beside generation) (now q (other area)) = settled_has (Yields r.beside generation) (now q (other area)) (back.2.settled (other area)) r.yields in
+    let rows_are : board_of area head payloads None ≡ Ok rows = subst (λ (b : Option ℕ). board_of area head payloads b ≡ Ok rows) none is in
     record {
       gate = r.gate;
       is_open = r.is_open;
       head = head;
       payloads = payloads;
+      doubt = None;
       goes_with = r.goes_with;
-      ready = subst (λ (n : ℕ). Ready front payloads n (now q area)) there (ready front payloads (now q area) r.area_is (back.2.settled area));
+      waits_is = refl;
+      may_show = λ payload never. absurd (cc (never));
+      stands = stands;
       beside = r.beside;
-      yields = settled_has (Yields r.beside generation) (now q (other area)) (back.2.settled (other area)) r.yields;
-      rows_are = subst (λ (b : Option ℕ). board_of area head payloads b ≡ Ok rows) none is;
+      yields = beside;
+      rows_are = rows_are;
+      kept = kept_now rows since q (timed q told) (λ image leaves. record {
+        area = area;
+        generation = generation;
+        head = head;
+        payloads = payloads;
+        end = _;
+        opening = accepted image area generation head payloads (record {
+          gate = r.gate;
+          is_open = r.is_open;
+          goes_with = r.goes_with;
+          area_is = record { frames = stands.frames; whole = stands.whole; begins = stands.has.leaves (image area) (leaves area) };
+          beside = r.beside;
+          yields = beside.leaves (image (other area)) (leaves (other area));
+        });
+        rows_are = rows_are;
+      });
     }
 
 -- ---- an image is opened in one way

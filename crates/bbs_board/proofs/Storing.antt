@@ -1,147 +1,128 @@
--- What a stop leaves of a board while a command is stored, and after it.
-use Rattle.std.proofs.Common.{◌≡◌, ⊎_elim, inl, inr, ℕ, ◌+◌, Bool, true, false, List, [], ◌∷◌, ◌++◌, length, Option, Some, None, Ok, refl, sym, ap, subst, ◌∙◌, arith}
+-- What a stop leaves of a board while a command is stored where nothing waits, and after it.
+use Rattle.std.proofs.Common.{◌≡◌, ⊎_elim, inl, inr, ℕ, Bool, false, List, [], ◌∷◌, ◌++◌, Option, Some, None, Ok, refl, subst, arith}
+use Rattle.std.specs.Prelude.{is_some}
 use Rattle.std.specs.Option.{ForSome}
-use Rattle.disk_trait.specs.Held.{Leaves, Has}
+use Rattle.disk_trait.specs.Held.{Held, Leaves}
 use Rattle.disk_trait.specs.Past.{Past, Image, now, other, Images}
 use Rattle.disk_trait.specs.Steps.{Goes}
-use Rattle.disk_trait.proofs.Told.{goes_back, goes_same, goes_weaker}
+use Rattle.disk_trait.specs.Runs.{Extends}
+use Rattle.disk_trait.proofs.Steps.{extends_same}
+use Rattle.disk_trait.proofs.Told.{goes_same, goes_weaker}
 use Rattle.disk_trait.specs.declared.area.Area.{Area}
 use Rattle.bbs_codec.specs.Command.{spelled, FitsCommand}
-use Rattle.bbs_codec.proofs.Commands.{command_again}
-use Rattle.bbs_journal.specs.Areas.{Ready}
-use Rattle.bbs_journal.specs.Calls.{Appended, Appends, Adds}
+use Rattle.bbs_journal.specs.Areas.{Ready, Stands}
+use Rattle.bbs_journal.specs.Calls.{Appends, Adds}
 use Rattle.bbs_journal.specs.Grammar.{heading}
-use Rattle.bbs_journal.specs.Other.{Yields}
 use Rattle.bbs_journal.specs.Stops.{OpensAs}
 use Rattle.bbs_journal.proofs.Accepted.{accepted}
 use Rattle.bbs_journal.proofs.Stops.{stops_opened, acknowledged_opened}
+use Rattle.bbs_model.specs.Replay.{replay_log}
 use Rattle.bbs_model.specs.Step.{IsLegal, rows_after}
 use Rattle.bbs_model.specs.declared.command.Command.{Command}
+use Rattle.bbs_model.specs.declared.item.Item.{Item}
 use Rattle.bbs_model.specs.declared.rows.Rows.{Rows}
-use Rattle.bbs_board.specs.Opening.{rows_in, after_payload, or_damaged, followed, board_of, IsBoard}
+use Rattle.bbs_model.specs.declared.verdict.Verdict.TheVariants as verdict
+use Rattle.bbs_board.specs.Calls.{Passes}
+use Rattle.bbs_board.specs.Opening.{board_of, IsBoard}
 use Rattle.bbs_board.specs.Laws.{StopsLeaveBoards}
 use Rattle.bbs_board.specs.Stops.{Stores}
 use Rattle.bbs_board.specs.View.{Holds}
-use Rattle.bbs_board.proofs.Frames.{damaged_ok, followed_more, legal_followed}
+use Rattle.bbs_board.proofs.Frames.{command_more}
 
--- one payload more on a board
-pub board_more : (area : Area) (head : List ℕ) (payloads : List (List ℕ)) (payload : List ℕ) (rows after : Rows) → board_of area head payloads None ≡ Ok rows
-    → after_payload rows payload ≡ Some after → board_of area head (payloads ++ payload ∷ []) None ≡ Ok after
-board_more area head payloads payload rows after is more =
-    let first = damaged_ok area 23 (rows_in head) (λ start. followed area None start (23 + length head) payloads) rows is in
-    ap (λ (o : Option Rows). or_damaged area 23 o (λ start. followed area None start (23 + length head) (payloads ++ payload ∷ []))) first.1
-    ∙ followed_more area first.0 rows after (23 + length head) payloads payload first.2 more
+-- where nothing waits nothing is in doubt
+ready_where : (waits : Bool) (doubt : Option (List ℕ)) (head : List ℕ) (payloads : List (List ℕ)) (end : ℕ) (held : Held) → waits ≡ false → waits ≡ is_some doubt → Stands head payloads doubt end held
+    → Ready head payloads end held
+ready_where waits None head payloads end held calm is stands = stands
+ready_where waits (Some payload) head payloads end held calm is stands = absurd (cc)
 
--- what a stop leaves of a board that stands is opened as its head and payloads
-pub holds_images : (rows : Rows) (area : Area) (generation end : ℕ) (p : Past) (h : Holds rows area generation end p) (image : Image) → Images p image → OpensAs image area generation h.head h.payloads
-holds_images rows area generation end p h image leaves =
-    accepted image area generation h.head h.payloads (record {
-      gate = h.gate;
-      is_open = h.is_open;
-      goes_with = h.goes_with;
-      area_is = record { frames = h.ready.frames; whole = h.ready.whole; begins = h.ready.has.leaves (image area) (leaves area) };
-      beside = h.beside;
-      yields = h.yields.leaves (image (other area)) (leaves (other area));
-    })
-
--- a legal command is a payload more
-command_more : (area : Area) (head : List ℕ) (payloads : List (List ℕ)) (c : Command) (rows : Rows) → FitsCommand c → IsLegal rows c → board_of area head payloads None ≡ Ok rows
-    → board_of area head (payloads ++ spelled c ∷ []) None ≡ Ok (rows_after rows c)
-command_more area head payloads c rows fits legal is =
-    board_more area head payloads (spelled c) rows (rows_after rows c) is (legal_followed rows (spelled c) c (command_again c fits) legal)
-
-module _ (rows : Rows) (c : Command) (fits : FitsCommand c) (legal : IsLegal rows c) (area : Area) (generation end : ℕ) (p q : Past) (h : Holds rows area generation end p) where
+module _ (base : Rows) (log : List Item) (marks : List ℕ) (since : ℕ) (area : Area) (generation end : ℕ) (p : Past) (h : Holds base log marks since area generation end false p) where
   abbrev front : List ℕ
   front = h.gate ∷ heading generation h.head
 
-  module _ (ok waits : Bool) (appends : Appends area ok waits front h.payloads (spelled c) end p q) where
-    appended : ok ≡ true → Appends area true waits front h.payloads (spelled c) end p q
-    appended is = subst (λ (b : Bool). Appends area b waits front h.payloads (spelled c) end p q) is appends
+  ready : Ready front h.payloads end (now p area)
+  ready = ready_where false h.doubt front h.payloads end (now p area) refl h.waits_is h.stands
 
-    pub stores : Stores ok rows c p q
-    stores = record {
+  -- what a stop leaves of a board that stands is opened as its head and payloads
+  holds_images : (image : Image) → Images p image → OpensAs image area generation h.head h.payloads
+  holds_images image leaves =
+      accepted image area generation h.head h.payloads (record {
+        gate = h.gate;
+        is_open = h.is_open;
+        goes_with = h.goes_with;
+        area_is = record { frames = ready.frames; whole = ready.whole; begins = ready.has.leaves (image area) (leaves area) };
+        beside = h.beside;
+        yields = h.yields.leaves (image (other area)) (leaves (other area));
+      })
+
+  module _ (c : Command) (fits : FitsCommand c) (legal : IsLegal (replay_log base log) c) where
+    after_is : board_of area h.head (h.payloads ++ spelled c ∷ []) None ≡ Ok (rows_after (replay_log base log) c)
+    after_is = command_more area h.head h.payloads c (replay_log base log) fits legal h.rows_are
+
+    stores : (q : Past) (ok after : Bool) → Appends area ok after front h.payloads (spelled c) end p q → Stores ok (replay_log base log) c p q
+    stores q ok after appends = record {
       extends = appends.runs.extends;
       area = area;
       generation = generation;
       head = h.head;
       payloads = h.payloads;
       before = h.rows_are;
-      after = command_more area h.head h.payloads c rows fits legal h.rows_are;
-      each = λ image since. stops_opened p q area h.gate generation h.head h.payloads (spelled c) h.beside ok waits end h.is_open h.goes_with h.yields appends image since;
-      done = λ is image leaves. acknowledged_opened p q area h.gate generation h.head h.payloads (spelled c) h.beside waits end h.is_open h.goes_with h.yields (appended is) image leaves;
+      after = after_is;
+      each = λ image since. stops_opened p q area h.gate generation h.head h.payloads (spelled c) h.beside ok after end h.is_open h.goes_with h.yields appends image since;
+      done = λ is image leaves.
+          acknowledged_opened p q area h.gate generation h.head h.payloads (spelled c) h.beside after end h.is_open h.goes_with h.yields
+          (subst (λ (b : Bool). Appends area b after front h.payloads (spelled c) end p q) is appends) image leaves;
     }
 
-    still : Has (Yields h.beside generation) (now q (other area))
-    still = subst (Has (Yields h.beside generation)) (sym (appends.runs.there q.clock appends.runs.extends.later (omega arith))) h.yields
-
-    pub holds_after : ok ≡ true → Holds (rows_after rows c) area generation (end + 3 + length (spelled c)) q
-    holds_after is = record {
-      gate = h.gate;
-      is_open = h.is_open;
-      head = h.head;
-      payloads = h.payloads ++ spelled c ∷ [];
-      goes_with = h.goes_with;
-      ready = (appended is).leaves;
-      beside = h.beside;
-      yields = still;
-      rows_are = command_more area h.head h.payloads c rows fits legal h.rows_are;
-    }
-
-    refused : ok ≡ false → waits ≡ false → Ready front h.payloads end (now q area)
-    refused failed calm =
-        subst (λ (b : Bool). Appended false b front h.payloads (spelled c) end (now q area)) calm
-        (subst (λ (b : Bool). Appended b waits front h.payloads (spelled c) end (now q area)) failed appends.leaves)
-
-    pub holds_still : ok ≡ false → waits ≡ false → Holds rows area generation end q
-    holds_still failed calm = record {
-      gate = h.gate;
-      is_open = h.is_open;
-      head = h.head;
-      payloads = h.payloads;
-      goes_with = h.goes_with;
-      ready = refused failed calm;
-      beside = h.beside;
-      yields = still;
-      rows_are = h.rows_are;
-    }
-
--- where nothing is done, nothing changes
-pub stores_nothing : (told : Option Past) (rows : Rows) (c : Command) → FitsCommand c → IsLegal rows c → (area : Area) (generation end : ℕ) → ForSome told (Holds rows area generation end)
-    → Goes told told (Stores false rows c)
-stores_nothing told rows c fits legal area generation end holds =
-    goes_same told (Stores false rows c) (λ p is. let h = holds p is in record {
+    stores_none : Stores false (replay_log base log) c p p
+    stores_none = record {
       extends = record { later = omega arith; before = λ moment le. refl };
       area = area;
       generation = generation;
       head = h.head;
       payloads = h.payloads;
       before = h.rows_are;
-      after = command_more area h.head h.payloads c rows fits legal h.rows_are;
+      after = after_is;
       each = λ image since.
-          let here : since.moment ≡ p.clock = omega (arith, since.from, since.to) in
-          inl (holds_images rows area generation end p h image (λ a. subst (λ (m : ℕ). Leaves (p.held m a) (image a)) here (since.leaves a)));
-      done = λ never. absurd (cc);
-    })
+          let here : since.moment ≡ p.clock = let from = since.from in let to = since.to in omega (arith, from, to) in
+          inl (holds_images image (λ a. subst (λ (m : ℕ). Leaves (p.held m a) (image a)) here (since.leaves a)));
+      done = λ never. absurd (cc (never));
+    }
 
 -- ---- the same, where the disk may tell nothing
 
-module _ (t0 t1 : Option Past) (rows : Rows) (c : Command) (fits : FitsCommand c) (legal : IsLegal rows c) (area : Area) (generation end : ℕ) (holds : ForSome t0 (Holds rows area generation end))
-    (ok waits : Bool) (goes : Goes t0 t1 (Adds area ok waits (spelled c) end)) where
-  pub stores_by : Goes t0 t1 (Stores ok rows c)
-  stores_by = goes_weaker t0 t1 (Adds area ok waits (spelled c) end) (Stores ok rows c)
-      (λ p q i j adds. let h = holds p i in stores rows c fits legal area generation end p q h ok waits (adds (h.gate ∷ heading generation h.head) h.payloads h.ready)) goes
+module _ (told : Option Past) (base : Rows) (log : List Item) (marks : List ℕ) (since : ℕ) (area : Area) (generation end : ℕ) (waits : Bool) (holds : ForSome told (Holds base log marks since area generation end waits)) (calm : waits ≡ false)
+    (c : Command) (fits : FitsCommand c) (legal : IsLegal (replay_log base log) c) where
+  calmly : (p : Past) → told ≡ Some p → Holds base log marks since area generation end false p
+  calmly p is = subst (λ (b : Bool). Holds base log marks since area generation end b p) calm (holds p is)
 
-  pub holds_then : ok ≡ true → ForSome t1 (Holds (rows_after rows c) area generation (end + 3 + length (spelled c)))
-  holds_then is q j =
-      let back = goes_back t0 t1 (Adds area ok waits (spelled c) end) goes q j in
-      let h = holds back.0 back.1 in
-      holds_after rows c fits legal area generation end back.0 q h ok waits (back.2 (h.gate ∷ heading generation h.head) h.payloads h.ready) is
+  -- where nothing is done, nothing changes
+  pub stores_nothing : Goes told told (Stores false (replay_log base log) c)
+  stores_nothing = goes_same told (Stores false (replay_log base log) c) (λ p is. stores_none base log marks since area generation end p (calmly p is) c fits legal)
 
-  pub holds_back : ok ≡ false → waits ≡ false → ForSome t1 (Holds rows area generation end)
-  holds_back failed calm q j =
-      let back = goes_back t0 t1 (Adds area ok waits (spelled c) end) goes q j in
-      let h = holds back.0 back.1 in
-      holds_still rows c fits legal area generation end back.0 q h ok waits (back.2 (h.gate ∷ heading generation h.head) h.payloads h.ready) failed calm
+  pub stores_by : (later : Option Past) (ok after : Bool) → Goes told later (Adds area ok after (spelled c) end) → Goes told later (Stores ok (replay_log base log) c)
+  stores_by later ok after goes =
+      goes_weaker told later (Adds area ok after (spelled c) end) (Stores ok (replay_log base log) c)
+      (λ p q i j adds.
+      let h = calmly p i in
+      stores base log marks since area generation end p h c fits legal q ok after
+      (adds (h.gate ∷ heading generation h.head) h.payloads (ready base log marks since area generation end p h))) goes
+
+-- time goes on, and where nothing waits the rest is known
+passes_both : (t0 t1 : Option Past) (waits ok : Bool) (rows : Rows) (c : Command) → Goes t0 t1 Extends → (waits ≡ false → Goes t0 t1 (Stores ok rows c)) → Goes t0 t1 (Passes waits verdict.Ok ok rows c)
+passes_both None None waits ok rows c extends stores = tt
+passes_both None (Some q) waits ok rows c extends stores = extends
+passes_both (Some p) None waits ok rows c extends stores = extends
+passes_both (Some p) (Some q) waits ok rows c extends stores = record { extends = extends; stores = stores }
+
+module _ (told : Option Past) (base : Rows) (log : List Item) (marks : List ℕ) (since : ℕ) (area : Area) (generation end : ℕ) (waits : Bool) (holds : ForSome told (Holds base log marks since area generation end waits))
+    (c : Command) (fits : FitsCommand c) (legal : IsLegal (replay_log base log) c) where
+  pub passes_nothing : Goes told told (Passes waits verdict.Ok false (replay_log base log) c)
+  passes_nothing = passes_both told told waits false (replay_log base log) c (goes_same told Extends (λ p is. extends_same p))
+      (λ calm. stores_nothing told base log marks since area generation end waits holds calm c fits legal)
+
+  pub passes_by : (later : Option Past) (ok after : Bool) → Goes told later Extends → (waits ≡ false → Goes told later (Adds area ok after (spelled c) end)) → Goes told later (Passes waits verdict.Ok ok (replay_log base log) c)
+  passes_by later ok after extends adds = passes_both told later waits ok (replay_log base log) c extends
+      (λ calm. stores_by told base log marks since area generation end waits holds calm c fits legal later ok after (adds calm))
 
 -- ---- and every stop leaves a board
 

@@ -1,4 +1,7 @@
 pub mod Opening
+pub mod Kept
+pub mod Puts
 pub mod Stops
+pub mod Calls
 pub mod View
 pub mod Laws

@@ -1,9 +1,10 @@
 -- What a board is opened as: the rows of its head, and then its commands, one after another.
-use Rattle.std.specs.Prelude.{◌≡◌, ◌⊎◌, ℕ, ◌+◌, nat_eq, List, [], ◌∷◌, length, replicate, Option, Some, None, Result, Ok, Err, if◌then◌else◌}
-use Rattle.std.specs.Cmp.Lexicographic.{pointwise}
+use Rattle.std.specs.Prelude.{◌≡◌, ◌⊎◌, ℕ, ◌+◌, List, [], ◌∷◌, length, Option, Some, None, Result, Ok, Err}
 use Rattle.disk_trait.specs.Past.{Image}
 use Rattle.disk_trait.specs.declared.area.Area.{Area}
+use Rattle.wire_fields.specs.Reading.{◌>>=◌}
 use Rattle.bbs_codec.specs.Command.{reading}
+use Rattle.bbs_codec.specs.Head.{head_reading, fault_place}
 use Rattle.bbs_codec.specs.declared.fault.CodecFault.{CodecFault}
 use Rattle.bbs_index.specs.Index.{Indexed}
 use Rattle.bbs_journal.specs.Opening.{IsOpening, headed}
@@ -11,17 +12,17 @@ use Rattle.bbs_journal.specs.declared.load_fault.LoadFault.{LoadFault}
 use Rattle.bbs_journal.specs.declared.load_fault.LoadFault.TheVariants.{Disk, NotABoard, Damaged, OutOfMemory}
 use Rattle.bbs_model.specs.Runs.{if_legal}
 use Rattle.bbs_model.specs.Step.{verdict_of, rows_after}
-use Rattle.bbs_model.specs.Tables.{no_rows}
 use Rattle.bbs_model.specs.declared.command.Command.{Command}
 use Rattle.bbs_model.specs.declared.rows.Rows.{Rows}
 
--- the head of a board without rows: the number of transitions and four counts, all 0
-abbrev pub empty_head : List ℕ
-empty_head = replicate 24 0
+-- what was read of the head of an area, which stands at 23: its rows, or its defect at its place there
+abbrev pub in_area : Area → Result Rows CodecFault → Result Rows LoadFault
+in_area area (Ok rows) = Ok rows
+in_area area (Err fault) = Err (Damaged area (23 + fault_place fault))
 
--- the rows of a head: so far the head without rows alone is known
-abbrev pub rows_in : List ℕ → Option Rows
-rows_in head = if pointwise nat_eq head empty_head then Some no_rows else None
+-- the rows of the head of an area, or its first defect
+abbrev pub rows_in : Area → List ℕ → Result Rows LoadFault
+rows_in area head = in_area area (head_reading head)
 
 -- the rows after a command, where it is legal
 abbrev pub after_legal : Rows → Command → Option Rows
@@ -71,10 +72,10 @@ abbrev pub Gives : Result Indexed LoadFault → Result Rows LoadFault → Type 0
 Gives (Ok index) told = told ≡ Ok index.rows
 Gives (Err fault) told = Blames fault told
 
--- the rows of a head and of the frames behind it, or the defect that stands first
+-- the rows of a head and then of the frames behind it, or the defect that stands first
 abbrev pub board_of : Area → List ℕ → List (List ℕ) → Option ℕ → Result Rows LoadFault
 board_of area head payloads broken =
-    or_damaged area 23 (rows_in head) (λ rows. followed area broken rows (23 + length head) payloads)
+    rows_in area head >>= λ rows. followed area broken rows (23 + length head) payloads
 
 -- the image is a board with these rows
 pub record IsBoard (rows : Rows) (c : Image) : Type 0 where

@@ -1,5 +1,5 @@
 -- What a stop leaves while a command is stored, and after it.
-use Rattle.std.specs.Prelude.{◌≡◌, ℕ, Bool, true, false, List, [], ◌∷◌, ◌++◌, None, Result, Ok, Err, if◌then◌else◌}
+use Rattle.std.specs.Prelude.{◌≡◌, Bool, true, ℕ, List, [], ◌∷◌, ◌++◌, None, Ok}
 use Rattle.disk_trait.specs.Past.{Past, Image, Images, ImagesSince}
 use Rattle.disk_trait.specs.Runs.{Extends}
 use Rattle.disk_trait.specs.declared.area.Area.{Area}
@@ -9,8 +9,6 @@ use Rattle.bbs_model.specs.Step.{rows_after}
 use Rattle.bbs_model.specs.declared.command.Command.{Command}
 use Rattle.bbs_model.specs.declared.rows.Rows.{Rows}
 use Rattle.bbs_board.specs.Opening.{board_of}
-use Rattle.bbs_board.specs.declared.board.StoreFault.{StoreFault}
-use Rattle.bbs_board.specs.declared.board.StoreFault.TheVariants.{Disk, OutOfMemory}
 
 -- a command was stored at these rows, or storing it failed: all the while a stop leaves the history that
 -- leads to the rows, or that and the command, and once it is stored only the second
@@ -24,13 +22,3 @@ pub record Stores (stored : Bool) (rows : Rows) (command : Command) (p q : Past)
   pub after : board_of area head (payloads ++ spelled command ∷ []) None ≡ Ok (rows_after rows command)
   pub each : (image : Image) → ImagesSince q p.clock image → OpensEither image area generation head payloads (spelled command)
   pub done : stored ≡ true → (image : Image) → Images q image → OpensAs image area generation head (payloads ++ spelled command ∷ [])
-
--- the disk failed while a command was stored
-abbrev pub is_disk_fault : Result (Unit {0}) StoreFault → Bool
-is_disk_fault (Ok done) = false
-is_disk_fault (Err Disk) = true
-is_disk_fault (Err OutOfMemory) = false
-
--- the first rows where it was stored, and else the second
-abbrev pub rows_if : Bool → Rows → Rows → Rows
-rows_if stored after before = if stored then after else before

@@ -1,42 +1,80 @@
 -- A board as its callers see it, and what it rests on.
-use Rattle.std.specs.Prelude.{◌≡◌, ℕ, ◌<◌, ◌≤◌, Bool, false, Option, None, List, ◌∷◌, Ok}
+use Rattle.std.specs.Prelude.{◌≡◌, ℕ, ◌<◌, ◌≤◌, Bool, false, is_some, Option, Some, None, List, [], ◌∷◌, Ok}
+use Rattle.std.specs.List.{slice_get}
 use Rattle.std.specs.Option.{ForSome}
 use Rattle.disk_trait.specs.Held.{Has}
 use Rattle.disk_trait.specs.Past.{Past, now, other}
 use Rattle.disk_trait.specs.declared.area.Area.{Area}
-use Rattle.bbs_journal.specs.Areas.{Ready}
+use Rattle.bbs_codec.specs.Command.{spelled, FitsCommand}
+use Rattle.bbs_journal.specs.Areas.{Stands}
 use Rattle.bbs_journal.specs.Grammar.{heading, GoesWith}
 use Rattle.bbs_journal.specs.Other.{Yields}
 use Rattle.bbs_journal.specs.View.{View as JournalView}
 use Rattle.bbs_journal.specs.declared.other_gate.OtherGate.{OtherGate}
+use Rattle.bbs_model.specs.Replay.{replay_log, rows_at, IsLawful}
 use Rattle.bbs_model.specs.Valid.{IsValid}
+use Rattle.bbs_model.specs.declared.command.Command.{Command}
+use Rattle.bbs_model.specs.declared.item.Item.{Item}
+use Rattle.bbs_model.specs.declared.item.Item.TheVariants.{Done, Doubt}
 use Rattle.bbs_model.specs.declared.rows.Rows.{Rows}
+use Rattle.bbs_board.specs.Kept.{Kept}
 use Rattle.bbs_board.specs.Opening.{board_of}
 
--- its disk, its rows, and whether a store failed, so that its last gate may have to be mended
+-- its disk, the rows that it was opened with, the items since then with the disk's clock at the end of
+-- the call of each, the clock at the end of its load, and whether a gate has to be mended
 pub record View (D : Type 0) : Type 0 where
   pub disk : D
-  pub rows : Rows
+  pub base : Rows
+  pub log : List Item
+  pub marks : List ℕ
+  pub since : ℕ
   pub waits : Bool
 
--- whatever a stop leaves, the area holds a head and payloads that leave these rows, with a closed gate at
--- this place, and the other area gives way to it
-pub record Holds (rows : Rows) (area : Area) (generation end : ℕ) (p : Past) : Type 0 where
+-- it has done nothing since its load, and nothing waits
+pub record IsFresh {D : Type 0} (board : View D) : Type 0 where
+  pub log : board.log ≡ []
+  pub marks : board.marks ≡ []
+  pub calm : board.waits ≡ false
+
+-- the rows of a board: those that its log leaves
+abbrev pub rows_of : {D : Type 0} → View D → Rows
+rows_of board = replay_log board.base board.log
+
+-- the payload is that of a doubt behind which nothing was done, so that it may still show
+pub record MayShow (base : Rows) (log : List Item) (payload : List ℕ) : Type 0 where
+  pub place : ℕ
+  pub by : ℕ
+  pub command : Command
+  pub item : slice_get log place ≡ Some (Doubt by command)
+  pub rows_are : rows_at base log place ≡ replay_log base log
+  pub last : (earlier caller : ℕ) (c : Command) → slice_get log earlier ≡ Some (Done caller c) → earlier < place
+  pub payload_is : payload ≡ spelled command
+  pub fits : FitsCommand command
+
+-- whatever a stop leaves, the area holds a head and payloads that leave the board's rows, and perhaps a
+-- doubt, the other area gives way to it, and the board is kept
+pub record Holds (base : Rows) (log : List Item) (marks : List ℕ) (since : ℕ) (area : Area) (generation end : ℕ) (waits : Bool) (p : Past) : Type 0 where
   pub gate : ℕ
   pub is_open : 0 < gate
   pub head : List ℕ
   pub payloads : List (List ℕ)
+  pub doubt : Option (List ℕ)
   pub goes_with : GoesWith generation head
-  pub ready : Ready (gate ∷ heading generation head) payloads end (now p area)
+  pub waits_is : waits ≡ is_some doubt
+  pub may_show : (payload : List ℕ) → doubt ≡ Some payload → MayShow base log payload
+  pub stands : Stands (gate ∷ heading generation head) payloads doubt end (now p area)
   pub beside : OtherGate
   pub yields : Has (Yields beside generation) (now p (other area))
-  pub rows_are : board_of area head payloads None ≡ Ok rows
+  pub rows_are : board_of area head payloads None ≡ Ok (replay_log base log)
+  pub kept : Kept base log marks since p
 
--- so stands each board: its rows are valid, its journal has no defect and no more frames than the board
--- has made transitions, and unless something waits to be mended the disk holds these rows
-pub record IsSound {D : Type 0} (told : D → Option Past) (rows : Rows) (journal : JournalView D) : Type 0 where
+-- so stands each board: it was opened with valid rows, its log is lawful and leads to its rows, which are
+-- valid, and its journal has no defect and no more frames than the board has made transitions
+pub record IsSound {D : Type 0} (told : D → Option Past) (rows base : Rows) (log : List Item) (marks : List ℕ) (since : ℕ) (journal : JournalView D) : Type 0 where
+  pub opened : IsValid base
   pub valid : IsValid rows
+  pub lawful : IsLawful base log
+  pub rows_are : rows ≡ replay_log base log
   pub whole : journal.broken ≡ false
   pub counted : journal.frames ≤ rows.next
-  pub holds : journal.waits ≡ false →
-      ForSome (told journal.disk) (Holds rows journal.area journal.generation journal.end)
+  pub holds : ForSome (told journal.disk) (Holds base log marks since journal.area journal.generation journal.end journal.waits)

@@ -1,24 +1,40 @@
-//! A board over a disk: its rows are those that recovery gives of whatever a stop may leave.
-ghost use Rattle.std.specs.Prelude.{◌≡◌, ◌≤◌, true, false, is_ok, IsErrOf};
+//! A board over a disk, for one caller: each transition is on the disk before it is acknowledged, and
+//! whatever a stop leaves is opened as the board after a prefix of its log.
+ghost use Rattle.std.specs.Prelude.{◌≡◌, ◌≤◌, length, IfOk};
+ghost use Rattle.std.specs.Option.{ForSome};
 ghost use Rattle.byte_ports.specs.Cause.{HasCause};
 ghost use Rattle.disk_trait.specs.Steps.{Goes};
-ghost use Rattle.bbs_model.specs.Step.{verdict_of, IsLegal, rows_after};
-ghost use Rattle.bbs_board.specs.Stops.{Stores, rows_if, is_disk_fault};
+ghost use Rattle.bbs_model.specs.Replay.{IsLawful};
+ghost use Rattle.bbs_model.specs.Step.{verdict_of, IsLegal};
+ghost use Rattle.bbs_model.specs.Valid.{IsValid};
+ghost use Rattle.bbs_board.specs.Calls.{Ends, added, is_done, is_disk_fault, Grows, Passes};
+ghost use Rattle.bbs_board.specs.Kept.{Kept};
+ghost use Rattle.bbs_board.specs.View.{rows_of};
 
+use crate::putting::put;
+use crate::room::make_room;
 use bbs_codec::write_command;
 use bbs_index::Index;
-use bbs_journal::{DiskFault, Journal};
-use bbs_model::{Command, RowStore, Verdict};
+use bbs_journal::Journal;
+use bbs_model::{CallFault, Command, Item, Reply, RowStore, Rows, Verdict};
 use bbs_transitions::{apply, decide};
 use diego_names::OutOfMemory;
 use disk_trait::Disk;
+use std::alloc::Global;
 use std::marker::Model;
 
-/// The rows of a board, and the journal that keeps them.
+/// The rows of a board under their index, and the journal that keeps them.
 #[derive(Drop)]
 pub struct Board<D: Disk> {
     pub(crate) journal: Journal<D>,
     pub(crate) index: Index,
+    // The rows that the disk held when it was loaded.
+    pub(crate) base: Rows,
+    pub(crate) log: Vec<Item>,
+    // The disk's clock at the end of the call of each item.
+    pub(crate) marks: Vec<u64>,
+    // The disk's clock at the end of the load.
+    pub(crate) since: u64,
 }
 
 impl<D: Disk> Model for Board<D> {
@@ -28,54 +44,114 @@ impl<D: Disk> Model for Board<D> {
 
     ghost view = { λ b. record {
       disk = b.journal.disk;
-      rows = b.index.rows;
+      base = b.base;
+      log = b.log.items;
+      marks = b.marks.items;
+      since = b.since;
       waits = b.journal.waits;
     } };
 
-    ghost invariant = { λ b. IsSound D.told b.index.rows b.journal };
+    ghost invariant = { λ b. IsSound D.told b.index.rows b.base b.log.items b.marks.items b.since
+        b.journal };
 }
 
-/// Why a command was not stored.
-#[derive(Clone, Copy, Debug, PartialEq, Eq)]
-pub enum StoreFault {
-    /// A device call failed. The transition isn't acknowledged, and may show after a stop.
-    Disk,
-    /// Nothing was done.
-    OutOfMemory,
-}
-
-impl From<DiskFault> for StoreFault {
-    ghost use Rattle.bbs_board.specs.declared.board.StoreFault.TheVariants as faults;
-
-    ghost from_gives = { λ _ e. e ≡ faults.Disk };
-
-    fn from(_: DiskFault) -> StoreFault {
-        StoreFault::Disk
-    }
-}
-
-impl From<OutOfMemory> for StoreFault {
-    ghost use Rattle.bbs_board.specs.declared.board.StoreFault.TheVariants as faults;
-
-    ghost from_gives = { λ _ e. e ≡ faults.OutOfMemory };
-
-    fn from(_: OutOfMemory) -> StoreFault {
-        StoreFault::OutOfMemory
-    }
+/// What is left of a board that was closed.
+pub struct Closed<D> {
+    pub disk: D,
+    /// What the board did, oldest first.
+    pub log: Vec<Item>,
+    /// For each item the disk's clock at the end of its call.
+    pub marks: Vec<u64>,
 }
 
 impl<D: Disk> Board<D> {
+    /// Makes a legal command a transition, by the four device calls of an append, and two more where an
+    /// earlier fault left a gate to be mended.
+    fn transition(&mut self, by: u32, command: &Command) -> Result<Reply, CallFault>
+        requires { IsLegal (rows_of self.old) command.now }
+        ensures ends { Ends Verdict.Ok (length self.old.log) (rows_of self.old).next result }
+        ensures grows { Grows (is_done result) (added result by command.entry.now)
+            (D.moment self.new.disk) self.old self.new }
+        ensures does { Goes (D.told self.old.disk) (D.told self.new.disk)
+            (Passes self.old.waits Verdict.Ok (is_done result) (rows_of self.old) command.entry.now) }
+        ensures cause { HasCause (is_disk_fault result)
+            (D.fault_count self.old.disk) (D.fault_count self.new.disk) }
+    {
+        let place = self.log.len() as u64;
+        let stamp = self.index.next();
+        let mut payload = [0u8; 512];
+        let len = write_command(&mut payload, command);
+        if make_room(&mut self.index, &mut self.log, &mut self.marks).is_err() {
+            return Err(CallFault::OutOfMemory);
+        }
+        let stored = put(&mut self.journal, &payload[..len]);
+        let mark = self.journal.clock();
+        if stored.is_err() {
+            self.log.push_reserved(Item::Doubt(by, *command));
+            self.marks.push_reserved(mark);
+            return Err(CallFault::Disk { place });
+        }
+        let _events = apply(&mut self.index, command);
+        self.log.push_reserved(Item::Done(by, *command));
+        self.marks.push_reserved(mark);
+        Ok(Reply::Ok { place, stamp })
+    }
+
+    /// Does a command for the caller of this number. A refusal and a Same touch no device and take no
+    /// memory. A legal command has all its memory before the first device call; where one of these
+    /// fails the rows stay, and the command is a doubt, which a stop may bring back until the next
+    /// transition is acknowledged.
+    pub fn call(&mut self, by: u32, command: Command) -> Result<Reply, CallFault>
+        ensures ends { Ends (verdict_of (rows_of self.old) command) (length self.old.log)
+            (rows_of self.old).next result }
+        ensures grows { Grows (is_done result) (added result by command)
+            (D.moment self.new.disk) self.old self.new }
+        ensures does { Goes (D.told self.old.disk) (D.told self.new.disk)
+            (Passes self.old.waits (verdict_of (rows_of self.old) command) (is_done result)
+            (rows_of self.old) command) }
+        ensures cause { HasCause (is_disk_fault result)
+            (D.fault_count self.old.disk) (D.fault_count self.new.disk) }
+    {
+        let place = self.log.len() as u64;
+        match decide(&self.index, &command) {
+            Verdict::Ok => self.transition(by, &command),
+            Verdict::Same => Ok(Reply::Same { place }),
+            Verdict::Refused(why) => Ok(Reply::Refused { why, place }),
+        }
+    }
+
     /// What the step of a command comes to, by a constant number of look-ups. It touches no device and
     /// takes no memory.
     pub fn verdict(&self, command: &Command) -> Verdict
-        ensures { result ≡ verdict_of self.now.rows command.entry.now }
+        ensures { result ≡ verdict_of (rows_of self.now) command.entry.now }
     {
         decide(&self.index, command)
     }
 
+    /// The rows. They are copied, in the time and the memory of all of them.
+    pub fn rows(&self, alloc: Global) -> Result<Rows, OutOfMemory>
+        ensures { IfOk result (λ rows. rows ≡ rows_of self.now) }
+    {
+        self.index.rows(alloc)
+    }
+
+    /// What the board did since its load, oldest first.
+    pub fn log(&self) -> &[Item]
+        ensures { result.now ≡ self.now.log }
+    {
+        &self.log
+    }
+
+    /// For each item of the log the disk's clock at the end of its call.
+    pub fn marks(&self) -> &[u64]
+        ensures { result.now ≡ self.now.marks }
+    {
+        &self.marks
+    }
+
     /// The number of transitions in the board's life.
     pub fn next(&self) -> u64
-        ensures value { result ≡ self.now.rows.next }
+        ensures value { result ≡ (rows_of self.now).next }
         ensures most { result ≤ 1000000 }
     {
         self.index.next()
@@ -88,33 +164,25 @@ impl<D: Disk> Board<D> {
         self.journal.clock()
     }
 
-    /// Stores a legal command and does it, by the four device calls of an append. All memory is had
-    /// before the first of them. After a fault of the disk nothing more may be stored.
-    pub fn store(&mut self, command: &Command) -> Result<(), StoreFault>
-        requires legal { IsLegal self.old.rows command.now }
-        requires calm { self.old.waits ≡ false }
-        ensures rows { self.new.rows ≡
-            rows_if (is_ok result) (rows_after self.old.rows command.entry.now) self.old.rows }
-        ensures does { Goes (D.told self.old.disk) (D.told self.new.disk)
-            (Stores (is_ok result) self.old.rows command.entry.now) }
-        ensures calm { is_ok result ≡ true → self.new.waits ≡ false }
-        ensures starved { IsErrOf result StoreFault.OutOfMemory → self.new.disk ≡ self.old.disk }
-        ensures cause { HasCause (is_disk_fault result)
-            (D.fault_count self.old.disk) (D.fault_count self.new.disk) }
+    /// Gives the disk back, with what the board did on it.
+    pub fn close(self) -> Closed<D>
+        ensures fields { (result.disk ≡ self.disk) × (result.log.items ≡ self.log)
+            × (result.marks.items ≡ self.marks) }
+        ensures lawful { IsValid self.base × IsLawful self.base self.log }
+        ensures kept { ForSome (D.told self.disk) (Kept self.base self.log self.marks self.since) }
     {
-        let mut payload = [0u8; 512];
-        let len = write_command(&mut payload, command);
-        self.index.reserve(2)?;
-        self.journal.append(&payload[..len])?;
-        let _events = apply(&mut self.index, command);
-        Ok(())
-    }
-
-    /// The disk that the board stood on.
-    pub fn into_disk(self) -> D
-        ensures { result ≡ self.disk }
-    {
-        let Board { journal, index: _ } = self;
-        journal.into_disk()
+        let Board {
+            journal,
+            index: _,
+            base: _,
+            log,
+            marks,
+            since: _,
+        } = self;
+        Closed {
+            disk: journal.into_disk(),
+            log,
+            marks,
+        }
     }
 }

@@ -1,22 +1,45 @@
-//! The head of an area, so far of a board without rows alone.
-ghost use Rattle.std.specs.Prelude.{◌≡◌, option_map, IfSome};
+//! The rows of the head of an area.
+ghost use Rattle.std.specs.Prelude.{◌≡◌, ◌+◌, ◌<◌, ◌^◌, length, IfOk};
 ghost use Rattle.bbs_model.specs.Valid.{IsValid};
-ghost use Rattle.bbs_board.specs.Opening.{rows_in};
+ghost use Rattle.bbs_codec.specs.Head.{fault_place};
+ghost use Rattle.bbs_board.specs.Opening.{rows_in, Gives};
 
+use bbs_codec::{CodecFault, HeadFault, read_head};
 use bbs_index::Index;
+use bbs_journal::LoadFault;
+use disk_trait::Area;
 use std::alloc::Global;
 
-/// The number of transitions and four counts, all 0.
-const EMPTY: [u8; 24] = [0; 24];
+/// The place of the head in an area.
+pub const HEAD: u64 = 23;
 
-/// The rows of a head under an index. None where it isn't the head of a board without rows.
-pub fn rows_in(alloc: Global, head: &[u8]) -> Option<Index>
-    ensures rows { option_map (λ index. index.rows) result ≡ rows_in head.now }
-    ensures valid { IfSome result (λ index. IsValid index.rows) }
+fn fault_place(fault: CodecFault) -> usize
+    ensures { result ≡ fault_place fault }
 {
-    if head == EMPTY.as_slice() {
-        Some(Index::new(alloc))
-    } else {
-        None
+    match fault {
+        CodecFault::Short { at } => at,
+        CodecFault::BadKind { at } => at,
+        CodecFault::BadField { at } => at,
+        CodecFault::Trailing { at } => at,
+    }
+}
+
+/// The rows of the head of an area under an index, or the first defect of the head.
+pub fn rows_in(alloc: Global, area: Area, head: &[u8]) -> Result<Index, LoadFault>
+    requires { 23 + length head.now < 2 ^ 64 }
+    ensures gives { Gives result (rows_in area head.now) }
+    ensures valid { IfOk result (λ index. IsValid index.rows) }
+{
+    let rows = match read_head(alloc, head) {
+        Ok(rows) => rows,
+        Err(HeadFault::OutOfMemory) => return Err(LoadFault::OutOfMemory),
+        Err(HeadFault::Codec(fault)) => {
+            let at = HEAD + fault_place(fault) as u64;
+            return Err(LoadFault::Damaged { area, at });
+        }
+    };
+    match Index::of(alloc, &rows) {
+        Ok(index) => Ok(index),
+        Err(_) => Err(LoadFault::OutOfMemory),
     }
 }

@@ -3,7 +3,7 @@ ghost use Rattle.std.specs.Prelude.{Bool};
 ghost use Rattle.disk_trait.specs.Past.{Past};
 ghost use Rattle.bbs_model.specs.declared.command.Command.{Command};
 ghost use Rattle.bbs_model.specs.declared.rows.Rows.{Rows};
-ghost use Rattle.bbs_board.specs.Laws.{OpensInOneWay, RecoversOrRefuses, StopsLeaveBoards};
+ghost use Rattle.bbs_board.specs.Laws.{OpensInOneWay, RecoversOrRefuses, StopsLeaveBoards, CompletesOnceOverStops};
 ghost use Rattle.bbs_board.specs.Stops.{Stores};
 
 /// An image is a board with one set of rows only.
@@ -21,4 +21,10 @@ pub fn a_board_is_not_refused()
 pub fn a_stop_leaves_the_board_before_or_after()
     ensures { (stored : Bool) (rows : Rows) (command : Command) (p q : Past)
         → Stores stored rows command p q → StopsLeaveBoards stored rows command p q }
+{}
+
+/// A task that got its outcome in a transition which was acknowledged doesn't get another one after a
+/// stop, nor in what comes of the board that is opened then.
+pub fn tasks_complete_once_over_a_stop()
+    ensures { CompletesOnceOverStops }
 {}

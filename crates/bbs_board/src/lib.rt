@@ -1,4 +1,4 @@
-//! The board of one caller: its rows, which are what its journal recovers to.
+//! The board of one caller: its rows, which are what its journal recovers to, and the log of what it did.
 #![tactic(auto)]
 
 mod board;
@@ -6,11 +6,14 @@ mod following;
 mod head;
 mod laws;
 mod loading;
+mod putting;
+mod room;
 
 pub use bbs_journal::{LoadFault, PrepareFault, prepare};
-pub use board::{Board, StoreFault};
+pub use board::{Board, Closed};
 pub use laws::{
     a_board_is_not_refused, a_board_is_opened_in_one_way, a_stop_leaves_the_board_before_or_after,
+    tasks_complete_once_over_a_stop,
 };
 pub use loading::load;
 

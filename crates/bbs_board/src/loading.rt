@@ -1,5 +1,5 @@
 //! Loading a board: the journal, then the rows of its head, then its commands one after another.
-ghost use Rattle.std.specs.Prelude.{◌≡◌, ◌+◌, ◌<◌, ◌^◌, false, length, IfOk, IfErr};
+ghost use Rattle.std.specs.Prelude.{◌≡◌, ◌+◌, ◌<◌, ◌^◌, false, [], length, IfOk, IfErr};
 ghost use Rattle.byte_ports.specs.Cause.{HasCause};
 ghost use Rattle.disk_trait.specs.Past.{Image};
 ghost use Rattle.disk_trait.specs.Steps.{Goes};
@@ -7,17 +7,15 @@ ghost use Rattle.bbs_journal.specs.Reading.{payloads_of, bytes_of};
 ghost use Rattle.bbs_journal.specs.Shows.{Shows, Keeps, Secures, is_disk_fault};
 ghost use Rattle.bbs_model.specs.Valid.{IsValid};
 ghost use Rattle.bbs_board.specs.Opening.{board_of, IsBoard, Refuses, Gives};
+ghost use Rattle.bbs_board.specs.View.{IsFresh};
 
 use crate::Board;
 use crate::following::follow;
-use crate::head::rows_in;
+use crate::head::{HEAD, rows_in};
 use bbs_index::Index;
 use bbs_journal::{LoadFault, Loaded};
 use disk_trait::{Area, Disk};
 use std::alloc::Global;
-
-/// The place of the head in an area.
-const HEAD: u64 = 23;
 
 /// The rows of a head and of the frames behind it, or the defect that stands first.
 fn board_of(
@@ -31,9 +29,7 @@ fn board_of(
     ensures gives { Gives result (board_of area head.now (payloads_of frames.now) broken) }
     ensures valid { IfOk result (λ index. IsValid index.rows) }
 {
-    let Some(mut index) = rows_in(alloc, head) else {
-        return Err(LoadFault::Damaged { area, at: HEAD });
-    };
+    let mut index = rows_in(alloc, area, head)?;
     let start = HEAD + head.len() as u64;
     follow(&mut index, area, start, frames, broken)?;
     Ok(index)
@@ -41,8 +37,9 @@ fn board_of(
 
 /// Loads the board that a disk holds, and syncs both areas. It writes nothing.
 pub fn load<D: Disk>(alloc: Global, disk: D) -> Result<Board<D>, (D, LoadFault)>
-    ensures found { IfOk result (λ b. (c : Image) → Shows (D.told disk) c → IsBoard b.rows c) }
-    ensures calm { IfOk result (λ b. b.waits ≡ false) }
+    ensures found { IfOk result (λ b. (c : Image) → Shows (D.told disk) c → IsBoard b.base c) }
+    ensures fresh { IfOk result IsFresh }
+    ensures since { IfOk result (λ b. b.since ≡ D.moment b.disk) }
     ensures refused { IfErr result (λ e. (c : Image) → Shows (D.told disk) c → Refuses e.1 c) }
     ensures ok { IfOk result (λ b. Goes (D.told disk) (D.told b.disk) Secures) }
     ensures err { IfErr result (λ e. Goes (D.told disk) (D.told e.0) Keeps) }
@@ -59,8 +56,19 @@ pub fn load<D: Disk>(alloc: Global, disk: D) -> Result<Board<D>, (D, LoadFault)>
         Ok(loaded) => loaded,
         Err(refused) => return Err(refused),
     };
-    match board_of(alloc, journal.area(), &head, &frames, broken) {
-        Ok(index) => Ok(Board { journal, index }),
-        Err(fault) => Err((journal.into_disk(), fault)),
+    let index = match board_of(alloc, journal.area(), &head, &frames, broken) {
+        Ok(index) => index,
+        Err(fault) => return Err((journal.into_disk(), fault)),
+    };
+    match index.rows(alloc) {
+        Ok(base) => Ok(Board {
+            since: journal.clock(),
+            journal,
+            index,
+            base,
+            log: Vec::new(alloc),
+            marks: Vec::new(alloc),
+        }),
+        Err(_) => Err((journal.into_disk(), LoadFault::OutOfMemory)),
     }
 }

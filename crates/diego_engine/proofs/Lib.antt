@@ -1,4 +1,5 @@
 pub mod Among
+pub mod Called
 pub mod Cutting
 pub mod JsonText
 pub mod Loading

@@ -94,11 +94,13 @@ module _ (e : Ended) (left left' : Option (List ℕ)) (v w : Ports) where
   untouched_from ending.TooLong None n h = absurd h.0
   untouched_from how what n h = cc
 
+  is_done : (how : Ending) → number_of how ≡ 0 → how ≡ ending.Done
+  is_done ending.Done n = refl
+  is_done how n = absurd (omega (arith, n))
+
   pub done_from : (how : Ending) (what : Option Asked) → number_of how ≡ 0 → what ≡ Some asked.Run → Ends how what e left left' v w → RunsWhole e left left' v w
-  done_from ending.Done (Some asked.Run) n is h = h
-  done_from ending.Done (Some asked.Prepare) n is h = cc
-  done_from ending.Done None n is h = cc
-  done_from how what n is h = absurd (omega (arith, n))
+  done_from how what n is h =
+      subst (λ (x : Option Asked). Ends ending.Done x e left left' v w) is (subst (λ (x : Ending). Ends x what e left left' v w) (is_done how n) h)
 
   -- ---- completeness
 

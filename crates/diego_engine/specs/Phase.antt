@@ -1,6 +1,5 @@
 -- The phase of a script: its one call, how it ends, and what is told of it.
-use Rattle.std.specs.Prelude.{◌≡◌, ℕ, ◌+◌, Bool, true, false, List, [], ◌∷◌, ◌++◌, length, Some}
-use Rattle.disk_trait.specs.Past.{Past}
+use Rattle.std.specs.Prelude.{◌≡◌, ℕ, ◌+◌, Bool, true, false, List, [], ◌∷◌, ◌++◌, Some}
 use Rattle.bbs_model.specs.declared.answered.Answered.{Answered}
 use Rattle.bbs_model.specs.declared.command.Command.{Command}
 use Rattle.bbs_model.specs.declared.command.Op.TheVariants.{Desire}
@@ -13,10 +12,8 @@ use Rattle.bbs_model.specs.declared.reply.CallEnd.{CallEnd}
 use Rattle.bbs_model.specs.declared.reply.CallEnd.TheVariants.{Got, Fault}
 use Rattle.bbs_model.specs.declared.reply.CallFault.TheVariants as fault
 use Rattle.bbs_model.specs.declared.reply.Reply.TheVariants as reply
-use Rattle.bbs_model.specs.declared.rows.Rows.{Rows}
 use Rattle.bbs_model.specs.declared.verdict.Verdict.{Verdict}
 use Rattle.bbs_model.specs.declared.verdict.Verdict.TheVariants as verdict
-use Rattle.bbs_board.specs.Stops.{Stores}
 use Rattle.lrp_records.specs.declared.desired.Desired.{Desired}
 use Rattle.record_print.specs.Printed.{line_text, answer_data, event_data, summary_data}
 use Rattle.record_print.specs.declared.summary.Summary.{Summary}
@@ -76,13 +73,5 @@ answered_of script end = record { actor = 1; line = script.line; command = Some 
 -- what is told of a phase whose call ended so, at a board with so many transitions
 pub record Tells (script : Script) (end : CallEnd) (next : ℕ) (phase : Phase) : Type 0 where
   pub text : phase.text.items ≡ run_text script end next
-  pub log : phase.log.items ≡ log_of end (command_of script)
-  pub marks : length phase.marks.items ≡ length phase.log.items
   pub answers : phase.answers.items ≡ answered_of script end ∷ []
   pub doubt : phase.doubt ≡ is_doubt end
-
--- what a call does to a disk, by the verdict of its command at these rows
-abbrev pub StoresBy : Verdict → Bool → Rows → Command → Past → Past → Type 0
-StoresBy verdict.Ok stored rows command p q = Stores stored rows command p q
-StoresBy verdict.Same stored rows command p q = q ≡ p
-StoresBy (verdict.Refused why) stored rows command p q = q ≡ p

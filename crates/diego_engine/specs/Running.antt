@@ -1,6 +1,7 @@
 -- How the run of a script ends, by what the ports and the disk did.
-use Rattle.std.specs.Prelude.{◌≡◌, ◌⊎◌, ℕ, Bool, true, false, not, List, [], ◌∷◌, length, All, Option, Result, Ok, Err}
+use Rattle.std.specs.Prelude.{◌≡◌, ◌⊎◌, ℕ, Bool, true, false, not, List, [], ◌∷◌, map, Option, Result, Ok, Err}
 use Rattle.std.specs.Io.KnownBytes.{Appends}
+use Rattle.std.specs.Option.{ForSome}
 use Rattle.byte_ports.specs.Cause.{HasCause}
 use Rattle.byte_ports.specs.Content.{HoldsFront}
 use Rattle.disk_trait.specs.Past.{Past, Image}
@@ -9,12 +10,16 @@ use Rattle.std.specs.declared.alloc.AllocError.{AllocError}
 use Rattle.bbs_model.specs.declared.reply.CallEnd.{CallEnd}
 use Rattle.bbs_model.specs.declared.rows.Rows.{Rows}
 use Rattle.bbs_model.specs.Step.{verdict_of}
+use Rattle.bbs_model.specs.Replay.{IsLawful}
+use Rattle.bbs_model.specs.declared.item.Item.{Item}
+use Rattle.bbs_board.specs.Calls.{StoresBy}
+use Rattle.bbs_board.specs.Kept.{Kept}
 use Rattle.bbs_board.specs.Opening.{IsBoard, IsRefused}
 use Rattle.bbs_journal.specs.Shows.{Shows, Keeps as KeepsContent, Secures}
 use Rattle.bbs_journal.specs.declared.load_fault.LoadFault.{LoadFault}
 use Rattle.bbs_journal.specs.declared.load_fault.LoadFault.TheVariants as fault
 use Rattle.diego_engine.specs.Ending.{line_of}
-use Rattle.diego_engine.specs.Phase.{Tells, StoresBy, command_of, end_of, log_of, is_doubt, run_text, answered_of}
+use Rattle.diego_engine.specs.Phase.{Tells, command_of, end_of, log_of, is_doubt, run_text, answered_of}
 use Rattle.diego_engine.specs.declared.ending.Ending.{Ending}
 use Rattle.diego_engine.specs.declared.ending.Ending.TheVariants as ending
 use Rattle.diego_engine.specs.declared.phase.Phase.{Phase}
@@ -28,6 +33,16 @@ pub record Ports : Type 0 where
   pub told : Option Past
   pub disk_faults : ℕ
   pub clock : ℕ
+
+-- the ports, from what the sink tells and then what the disk tells
+abbrev pub ports_of : Option (List ℕ) → ℕ → Option Past → ℕ → ℕ → Ports
+ports_of held write_faults told disk_faults clock = record {
+  held = held;
+  write_faults = write_faults;
+  told = told;
+  disk_faults = disk_faults;
+  clock = clock;
+}
 
 -- a text was put into a sink that held this, whole or up to a fault
 pub record PrintsTo (whole : Bool) (text : List ℕ) (held held' : Option (List ℕ)) (faults faults' : ℕ) : Type 0 where
@@ -45,23 +60,18 @@ ending_of false doubt = ending.Unwritten
 ending_of true true = ending.Doubt
 ending_of true false = ending.Done
 
--- the lists of a phase are those of the run
-pub record Keeps (phase : Phase) (e : Ended) : Type 0 where
-  pub log : e.log.items ≡ phase.log.items
-  pub marks : e.marks.items ≡ phase.marks.items
-  pub answers : e.answers.items ≡ phase.answers.items
-
 -- the disk failed in the call of a phase
 abbrev pub is_doubtful : Result Phase AllocError → Bool
 is_doubtful (Ok phase) = phase.doubt
 is_doubtful (Err e) = false
 
--- the call of a script at a board with these rows
-pub record Calls (script : Script) (rows : Rows) (phase : Phase) (before after : Option Past) (clock : ℕ) : Type 0 where
+-- the call of a script at a board with these rows, and the log and the marks that it left
+pub record Calls (script : Script) (rows : Rows) (phase : Phase) (log : List Item) (marks : List ℕ) (before after : Option Past) (clock : ℕ) : Type 0 where
   pub stored : Bool
   pub tells : Tells script (end_of (verdict_of rows (command_of script)) rows.next stored) rows.next phase
   pub does : Goes before after (StoresBy (verdict_of rows (command_of script)) stored rows (command_of script))
-  pub marks : All (λ m. m ≡ clock) phase.marks.items
+  pub log_is : log ≡ log_of (end_of (verdict_of rows (command_of script)) rows.next stored) (command_of script)
+  pub marks_are : marks ≡ map (λ item. clock) log
 
 -- no call was made
 pub record IsEmpty (e : Ended) : Type 0 where
@@ -78,7 +88,7 @@ pub record EndsEarly (failed : Bool) (e : Ended) (v w : Ports) : Type 0 where
   pub prints : Prints whole (line_of e.ending) v w
 
 -- the run made its call at a board with these rows; the disk failed in it or not, and its text was
--- written whole or not
+-- written whole or not; whatever a stop leaves of the disk from then on is a board that its log reaches
 pub record EndsCall (script : Script) (rows : Rows) (whole failed : Bool) (e : Ended) (v w : Ports) : Type 0 where
   pub stored : Bool
   pub call_end : CallEnd
@@ -87,10 +97,11 @@ pub record EndsCall (script : Script) (rows : Rows) (whole failed : Bool) (e : E
   pub failed_is : failed ≡ is_doubt call_end
   pub cause : HasCause failed v.disk_faults w.disk_faults
   pub log : e.log.items ≡ log_of call_end (command_of script)
+  pub marks : e.marks.items ≡ map (λ item. w.clock) e.log.items
   pub answers : e.answers.items ≡ answered_of script call_end ∷ []
-  pub mark_each : length e.marks.items ≡ length e.log.items
-  pub marks : All (λ m. m ≡ w.clock) e.marks.items
   pub prints : Prints whole (run_text script call_end rows.next) v w
+  pub lawful : IsLawful rows e.log.items
+  pub kept : ForSome w.told (Kept rows e.log.items e.marks.items v.clock)
 
 -- how the run ends of a script at a board that was loaded
 abbrev pub CallEnds : Ending → Script → Rows → Ended → Ports → Ports → Type 0

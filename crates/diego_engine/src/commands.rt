@@ -1,6 +1,7 @@
 //! What each word does.
 ghost use Rattle.std.specs.Prelude.{◌≡◌, ◌≢◌, Some};
 ghost use Rattle.byte_ports.specs.Cause.{HasCause};
+ghost use Rattle.diego_engine.specs.Running.{ports_of};
 ghost use Rattle.diego_engine.specs.Top.{Reads, RunEnds, StillEnds, is_read, is_unread};
 ghost use Rattle.diego_engine.specs.declared.words.Asked.TheVariants as wanted;
 
@@ -42,20 +43,10 @@ pub fn run<S: Source, K: Sink, D: Disk, G: Gate>(
     gate: &G,
 ) -> (Ended, D)
     ensures ends { RunEnds result.0.ending result.0 (S.left source.old) (S.left source.new)
-        (record {
-          held = K.held sink.old;
-          write_faults = K.faults sink.old;
-          told = D.told disk;
-          disk_faults = D.fault_count disk;
-          clock = D.moment disk;
-        })
-        (record {
-          held = K.held sink.new;
-          write_faults = K.faults sink.new;
-          told = D.told result.1;
-          disk_faults = D.fault_count result.1;
-          clock = D.moment result.1;
-        }) }
+        (ports_of (K.held sink.old) (K.faults sink.old)
+        (D.told disk) (D.fault_count disk) (D.moment disk))
+        (ports_of (K.held sink.new) (K.faults sink.new)
+        (D.told result.1) (D.fault_count result.1) (D.moment result.1)) }
     ensures cause { HasCause (is_read result.0.ending) (S.faults source.old) (S.faults source.new) }
 {
     match read(alloc, source) {
@@ -73,20 +64,10 @@ pub fn still<K: Sink, D: Disk>(
 ) -> Ended
     requires { asked ≢ Some wanted.Run }
     ensures { StillEnds result.ending asked result
-        (record {
-          held = K.held sink.old;
-          write_faults = K.faults sink.old;
-          told = D.told disk.old;
-          disk_faults = D.fault_count disk.old;
-          clock = D.moment disk.old;
-        })
-        (record {
-          held = K.held sink.new;
-          write_faults = K.faults sink.new;
-          told = D.told disk.new;
-          disk_faults = D.fault_count disk.new;
-          clock = D.moment disk.new;
-        }) }
+        (ports_of (K.held sink.old) (K.faults sink.old)
+        (D.told disk.old) (D.fault_count disk.old) (D.moment disk.old))
+        (ports_of (K.held sink.new) (K.faults sink.new)
+        (D.told disk.new) (D.fault_count disk.new) (D.moment disk.new)) }
 {
     match asked {
         Some(Asked::Prepare) => match prepare(disk) {

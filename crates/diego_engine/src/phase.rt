@@ -1,9 +1,9 @@
 //! One phase: its call, and what is told of it.
-ghost use Rattle.std.specs.Prelude.{◌≡◌, ◌+◌, ◌<◌, ◌^◌, [], ◌∷◌, length, IfOk, OnErr, replicate, Bool, ℕ};
-ghost use Rattle.diego_engine.specs.Phase.{Tells, events_text, counts_of, log_of, run_text, event_of, is_doubt, command_of};
+ghost use Rattle.std.specs.Prelude.{◌≡◌, ◌<◌, ◌^◌, [], ◌∷◌, IfOk};
+ghost use Rattle.diego_engine.specs.Phase.{Tells, events_text, counts_of, run_text, event_of, is_doubt, command_of};
 
 use crate::script::Script;
-use bbs_model::{Answered, CallEnd, CallFault, Change, Command, Event, Item, Op, Reply, Row};
+use bbs_model::{Answered, CallEnd, CallFault, Change, Command, Event, Op, Reply, Row};
 use lrp_records::Desired;
 use record_print::{Summary, answer_text, event_text, summary_text};
 use std::alloc::{AllocError, Global};
@@ -15,9 +15,6 @@ pub const ACTOR: u32 = 1;
 #[derive(Drop)]
 pub struct Phase {
     pub text: Vec<u8>,
-    pub log: Vec<Item>,
-    /// The disk's clock at the end of the call of each item.
-    pub marks: Vec<u64>,
     pub answers: Vec<Answered>,
     /// The disk failed in a call.
     pub doubt: bool,
@@ -79,16 +76,6 @@ fn one<T: Drop>(alloc: Global, item: T) -> Result<Vec<T>, AllocError>
     Ok(items)
 }
 
-fn log_of(alloc: Global, end: &CallEnd, command: Command) -> Result<Vec<Item>, AllocError>
-    ensures { IfOk result (λ v. v.items ≡ log_of end.now command) }
-{
-    match end {
-        CallEnd::Got(Reply::Ok { place: _, stamp: _ }) => one(alloc, Item::Done(ACTOR, command)),
-        CallEnd::Fault(CallFault::Disk { place: _ }) => one(alloc, Item::Doubt(ACTOR, command)),
-        _ => Ok(Vec::new(alloc)),
-    }
-}
-
 fn is_doubt(end: &CallEnd) -> bool
     ensures { result ≡ is_doubt end.now }
 {
@@ -114,8 +101,7 @@ fn run_text(
     Ok(text)
 }
 
-/// What is told of a phase whose call ended so, at a board with so many transitions. The marks are
-/// still to be set.
+/// What is told of a phase whose call ended so, at a board with so many transitions.
 pub fn phase_of(
     alloc: Global,
     script: &Script,
@@ -127,8 +113,6 @@ pub fn phase_of(
 {
     let command = command_of(script);
     let text = run_text(alloc, script, &command, &end, next)?;
-    let log = log_of(alloc, &end, command)?;
-    let marks = vec![in alloc; 0u64; log.len()]?;
     let answer = Answered {
         actor: ACTOR,
         line: script.line,
@@ -139,8 +123,6 @@ pub fn phase_of(
     let doubt = is_doubt(&end);
     Ok(Phase {
         text,
-        log,
-        marks,
         answers,
         doubt,
     })

@@ -3,16 +3,17 @@ ghost use Rattle.std.specs.Prelude.{◌≡◌, ◌⊎◌, Bool, true, false, not
 ghost use Rattle.byte_ports.specs.Cause.{HasCause};
 ghost use Rattle.byte_ports.specs.Content.{HoldsFront};
 ghost use Rattle.std.specs.Io.KnownBytes.{Appends};
+ghost use Rattle.bbs_board.specs.View.{IsFresh};
 ghost use Rattle.diego_engine.specs.Ending.{constant_line, line_of};
 ghost use Rattle.diego_engine.specs.declared.ending.Ending.{Ending as AnEnding};
 ghost use Rattle.diego_engine.specs.declared.ending.Ending.TheVariants as ending;
-ghost use Rattle.diego_engine.specs.Running.{IsEmpty, PrintsTo, Keeps, CallEnds, ScriptEnds, EndsAs, ending_of};
+ghost use Rattle.diego_engine.specs.Running.{IsEmpty, PrintsTo, CallEnds, ScriptEnds, EndsAs, ending_of, ports_of};
 
 use crate::calling::call;
 use crate::ending::{Ending, constant_line, damaged_line};
 use crate::phase::{ACTOR, Phase};
 use crate::script::Script;
-use bbs_board::{Board, LoadFault, load};
+use bbs_board::{Board, Closed, LoadFault, load};
 use bbs_model::{Answered, Item};
 use byte_ports::{Gate, Sink, write_whole};
 use disk_trait::{Area, Disk};
@@ -87,17 +88,16 @@ fn ending_of(whole: bool, doubt: bool) -> Ending
     }
 }
 
-/// Prints the text of a phase.
-fn printed<K: Sink>(sink: &mut K, phase: Phase) -> Ended
-    ensures kept { Keeps phase result }
+/// Prints the text of a phase, in which the board did this.
+fn printed<K: Sink>(sink: &mut K, phase: Phase, log: Vec<Item>, marks: Vec<u64>) -> Ended
+    ensures lists { (result.log ≡ log) × (result.marks ≡ marks)
+        × (result.answers ≡ phase.answers) }
     ensures prints { (whole : Bool) × (result.ending ≡ ending_of whole phase.doubt)
         × PrintsTo whole phase.text.items
         (K.held sink.old) (K.held sink.new) (K.faults sink.old) (K.faults sink.new) }
 {
     let Phase {
         text,
-        log,
-        marks,
         answers,
         doubt,
     } = phase;
@@ -110,35 +110,29 @@ fn printed<K: Sink>(sink: &mut K, phase: Phase) -> Ended
     }
 }
 
-/// Makes the call of a script at a board that was loaded, and prints what is told of it.
+/// Makes the call of a script at a board that was just loaded, prints what is told of it, and gives the
+/// disk back.
 fn run_loaded<K: Sink, D: Disk, G: Gate>(
     alloc: Global,
     script: &Script,
-    board: &mut Board<D>,
+    mut board: Board<D>,
     sink: &mut K,
     gate: &G,
-) -> Ended
-    requires { board.old.waits ≡ false }
-    ensures { CallEnds result.ending script.now board.old.rows result
-        (record {
-          held = K.held sink.old;
-          write_faults = K.faults sink.old;
-          told = D.told board.old.disk;
-          disk_faults = D.fault_count board.old.disk;
-          clock = D.moment board.old.disk;
-        })
-        (record {
-          held = K.held sink.new;
-          write_faults = K.faults sink.new;
-          told = D.told board.new.disk;
-          disk_faults = D.fault_count board.new.disk;
-          clock = D.moment board.new.disk;
-        }) }
+) -> (Ended, D)
+    requires fresh { IsFresh board }
+    requires since { board.since ≡ D.moment board.disk }
+    ensures { CallEnds result.0.ending script.now board.base result.0
+        (ports_of (K.held sink.old) (K.faults sink.old)
+        (D.told board.disk) (D.fault_count board.disk) (D.moment board.disk))
+        (ports_of (K.held sink.new) (K.faults sink.new)
+        (D.told result.1) (D.fault_count result.1) (D.moment result.1)) }
 {
     gate.pass(ACTOR);
-    match call(alloc, script, board) {
-        Ok(phase) => printed(sink, phase),
-        Err(_) => ended_early(alloc, sink, Ending::OutOfMemory),
+    let called = call(alloc, script, &mut board);
+    let Closed { disk, log, marks } = board.close();
+    match called {
+        Ok(phase) => (printed(sink, phase, log, marks), disk),
+        Err(_) => (ended_early(alloc, sink, Ending::OutOfMemory), disk),
     }
 }
 
@@ -166,26 +160,13 @@ pub fn run_script<K: Sink, D: Disk, G: Gate>(
     gate: &G,
 ) -> (Ended, D)
     ensures { ScriptEnds result.0.ending script.now result.0
-        (record {
-          held = K.held sink.old;
-          write_faults = K.faults sink.old;
-          told = D.told disk;
-          disk_faults = D.fault_count disk;
-          clock = D.moment disk;
-        })
-        (record {
-          held = K.held sink.new;
-          write_faults = K.faults sink.new;
-          told = D.told result.1;
-          disk_faults = D.fault_count result.1;
-          clock = D.moment result.1;
-        }) }
+        (ports_of (K.held sink.old) (K.faults sink.old)
+        (D.told disk) (D.fault_count disk) (D.moment disk))
+        (ports_of (K.held sink.new) (K.faults sink.new)
+        (D.told result.1) (D.fault_count result.1) (D.moment result.1)) }
 {
     match load(alloc, disk) {
-        Ok(mut board) => {
-            let ended = run_loaded(alloc, script, &mut board, sink, gate);
-            (ended, board.into_disk())
-        }
+        Ok(board) => run_loaded(alloc, script, board, sink, gate),
         Err((disk, fault)) => (refused(alloc, sink, fault), disk),
     }
 }

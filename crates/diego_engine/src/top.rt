@@ -10,6 +10,7 @@ ghost use Rattle.bbs_journal.specs.Preparing.{FindsBytes};
 ghost use Rattle.bbs_journal.specs.declared.load_fault.LoadFault.{LoadFault as Why};
 ghost use Rattle.diego_engine.specs.Script.{script_of};
 ghost use Rattle.diego_engine.specs.Ending.{number_of};
+ghost use Rattle.diego_engine.specs.Running.{ports_of};
 ghost use Rattle.diego_engine.specs.Top.{ReadsWhole, StillEnds, Ends, Meets, RunsWhole, is_before_board, limit};
 ghost use Rattle.diego_engine.specs.Words.{asked_of};
 ghost use Rattle.diego_engine.specs.declared.ending.Ending.{Ending as AnEnding};
@@ -80,20 +81,9 @@ pub fn still_top<S: Source, K: Sink, D: Disk>(
     ensures ends { (how : AnEnding) × (result.status ≡ number_of how)
         × StillEnds how (asked_of (map (λ w. string_bytes w) words.now))
         (record { ending = how; log = result.log; marks = result.marks; answers = result.answers })
-        (record {
-          held = K.held sink;
-          write_faults = K.faults sink;
-          told = D.told disk;
-          disk_faults = D.fault_count disk;
-          clock = D.moment disk;
-        })
-        (record {
-          held = K.held result.sink;
-          write_faults = K.faults result.sink;
-          told = D.told result.disk;
-          disk_faults = D.fault_count result.disk;
-          clock = D.moment result.disk;
-        }) }
+        (ports_of (K.held sink) (K.faults sink) (D.told disk) (D.fault_count disk) (D.moment disk))
+        (ports_of (K.held result.sink) (K.faults result.sink)
+        (D.told result.disk) (D.fault_count result.disk) (D.moment result.disk)) }
 {
     let ended = still(alloc, read_words(words), &mut sink, &mut disk);
     top_end(ended, source, sink, disk)
@@ -111,20 +101,9 @@ fn whole_top<S: Source, K: Sink, D: Disk, G: Gate>(
         × Ends how (asked_of (map (λ w. string_bytes w) words.now))
         (record { ending = how; log = result.log; marks = result.marks; answers = result.answers })
         (S.left source) (S.left result.source)
-        (record {
-          held = K.held sink;
-          write_faults = K.faults sink;
-          told = D.told disk;
-          disk_faults = D.fault_count disk;
-          clock = D.moment disk;
-        })
-        (record {
-          held = K.held result.sink;
-          write_faults = K.faults result.sink;
-          told = D.told result.disk;
-          disk_faults = D.fault_count result.disk;
-          clock = D.moment result.disk;
-        }) }
+        (ports_of (K.held sink) (K.faults sink) (D.told disk) (D.fault_count disk) (D.moment disk))
+        (ports_of (K.held result.sink) (K.faults result.sink)
+        (D.told result.disk) (D.fault_count result.disk) (D.moment result.disk)) }
     ensures read { HasCause (result.status == 3) (S.faults source) (S.faults result.source) }
 {
     if !asks_for_a_run(words) {
@@ -148,20 +127,9 @@ pub fn diego_top<S: Source, K: Sink, D: Disk, G: Gate>(
         × Ends how (asked_of (map (λ w. string_bytes w) words.now))
         (record { ending = how; log = result.log; marks = result.marks; answers = result.answers })
         (S.left source) (S.left result.source)
-        (record {
-          held = K.held sink;
-          write_faults = K.faults sink;
-          told = D.told disk;
-          disk_faults = D.fault_count disk;
-          clock = D.moment disk;
-        })
-        (record {
-          held = K.held result.sink;
-          write_faults = K.faults result.sink;
-          told = D.told result.disk;
-          disk_faults = D.fault_count result.disk;
-          clock = D.moment result.disk;
-        }) }
+        (ports_of (K.held sink) (K.faults sink) (D.told disk) (D.fault_count disk) (D.moment disk))
+        (ports_of (K.held result.sink) (K.faults result.sink)
+        (D.told result.disk) (D.fault_count result.disk) (D.moment result.disk)) }
 
     // Each status exactly where, or only where, this holds.
     ensures usage { (result.status ≡ 1) ↔ (asked_of (map (λ w. string_bytes w) words.now) ≡ None) }
@@ -184,20 +152,9 @@ pub fn diego_top<S: Source, K: Sink, D: Disk, G: Gate>(
         → (how : AnEnding) × RunsWhole
         (record { ending = how; log = result.log; marks = result.marks; answers = result.answers })
         (S.left source) (S.left result.source)
-        (record {
-          held = K.held sink;
-          write_faults = K.faults sink;
-          told = D.told disk;
-          disk_faults = D.fault_count disk;
-          clock = D.moment disk;
-        })
-        (record {
-          held = K.held result.sink;
-          write_faults = K.faults result.sink;
-          told = D.told result.disk;
-          disk_faults = D.fault_count result.disk;
-          clock = D.moment result.disk;
-        }) }
+        (ports_of (K.held sink) (K.faults sink) (D.told disk) (D.fault_count disk) (D.moment disk))
+        (ports_of (K.held result.sink) (K.faults result.sink)
+        (D.told result.disk) (D.fault_count result.disk) (D.moment result.disk)) }
 
     // With a script and a board, and without a fault, all is done unless memory runs out.
     ensures complete { asked_of (map (λ w. string_bytes w) words.now) ≡ Some wanted.Run

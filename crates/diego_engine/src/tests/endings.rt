@@ -103,12 +103,13 @@ fn areas_that_are_not_of_a_board_are_told(rt: HostRuntime) -> Result<(), Fail> {
 #[test]
 fn the_first_defect_of_a_board_is_told_with_its_place(rt: HostRuntime) -> Result<(), Fail> {
     let alloc = rt.alloc();
-    let cases: [(usize, u8, u64); 6] = [
+    let cases: [(usize, u8, u64); 7] = [
         // A generation above the number of transitions and 1, and generation 0.
         (18, 2, 11),
         (18, 0, 11),
-        // A head with a transition, and one that doesn't fit.
-        (30, 1, 23),
+        // A head of 1,048,576 transitions, one without the row that it counts, and one that doesn't fit.
+        (28, 16, 23),
+        (34, 1, 47),
         (22, 99, 81),
         // A frame of no length, and one of a kind of command that there isn't.
         (49, 0, 47),

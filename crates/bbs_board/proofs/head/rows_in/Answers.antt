@@ -1,7 +1,10 @@
-use Rattle.std.proofs.Common.{sym, subst}
-use Rattle.bbs_model.specs.Valid.{IsValid}
-use Rattle.bbs_model.proofs.First.{IsValid-no_rows}
+use Rattle.std.proofs.Common.{ap, arith}
+use Rattle.bbs_codec.specs.Head.{fault_place}
+use Rattle.bbs_codec.proofs.HeadPlaces.{head_fault_lies}
 use Rattle.bbs_board.proofs.head.rows_in.Goals as goal
 
-pub returns-then-eq-clause-valid : goal.returns-then-eq-clause-valid
-returns-then-eq-clause-valid c = subst IsValid (sym c.new.ensures) IsValid-no_rows
+pub overflow_add-at : goal.overflow_add-at
+overflow_add-at c =
+    let told = rw c.in-Err-Codec.field-0-is at c.in-Err-Codec.ensures.told in
+    let lies = head_fault_lies c.args.head.now c.in-Err-Codec.fault told in
+    omega (arith, lies, c.fault_place.ensures, ap fault_place c.in-Err-Codec.fault-is, c.requires)

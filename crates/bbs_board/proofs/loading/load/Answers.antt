@@ -1,8 +1,12 @@
-use Rattle.std.proofs.Common.{◌≡◌, ◌∙◌, Ok, None, Option, List, ℕ, ap, subst, arith, rules}
+use Rattle.std.proofs.Common.{◌≡◌, ◌∙◌, Ok, None, Some, Option, List, [], ℕ, sym, ap, subst, arith, rules}
 use Rattle.std.specs.Prelude.{is_some}
 use Rattle.std.proofs.lemmas.List.{length-map}
+use Rattle.disk_trait.specs.Past.{Past}
 use Rattle.bbs_journal.specs.Reading.{payloads_of}
-use Rattle.bbs_board.specs.Opening.{board_of}
+use Rattle.bbs_model.specs.Replay.{replay_log, IsLawful}
+use Rattle.bbs_model.specs.Valid.{IsValid}
+use Rattle.bbs_model.specs.declared.rows.Rows.{Rows}
+use Rattle.bbs_board.specs.Opening.{board_of, IsBoard}
 use Rattle.bbs_board.proofs.Loaded.{unbroken, counted, loaded_board, loaded_holds}
 use Rattle.bbs_board.proofs.loading.load.Goals as goal
 
@@ -13,17 +17,27 @@ invariant_of-result g c =
     let none : c.in-Ok.loaded.broken ≡ None = unbroken c.in-Ok.loaded.journal.area c.in-Ok.loaded.head.items payloads c.in-Ok.loaded.broken c.in-Ok-board_of.index.rows is in
     let fresh = c.in-Ok.ensures.fresh in
     let count = counted c.in-Ok.loaded.journal.area c.in-Ok.loaded.head.items payloads c.in-Ok-board_of.index.rows (subst (λ (b : Option ℕ). board_of c.in-Ok.loaded.journal.area c.in-Ok.loaded.head.items payloads b ≡ Ok c.in-Ok-board_of.index.rows) none is) in
+    let base_is : c.in-Ok-rows.base ≡ c.in-Ok-board_of.index.rows = c.in-Ok-rows.ensures.rows in
+    let log_is : c.new.result.items ≡ [] = c.new.ensures.items in
+    let marks_is : c.new-in-Ok-rows.result.items ≡ [] = c.new-in-Ok-rows.ensures.items in
+    let timed : (q : Past) → g.D.Disk.told c.in-Ok.loaded.journal.disk ≡ Some q → q.clock ≡ c.clock.result = λ q told. g.met.D.Disk.timed c.in-Ok.loaded.journal.disk q told ∙ sym c.clock.ensures in
     record {
+      opened = subst IsValid (sym base_is) c.in-Ok-board_of.ensures.valid;
       valid = c.in-Ok-board_of.ensures.valid;
+      lawful = subst (IsLawful c.in-Ok-rows.base) (sym log_is) tt;
+      rows_are = sym base_is ∙ ap (replay_log c.in-Ok-rows.base) (sym log_is);
       whole = fresh.broken ∙ ap is_some none;
       counted = omega (arith, fresh.count, count, length-map c.in-Ok.loaded.frames.items (λ v. v.items));
-      holds = λ calm. loaded_holds _ _ c.in-Ok.loaded.journal.area c.in-Ok.loaded.journal.generation c.in-Ok.loaded.head.items payloads c.in-Ok.loaded.broken c.in-Ok.loaded.journal.end c.in-Ok-board_of.index.rows
-          c.in-Ok.ensures.ok c.in-Ok.ensures.found c.in-Ok.ensures.end is;
+      holds = rw (base_is, log_is, marks_is, fresh.mended)
+          (loaded_holds _ _ c.in-Ok.loaded.journal.area c.in-Ok.loaded.journal.generation c.in-Ok.loaded.head.items payloads c.in-Ok.loaded.broken c.in-Ok.loaded.journal.end c.in-Ok-board_of.index.rows c.clock.result
+          c.in-Ok.ensures.ok timed c.in-Ok.ensures.found c.in-Ok.ensures.end is);
     }
 
-pub returns-in-Ok-board_of-clause-found : goal.returns-in-Ok-board_of-clause-found
-returns-in-Ok-board_of-clause-found g c image shows =
+pub returns-in-Ok-rows-clause-found : goal.returns-in-Ok-rows-clause-found
+returns-in-Ok-rows-clause-found g c image shows =
     let payloads : List (List ℕ) = payloads_of c.in-Ok.loaded.frames.items in
     let is : board_of c.in-Ok.loaded.journal.area c.in-Ok.loaded.head.items payloads c.in-Ok.loaded.broken ≡ Ok c.in-Ok-board_of.index.rows = search rules in
-    loaded_board image c.in-Ok.loaded.journal.area c.in-Ok.loaded.journal.generation c.in-Ok.loaded.head.items payloads c.in-Ok.loaded.broken c.in-Ok.loaded.journal.end c.in-Ok-board_of.index.rows
-    (c.in-Ok.ensures.found image shows) is
+    let base_is : c.in-Ok-rows.base ≡ c.in-Ok-board_of.index.rows = c.in-Ok-rows.ensures.rows in
+    subst (λ (r : Rows). IsBoard r image) (sym base_is)
+    (loaded_board image c.in-Ok.loaded.journal.area c.in-Ok.loaded.journal.generation c.in-Ok.loaded.head.items payloads c.in-Ok.loaded.broken c.in-Ok.loaded.journal.end c.in-Ok-board_of.index.rows
+    (c.in-Ok.ensures.found image shows) is)

@@ -4,8 +4,7 @@ use Rattle.diego_engine.proofs.running.run_script.Goals as goal
 
 pub returns-in-Ok : goal.returns-in-Ok
 returns-in-Ok g c =
-    rw c.into_disk.ensures
-    (script_ends c.args.script.now c.in-Ok.board.rows c.run_loaded-ended.result _ _ _
+    script_ends c.args.script.now c.in-Ok.board.base c.run_loaded.result.0 _ _ _
     (record {
       opens = c.in-Ok.ensures.found;
       secures = c.in-Ok.ensures.ok;
@@ -13,4 +12,4 @@ returns-in-Ok g c =
       write_faults = refl;
       disk_faults = c.in-Ok.ensures.stood;
     })
-    c.run_loaded-ended.result.ending c.run_loaded-ended.ensures)
+    c.run_loaded.result.0.ending c.run_loaded.ensures

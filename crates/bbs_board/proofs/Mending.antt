@@ -1,0 +1,113 @@
+-- What mending and then appending come to together.
+use Rattle.std.proofs.Common.{◌≡◌, inl, inr, ⊎_elim, ℕ, Bool, true, false, Option, Some, None, List, length, refl, sym, subst, ◌∙◌}
+use Rattle.std.specs.Prelude.{is_some}
+use Rattle.disk_trait.specs.Past.{Past, now}
+use Rattle.disk_trait.specs.Steps.{Goes}
+use Rattle.disk_trait.specs.declared.area.Area.{Area}
+use Rattle.disk_trait.proofs.Steps.{runs_then, runs_weaker}
+use Rattle.disk_trait.proofs.Told.{goes_then, goes_weaker}
+use Rattle.bbs_journal.specs.Areas.{BeforeOrAfter, Stands}
+use Rattle.bbs_journal.specs.Calls.{Appended, Appends, Adds, Mends, Closes, Grows}
+use Rattle.bbs_journal.specs.View.{View as JournalView}
+use Rattle.bbs_board.specs.Puts.{MayHold, IsLeft, PutsOne, Puts}
+
+module _ (area : Area) (head : List ℕ) (payloads : List (List ℕ)) (payload : List ℕ) (end : ℕ) where
+  -- an append leaves the area as a put does
+  left_by : (ok waits : Bool) (doubt : Option (List ℕ)) (q : Past) → (ok ≡ true → waits ≡ false) → Appended ok waits head payloads payload end (now q area)
+      → IsLeft ok waits head payloads doubt payload end (now q area)
+  left_by true waits doubt q calm left = (calm refl, left)
+  left_by false false doubt q calm left = record { left = None; waits_is = refl; which = λ one is. absurd (cc); stands = left }
+  left_by false true doubt q calm left = record { left = Some payload; waits_is = refl; which = λ one is. inr (cc); stands = left }
+
+  appended_holds : (doubt : Option (List ℕ)) (bytes : List ℕ) → BeforeOrAfter head payloads payload bytes → MayHold head payloads doubt payload bytes
+  appended_holds doubt bytes held = ⊎_elim inl (λ more. inr (record { one = payload; which = inr refl; area_is = more })) held
+
+  mended_holds : (one : List ℕ) (doubt : Option (List ℕ)) (bytes : List ℕ) → doubt ≡ Some one → BeforeOrAfter head payloads one bytes → MayHold head payloads doubt payload bytes
+  mended_holds one doubt bytes is held = ⊎_elim inl (λ more. inr (record { one = one; which = inl is; area_is = more })) held
+
+  -- an append where nothing waits
+  puts_calm : (ok waits : Bool) (doubt : Option (List ℕ)) (p q : Past) → (ok ≡ true → waits ≡ false) → Appends area ok waits head payloads payload end p q
+      → PutsOne area ok waits head payloads doubt payload end p q
+  puts_calm ok waits doubt p q calm appends = record {
+    runs = runs_weaker (BeforeOrAfter head payloads payload) (MayHold head payloads doubt payload) area p q (appended_holds doubt) appends.runs;
+    leaves = left_by ok waits doubt q calm appends.leaves;
+  }
+
+  -- a mend, and then an append
+  puts_mended : (ok waits : Bool) (one : List ℕ) (doubt : Option (List ℕ)) (p q r : Past) → doubt ≡ Some one → (ok ≡ true → waits ≡ false)
+      → Mends area true head payloads one end p q → Appends area ok waits head payloads payload end q r → PutsOne area ok waits head payloads doubt payload end p r
+  puts_mended ok waits one doubt p q r is calm mends appends =
+      let second = puts_calm ok waits doubt q r calm appends in
+      record {
+        runs = runs_then (MayHold head payloads doubt payload) area p q r
+            (runs_weaker (BeforeOrAfter head payloads one) (MayHold head payloads doubt payload) area p q (λ bytes held. mended_holds one doubt bytes is held) mends.runs) second.runs;
+        leaves = second.leaves;
+      }
+
+  -- a mend that failed
+  puts_failed : (one : List ℕ) (doubt : Option (List ℕ)) (p q : Past) → doubt ≡ Some one → Mends area false head payloads one end p q
+      → PutsOne area false true head payloads doubt payload end p q
+  puts_failed one doubt p q is mends = record {
+    runs = runs_weaker (BeforeOrAfter head payloads one) (MayHold head payloads doubt payload) area p q (λ bytes held. mended_holds one doubt bytes is held) mends.runs;
+    leaves = record { left = Some one; waits_is = refl; which = λ other same. inl (is ∙ same); stands = mends.leaves };
+  }
+
+-- what waits is there
+waiting : (waits : Bool) (doubt : Option (List ℕ)) → waits ≡ true → waits ≡ is_some doubt → (one : List ℕ) × (doubt ≡ Some one)
+waiting waits None is same = absurd (cc)
+waiting waits (Some one) is same = (one, refl)
+
+-- and where nothing waits there is nothing
+calm_none : (waits : Bool) (doubt : Option (List ℕ)) → waits ≡ false → waits ≡ is_some doubt → doubt ≡ None
+calm_none waits None is same = refl
+calm_none waits (Some one) is same = absurd (cc)
+
+module _ (area : Area) (payload : List ℕ) (end : ℕ) where
+  puts_from_calm : (ok waits after : Bool) (p q : Past) → waits ≡ false → (ok ≡ true → after ≡ false) → Adds area ok after payload end p q → Puts area ok waits after payload end p q
+  puts_from_calm ok waits after p q is calm adds head payloads doubt same stands =
+      let none = calm_none waits doubt is same in
+      puts_calm area head payloads payload end ok after doubt p q calm
+      (adds head payloads (subst (λ (d : Option (List ℕ)). Stands head payloads d end (now p area)) none stands))
+
+  puts_from_mended : (ok waits after : Bool) (p q r : Past) → waits ≡ true → (ok ≡ true → after ≡ false) → Closes area true end p q → Adds area ok after payload end q r
+      → Puts area ok waits after payload end p r
+  puts_from_mended ok waits after p q r is calm closes adds head payloads doubt same stands =
+      let one = waiting waits doubt is same in
+      let mends = closes head payloads one.0 (subst (λ (d : Option (List ℕ)). Stands head payloads d end (now p area)) one.1 stands) in
+      puts_mended area head payloads payload end ok after one.0 doubt p q r one.1 calm mends (adds head payloads mends.leaves)
+
+  puts_from_failed : (waits after : Bool) (p q : Past) → waits ≡ true → after ≡ true → Closes area false end p q → Puts area false waits after payload end p q
+  puts_from_failed waits after p q is still closes head payloads doubt same stands =
+      let one = waiting waits doubt is same in
+      let mends = closes head payloads one.0 (subst (λ (d : Option (List ℕ)). Stands head payloads d end (now p area)) one.1 stands) in
+      subst (λ (b : Bool). PutsOne area false b head payloads doubt payload end p q) (sym still) (puts_failed area head payloads payload end one.0 doubt p q one.1 mends)
+
+  -- ---- the same, where the disk may tell nothing
+
+  pub puts_both : (t0 t1 t2 : Option Past) (ok waits after : Bool) → (ok ≡ true → after ≡ false) → (waits ≡ true → Goes t0 t1 (Closes area true end)) → (waits ≡ false → t1 ≡ t0)
+      → Goes t1 t2 (Adds area ok after payload end) → Goes t0 t2 (Puts area ok waits after payload end)
+  puts_both t0 t1 t2 ok true after calm mended idle adds =
+      goes_then t0 t1 t2 (Closes area true end) (Adds area ok after payload end) (Puts area ok true after payload end)
+      (λ p q r i j k closes a. puts_from_mended ok true after p q r refl calm closes a) (mended refl) adds
+  puts_both t0 t1 t2 ok false after calm mended idle adds =
+      goes_weaker t0 t2 (Adds area ok after payload end) (Puts area ok false after payload end) (λ p q i j a. puts_from_calm ok false after p q refl calm a)
+      (subst (λ (t : Option Past). Goes t t2 (Adds area ok after payload end)) (idle refl) adds)
+
+  pub puts_not : (t0 t1 : Option Past) (waits after : Bool) → waits ≡ true → after ≡ true → Goes t0 t1 (Closes area false end) → Goes t0 t1 (Puts area false waits after payload end)
+  puts_not t0 t1 waits after is still closes =
+      goes_weaker t0 t1 (Closes area false end) (Puts area false waits after payload end) (λ p q i j c. puts_from_failed waits after p q is still c) closes
+
+-- ---- said of what was written
+
+module _ (ok done : Bool) (payload text : List ℕ) (done_is : ok ≡ done) (is : payload ≡ text) where
+  pub puts_as : (t0 t1 : Option Past) (area : Area) (waits after : Bool) (end : ℕ) → Goes t0 t1 (Puts area ok waits after payload end) → Goes t0 t1 (Puts area done waits after text end)
+  puts_as t0 t1 area waits after end goes =
+      subst (λ (l : List ℕ). Goes t0 t1 (Puts area done waits after l end)) is (subst (λ (b : Bool). Goes t0 t1 (Puts area b waits after payload end)) done_is goes)
+
+  pub adds_as : (t0 t1 : Option Past) (area : Area) (after : Bool) (end : ℕ) → Goes t0 t1 (Adds area ok after payload end) → Goes t0 t1 (Adds area done after text end)
+  adds_as t0 t1 area after end goes =
+      subst (λ (l : List ℕ). Goes t0 t1 (Adds area done after l end)) is (subst (λ (b : Bool). Goes t0 t1 (Adds area b after payload end)) done_is goes)
+
+  pub grows_as : {D : Type 0} (old new : JournalView D) → Grows ok (length payload) old new → Grows done (length text) old new
+  grows_as old new grows =
+      subst (λ (l : List ℕ). Grows done (length l) old new) is (subst (λ (b : Bool). Grows b (length payload) old new) done_is grows)

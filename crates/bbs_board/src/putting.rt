@@ -1,0 +1,29 @@
+//! Mending what an earlier fault left, and then appending.
+ghost use Rattle.std.specs.Prelude.{◌≡◌, ◌<◌, ◌^◌, false, length, is_ok, is_err};
+ghost use Rattle.byte_ports.specs.Cause.{HasCause};
+ghost use Rattle.disk_trait.specs.Steps.{Goes};
+ghost use Rattle.bbs_journal.specs.Calls.{Adds, Grows};
+ghost use Rattle.bbs_journal.specs.Frames.{IsPayload};
+ghost use Rattle.bbs_board.specs.Puts.{Puts};
+
+use bbs_journal::{DiskFault, Journal};
+use disk_trait::Disk;
+
+/// Puts a payload behind the frames of a journal. Where a failed call left a gate in doubt, that is
+/// closed first, so that only one payload is ever in doubt.
+pub fn put<D: Disk>(journal: &mut Journal<D>, payload: &[u8]) -> Result<(), DiskFault>
+    requires payload { IsPayload payload.now }
+    requires whole { journal.old.broken ≡ false }
+    requires frames { journal.old.frames < 2 ^ 48 }
+    ensures does { Goes (D.told journal.old.disk) (D.told journal.new.disk)
+        (Puts journal.old.area (is_ok result) journal.old.waits journal.new.waits payload.now
+        journal.old.end) }
+    ensures appends { journal.old.waits ≡ false → Goes (D.told journal.old.disk) (D.told journal.new.disk)
+        (Adds journal.old.area (is_ok result) journal.new.waits payload.now journal.old.end) }
+    ensures cause { HasCause (is_err result)
+        (D.fault_count journal.old.disk) (D.fault_count journal.new.disk) }
+    ensures grows { Grows (is_ok result) (length payload.now) journal.old journal.new }
+{
+    journal.mend()?;
+    journal.append(payload)
+}

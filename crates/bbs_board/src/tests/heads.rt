@@ -1,0 +1,219 @@
+//! Boards whose head has rows.
+use super::bytes::{HEAD, area, changed};
+use super::defects::is_damaged;
+use super::{Step, desire, disk_of, done, play, refused, rows_of};
+use bbs_model::{BoardRefusal, Command, Op, Rows};
+use cell_records::{Amounts, CellRow};
+use crash_backoff::Moment;
+use diego_names::{Instance, Key, Name};
+use lrp_records::{Actual, Desired, LrpState, Presence};
+use std::alloc::Global;
+use std::process::Abort;
+use std::test::Fail;
+use task_records::{Task, TaskState};
+
+// At second 9 the EVACUATING row is dropped.
+const DROP: [u8; 28] = *b"\x01\x00\x19\x0d\x00\x00\x00\x09\x03web\x00\x00\x00\x00\
+\x00\x00\x00\x00\x00\x00\x00\x03\x00\x00\x00\x02";
+
+fn web_0() -> Result<Key, Fail> {
+    Ok(Key {
+        process: Name::read(b"web")?,
+        index: 0,
+    })
+}
+
+// A container of the cell that joined in transition 3.
+fn container(number: u32) -> Instance {
+    Instance { epoch: 3, number }
+}
+
+fn desired() -> Result<Desired, Fail> {
+    Ok(Desired {
+        process: Name::read(b"web")?,
+        domain: Name::read(b"apps")?,
+        instances: 3,
+        memory: 64,
+        disk: 128,
+        tag: None,
+        route: None,
+        port: 8080,
+    })
+}
+
+fn claimed() -> Result<Actual, Fail> {
+    let state = LrpState::Claimed {
+        instance: container(1),
+        cell: Name::read(b"c1")?,
+    };
+    Ok(Actual {
+        key: web_0()?,
+        presence: Presence::Ordinary,
+        state,
+        count: 0,
+        since: Moment(5),
+        error: true,
+    })
+}
+
+fn evacuating() -> Result<Actual, Fail> {
+    let state = LrpState::Running {
+        instance: container(2),
+        cell: Name::read(b"c1")?,
+    };
+    Ok(Actual {
+        key: web_0()?,
+        presence: Presence::Evacuating,
+        state,
+        count: 2,
+        since: Moment(4),
+        error: false,
+    })
+}
+
+fn completed() -> Result<Task, Fail> {
+    Ok(Task {
+        name: Name::read(b"job")?,
+        birth: 6,
+        state: TaskState::Completed { failed: true },
+        since: Moment(8),
+        memory: 32,
+        disk: 64,
+        tag: Some(Name::read(b"ssd")?),
+    })
+}
+
+fn emptied() -> Result<CellRow, Fail> {
+    let totals = Amounts {
+        memory: 1024,
+        disk: 2048,
+        containers: 50,
+    };
+    Ok(CellRow {
+        cell: Name::read(b"c1")?,
+        zone: Name::read(b"z1")?,
+        tag: None,
+        totals,
+        epoch: 3,
+        until: 100,
+        evacuating: true,
+    })
+}
+
+fn drop_evacuating() -> Result<Command, Fail> {
+    Ok(Command {
+        now: Moment(9),
+        op: Op::DropEvacuating {
+            key: web_0()?,
+            instance: container(2),
+        },
+    })
+}
+
+// The frame of that command and a closed gate.
+fn dropped(alloc: Global) -> Result<Vec<u8>, Fail> {
+    let mut frames = DROP.to_vec(alloc)?;
+    frames.push(0)?;
+    Ok(frames)
+}
+
+// Checks the rows of the head, but for the actual rows.
+fn has_rows(rt: &impl Abort, rows: &Rows) -> Result<(), Fail> {
+    assert_eq!(rt; rows.desired.items(), [desired()?].as_slice());
+    assert_eq!(rt; rows.tasks.items(), [completed()?].as_slice());
+    assert_eq!(rt; rows.cells.items(), [emptied()?].as_slice());
+    Ok(())
+}
+
+#[test]
+fn the_rows_of_a_head_are_those_of_its_board(rt: HostRuntime) -> Result<(), Fail> {
+    let alloc = rt.alloc();
+    let rows = rows_of(alloc, &area(alloc, &HEAD, b"\0")?, b"")?;
+    has_rows(&rt, &rows)?;
+    let claimed = claimed()?;
+    let evacuating = evacuating()?;
+    assert_eq!(rt; rows.actual.items(), [claimed, evacuating].as_slice());
+    assert_eq!(rt; rows.next, 9);
+    Ok(())
+}
+
+#[test]
+fn commands_go_on_from_the_rows_of_a_head(rt: HostRuntime) -> Result<(), Fail> {
+    let alloc = rt.alloc();
+    let rows = rows_of(alloc, &area(alloc, &HEAD, &dropped(alloc)?)?, b"")?;
+    has_rows(&rt, &rows)?;
+    let claimed = claimed()?;
+    assert_eq!(rt; rows.actual.items(), [claimed].as_slice());
+    assert_eq!(rt; rows.next, 10);
+    Ok(())
+}
+
+#[test]
+fn a_call_is_answered_at_the_rows_of_a_head(rt: HostRuntime) -> Result<(), Fail> {
+    let alloc = rt.alloc();
+    let exists = Step {
+        by: 1,
+        command: desire()?,
+        end: refused(BoardRefusal::Exists, 0),
+    };
+    let dropped = Step {
+        by: 1,
+        command: drop_evacuating()?,
+        end: done(0, 9),
+    };
+    let unknown = Step {
+        end: refused(BoardRefusal::Unknown, 1),
+        ..dropped
+    };
+    let disk = disk_of(alloc, &area(alloc, &HEAD, b"\0")?, b"", &[])?;
+    let (_disk, log, _marks) = play(&rt, alloc, disk, &[exists, dropped, unknown])?;
+    assert_eq!(rt; log.len(), 1);
+    Ok(())
+}
+
+#[test]
+fn the_first_defect_of_a_head_is_told_at_its_place(rt: HostRuntime) -> Result<(), Fail> {
+    let alloc = rt.alloc();
+    let cases: [(usize, u8, u64); 11] = [
+        // 1,048,585 transitions.
+        (5, 16, 23),
+        // A second desired row, where the actual rows begin.
+        (11, 2, 23 + 49),
+        // A process without a name, and one of 1,027 instances.
+        (24, 0, 23 + 24),
+        (35, 4, 23 + 24),
+        // A claim by a cell of the next transition.
+        (66, 9, 23 + 49),
+        // An EVACUATING row that is CLAIMED, and a second ORDINARY row of its key.
+        (92, 1, 23 + 83),
+        (91, 0, 23 + 83),
+        // A task that is born with the next transition, and an outcome of 2.
+        (128, 9, 23 + 117),
+        (130, 2, 23 + 117),
+        // A cell that isn't counted, and one that is neither emptied nor not.
+        (23, 0, 23 + 147),
+        (182, 2, 23 + 147),
+    ];
+    for (place, value, at) in cases {
+        let head = changed(alloc, &HEAD, place, value)?;
+        is_damaged(&rt, alloc, &area(alloc, &head, b"\0")?, at)?;
+        // It stands in front of a defect of the frames.
+        is_damaged(&rt, alloc, &area(alloc, &head, b"\x01")?, at)?;
+    }
+    Ok(())
+}
+
+#[test]
+fn the_frames_behind_a_head_are_told_at_their_gates(rt: HostRuntime) -> Result<(), Fail> {
+    let alloc = rt.alloc();
+    let mut twice = DROP.to_vec(alloc)?;
+    twice.extend_from_slice(&DROP)?;
+    is_damaged(&rt, alloc, &area(alloc, &HEAD, b"")?, 206)?;
+    is_damaged(&rt, alloc, &area(alloc, &HEAD, &DROP)?, 234)?;
+    is_damaged(&rt, alloc, &area(alloc, &HEAD, &twice)?, 234)?;
+    // A head that ends before its rows do, and one that ends behind them.
+    is_damaged(&rt, alloc, &area(alloc, &HEAD[..182], b"\0")?, 23 + 147)?;
+    let mut longer = HEAD.to_vec(alloc)?;
+    longer.push(0)?;
+    is_damaged(&rt, alloc, &area(alloc, &longer, b"\0")?, 206)
+}
