@@ -19,6 +19,10 @@ use Rattle.bbs_model.specs.declared.rows.Rows.{Rows}
 use Rattle.bbs_model.specs.Valid.{IsValid}
 use Rattle.bbs_model.proofs.KeepLogs.{place-within, IsLawful-append}
 use Rattle.bbs_model.proofs.KeepRuns.{next-rows_after}
+use Rattle.std.specs.Prelude.{not}
+use Rattle.byte_ports.specs.Cause.{HasCause}
+use Rattle.bbs_board.specs.Doubts.{doubts_in, RoseForEach}
+use Rattle.bbs_board.proofs.Doubting.{rose_more}
 use Rattle.bbs_board.specs.Puts.{IsOneOf, PutsOne, Puts}
 use Rattle.bbs_board.specs.View.{Holds, MayShow, IsSound}
 use Rattle.bbs_board.proofs.Keeping.{item_of, acknowledged_image, each_acknowledged, kept_by, yields_still}
@@ -120,12 +124,12 @@ puts_extend t0 t1 base log marks since area generation end waits holds ok after 
 
 -- ---- and of the whole board
 
-pub sound_more : {D : Type 0} (told : D → Option Past) (rows base : Rows) (log : List Item) (marks : List ℕ) (since : ℕ) (journal later : JournalView D) → IsSound told rows base log marks since journal
+pub sound_more : {D : Type 0} (told : D → Option Past) (fault_count : D → ℕ) (rows base : Rows) (log : List Item) (marks : List ℕ) (since faults : ℕ) (journal later : JournalView D) → IsSound told fault_count rows base log marks since faults journal
     → (by : ℕ) (c : Command) → FitsCommand c → IsLegal rows c → (ok : Bool) (rows' : Rows) (log' : List Item) (marks' : List ℕ) (mark : ℕ)
     → rows' ≡ after_item rows (item_of ok by c) → log' ≡ log ++ item_of ok by c ∷ [] → marks' ≡ marks ++ mark ∷ [] → IsValid rows' → ((q : Past) → told later.disk ≡ Some q → q.clock ≡ mark)
     → Goes (told journal.disk) (told later.disk) (Puts journal.area ok journal.waits later.waits (spelled c) journal.end) → Grows ok (length (spelled c)) journal later
-    → IsSound told rows' base log' marks' since later
-sound_more {D} told rows base log marks since journal later sound by c fits legal ok rows' log' marks' mark rows_is log_is marks_is valid timed puts grows =
+    → HasCause (not ok) (fault_count journal.disk) (fault_count later.disk) → IsSound told fault_count rows' base log' marks' since faults later
+sound_more {D} told fault_count rows base log marks since faults journal later sound by c fits legal ok rows' log' marks' mark rows_is log_is marks_is valid timed puts grows cause =
     let law : IsLegal (replay_log base log) c = subst (λ (r : Rows). IsLegal r c) sound.rows_are legal in
     let longer : List Item = log ++ item_of ok by c ∷ [] in
     let lead : rows' ≡ replay_log base longer = rows_is ∙ ap (λ (r : Rows). after_item r (item_of ok by c)) sound.rows_are ∙ sym (replay_more base log (item_of ok by c)) in
@@ -136,6 +140,8 @@ sound_more {D} told rows base log marks since journal later sound by c fits lega
       rows_are = lead ∙ ap (replay_log base) (sym log_is);
       whole = grows.stays.broken ∙ sound.whole;
       counted = counts ok rows_is grows.frames;
+      doubted = subst (λ (l : List Item). RoseForEach (doubts_in l) faults (fault_count later.disk)) (sym log_is)
+          (rose_more log ok by c faults (fault_count journal.disk) (fault_count later.disk) sound.doubted cause);
       holds = rw (log_is, marks_is, grows.stays.area, grows.stays.generation, grows.end)
           (holds_then (told journal.disk) (told later.disk) base log marks since journal.area journal.generation journal.end journal.waits sound.holds sound.lawful by c fits law ok later.waits mark timed puts);
     }

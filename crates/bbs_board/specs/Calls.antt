@@ -47,6 +47,7 @@ is_disk_fault (Err fault.OutOfMemory) = false
 pub record Grows {D : Type 0} (done : Bool) (items : List Item) (moment : ℕ) (old new : View D) : Type 0 where
   pub base : new.base ≡ old.base
   pub since : new.since ≡ old.since
+  pub faults : new.faults ≡ old.faults
   pub log : new.log ≡ old.log ++ items
   pub marks : new.marks ≡ old.marks ++ map (λ item. moment) items
   pub idle : items ≡ [] → new ≡ old

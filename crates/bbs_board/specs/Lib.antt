@@ -1,5 +1,6 @@
 pub mod Opening
 pub mod Kept
+pub mod Doubts
 pub mod Puts
 pub mod Stops
 pub mod Calls

@@ -17,17 +17,20 @@ use Rattle.bbs_model.specs.declared.command.Command.{Command}
 use Rattle.bbs_model.specs.declared.item.Item.{Item}
 use Rattle.bbs_model.specs.declared.item.Item.TheVariants.{Done, Doubt}
 use Rattle.bbs_model.specs.declared.rows.Rows.{Rows}
+use Rattle.bbs_board.specs.Doubts.{doubts_in, RoseForEach}
 use Rattle.bbs_board.specs.Kept.{Kept}
 use Rattle.bbs_board.specs.Opening.{board_of}
 
 -- its disk, the rows that it was opened with, the items since then with the disk's clock at the end of
--- the call of each, the clock at the end of its load, and whether a gate has to be mended
+-- the call of each, the clock and the count of faults at the end of its load, and whether a gate has to be
+-- mended
 pub record View (D : Type 0) : Type 0 where
   pub disk : D
   pub base : Rows
   pub log : List Item
   pub marks : List ℕ
   pub since : ℕ
+  pub faults : ℕ
   pub waits : Bool
 
 -- it has done nothing since its load, and nothing waits
@@ -69,12 +72,14 @@ pub record Holds (base : Rows) (log : List Item) (marks : List ℕ) (since : ℕ
   pub kept : Kept base log marks since p
 
 -- so stands each board: it was opened with valid rows, its log is lawful and leads to its rows, which are
--- valid, and its journal has no defect and no more frames than the board has made transitions
-pub record IsSound {D : Type 0} (told : D → Option Past) (rows base : Rows) (log : List Item) (marks : List ℕ) (since : ℕ) (journal : JournalView D) : Type 0 where
+-- valid, each of its doubts has a fault for its cause, and its journal has no defect and no more frames than
+-- the board has made transitions
+pub record IsSound {D : Type 0} (told : D → Option Past) (fault_count : D → ℕ) (rows base : Rows) (log : List Item) (marks : List ℕ) (since faults : ℕ) (journal : JournalView D) : Type 0 where
   pub opened : IsValid base
   pub valid : IsValid rows
   pub lawful : IsLawful base log
   pub rows_are : rows ≡ replay_log base log
   pub whole : journal.broken ≡ false
   pub counted : journal.frames ≤ rows.next
+  pub doubted : RoseForEach (doubts_in log) faults (fault_count journal.disk)
   pub holds : ForSome (told journal.disk) (Holds base log marks since journal.area journal.generation journal.end journal.waits)

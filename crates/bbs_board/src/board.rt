@@ -8,6 +8,7 @@ ghost use Rattle.bbs_model.specs.Replay.{IsLawful};
 ghost use Rattle.bbs_model.specs.Step.{verdict_of, IsLegal};
 ghost use Rattle.bbs_model.specs.Valid.{IsValid};
 ghost use Rattle.bbs_board.specs.Calls.{Ends, added, is_done, is_disk_fault, Grows, Passes};
+ghost use Rattle.bbs_board.specs.Doubts.{doubts_in, RoseForEach};
 ghost use Rattle.bbs_board.specs.Kept.{Kept};
 ghost use Rattle.bbs_board.specs.View.{rows_of};
 
@@ -33,8 +34,9 @@ pub struct Board<D: Disk> {
     pub(crate) log: Vec<Item>,
     // The disk's clock at the end of the call of each item.
     pub(crate) marks: Vec<u64>,
-    // The disk's clock at the end of the load.
+    // The disk's clock and its count of faults at the end of the load.
     pub(crate) since: u64,
+    pub(crate) faults: u64,
 }
 
 impl<D: Disk> Model for Board<D> {
@@ -48,11 +50,12 @@ impl<D: Disk> Model for Board<D> {
       log = b.log.items;
       marks = b.marks.items;
       since = b.since;
+      faults = b.faults;
       waits = b.journal.waits;
     } };
 
-    ghost invariant = { λ b. IsSound D.told b.index.rows b.base b.log.items b.marks.items b.since
-        b.journal };
+    ghost invariant = { λ b. IsSound D.told D.fault_count b.index.rows b.base b.log.items
+        b.marks.items b.since b.faults b.journal };
 }
 
 /// What is left of a board that was closed.
@@ -170,6 +173,7 @@ impl<D: Disk> Board<D> {
             × (result.marks.items ≡ self.marks) }
         ensures lawful { IsValid self.base × IsLawful self.base self.log }
         ensures kept { ForSome (D.told self.disk) (Kept self.base self.log self.marks self.since) }
+        ensures doubts { RoseForEach (doubts_in self.log) self.faults (D.fault_count self.disk) }
     {
         let Board {
             journal,
@@ -178,6 +182,7 @@ impl<D: Disk> Board<D> {
             log,
             marks,
             since: _,
+            faults: _,
         } = self;
         Closed {
             disk: journal.into_disk(),

@@ -40,6 +40,7 @@ pub fn load<D: Disk>(alloc: Global, disk: D) -> Result<Board<D>, (D, LoadFault)>
     ensures found { IfOk result (λ b. (c : Image) → Shows (D.told disk) c → IsBoard b.base c) }
     ensures fresh { IfOk result IsFresh }
     ensures since { IfOk result (λ b. b.since ≡ D.moment b.disk) }
+    ensures faults { IfOk result (λ b. b.faults ≡ D.fault_count b.disk) }
     ensures refused { IfErr result (λ e. (c : Image) → Shows (D.told disk) c → Refuses e.1 c) }
     ensures ok { IfOk result (λ b. Goes (D.told disk) (D.told b.disk) Secures) }
     ensures err { IfErr result (λ e. Goes (D.told disk) (D.told e.0) Keeps) }
@@ -47,6 +48,8 @@ pub fn load<D: Disk>(alloc: Global, disk: D) -> Result<Board<D>, (D, LoadFault)>
     ensures cause { IfErr result (λ e. HasCause (is_disk_fault e.1)
         (D.fault_count disk) (D.fault_count e.0)) }
 {
+    // A load that succeeds meets none.
+    let faults = disk.faults();
     let Loaded {
         journal,
         head,
@@ -63,6 +66,7 @@ pub fn load<D: Disk>(alloc: Global, disk: D) -> Result<Board<D>, (D, LoadFault)>
     match index.rows(alloc) {
         Ok(base) => Ok(Board {
             since: journal.clock(),
+            faults,
             journal,
             index,
             base,

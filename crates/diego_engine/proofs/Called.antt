@@ -6,6 +6,7 @@ use Rattle.bbs_model.specs.Replay.{IsLawful}
 use Rattle.bbs_model.specs.Step.{verdict_of}
 use Rattle.bbs_model.specs.declared.item.Item.{Item}
 use Rattle.bbs_model.specs.declared.rows.Rows.{Rows}
+use Rattle.bbs_board.specs.Doubts.{doubts_in, RoseForEach}
 use Rattle.bbs_board.specs.Kept.{Kept}
 use Rattle.diego_engine.specs.Phase.{command_of, end_of}
 use Rattle.diego_engine.specs.Running.{Ports, Prints, Calls, EndsCall, CallEnds, ending_of}
@@ -16,10 +17,10 @@ use Rattle.diego_engine.specs.declared.script.Script.{Script}
 
 -- the log and the marks of a run are those of its board
 pub ends_call : (script : Script) (rows : Rows) (phase : Phase) (log : List Item) (marks : List ℕ) (v w : Ports) → Calls script rows phase log marks v.told w.told w.clock → HasCause phase.doubt v.disk_faults w.disk_faults
-    → IsLawful rows log → ForSome w.told (Kept rows log marks v.clock)
+    → IsLawful rows log → ForSome w.told (Kept rows log marks v.clock) → RoseForEach (doubts_in log) v.disk_faults w.disk_faults
     → (e : Ended) → e.log.items ≡ log → e.marks.items ≡ marks → e.answers.items ≡ phase.answers.items → (whole : Bool) → Prints whole phase.text.items v w
     → EndsCall script rows whole phase.doubt e v w
-ends_call script rows phase log marks v w calls cause lawful kept e log_is marks_are answers_are whole prints = record {
+ends_call script rows phase log marks v w calls cause lawful kept doubts e log_is marks_are answers_are whole prints = record {
   stored = calls.stored;
   call_end = end_of (verdict_of rows (command_of script)) rows.next calls.stored;
   end_is = refl;
@@ -33,6 +34,7 @@ ends_call script rows phase log marks v w calls cause lawful kept e log_is marks
   lawful = subst (IsLawful rows) (sym log_is) lawful;
   kept = subst (λ (l : List Item). ForSome w.told (Kept rows l e.marks.items v.clock)) (sym log_is)
       (subst (λ (m : List ℕ). ForSome w.told (Kept rows log m v.clock)) (sym marks_are) kept);
+  doubts = subst (λ (l : List Item). RoseForEach (doubts_in l) v.disk_faults w.disk_faults) (sym log_is) doubts;
 }
 
 -- and its ending tells whether its text was written, and whether the disk failed

@@ -13,6 +13,7 @@ use Rattle.bbs_model.specs.Step.{verdict_of}
 use Rattle.bbs_model.specs.Replay.{IsLawful}
 use Rattle.bbs_model.specs.declared.item.Item.{Item}
 use Rattle.bbs_board.specs.Calls.{StoresBy}
+use Rattle.bbs_board.specs.Doubts.{doubts_in, RoseForEach}
 use Rattle.bbs_board.specs.Kept.{Kept}
 use Rattle.bbs_board.specs.Opening.{IsBoard, IsRefused}
 use Rattle.bbs_journal.specs.Shows.{Shows, Keeps as KeepsContent, Secures}
@@ -88,7 +89,8 @@ pub record EndsEarly (failed : Bool) (e : Ended) (v w : Ports) : Type 0 where
   pub prints : Prints whole (line_of e.ending) v w
 
 -- the run made its call at a board with these rows; the disk failed in it or not, and its text was
--- written whole or not; whatever a stop leaves of the disk from then on is a board that its log reaches
+-- written whole or not; whatever a stop leaves of the disk from then on is a board that its log reaches, and
+-- each doubt in the log has a fault of the disk for its cause
 pub record EndsCall (script : Script) (rows : Rows) (whole failed : Bool) (e : Ended) (v w : Ports) : Type 0 where
   pub stored : Bool
   pub call_end : CallEnd
@@ -102,6 +104,7 @@ pub record EndsCall (script : Script) (rows : Rows) (whole failed : Bool) (e : E
   pub prints : Prints whole (run_text script call_end rows.next) v w
   pub lawful : IsLawful rows e.log.items
   pub kept : ForSome w.told (Kept rows e.log.items e.marks.items v.clock)
+  pub doubts : RoseForEach (doubts_in e.log.items) v.disk_faults w.disk_faults
 
 -- how the run ends of a script at a board that was loaded
 abbrev pub CallEnds : Ending → Script → Rows → Ended → Ports → Ports → Type 0

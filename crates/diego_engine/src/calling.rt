@@ -21,7 +21,8 @@ fn make<D: Disk>(alloc: Global, script: &Script, board: &mut Board<D>) -> Result
     ensures calls { IfOk result (λ phase. Calls script.now (rows_of board.old) phase
         board.new.log board.new.marks
         (D.told board.old.disk) (D.told board.new.disk) (D.moment board.new.disk)) }
-    ensures stays { (board.new.base ≡ board.old.base) × (board.new.since ≡ board.old.since) }
+    ensures stays { (board.new.base ≡ board.old.base) × (board.new.since ≡ board.old.since)
+        × (board.new.faults ≡ board.old.faults) }
     ensures cause { HasCause (is_doubtful result)
         (D.fault_count board.old.disk) (D.fault_count board.new.disk) }
     ensures starved { OnErr result (board.new ≡ board.old) }
@@ -51,7 +52,8 @@ pub fn call<D: Disk>(
     ensures calls { IfOk result (λ phase. Calls script.now (rows_of board.old) phase
         board.new.log board.new.marks
         (D.told board.old.disk) (D.told board.new.disk) (D.moment board.new.disk)) }
-    ensures stays { (board.new.base ≡ board.old.base) × (board.new.since ≡ board.old.since) }
+    ensures stays { (board.new.base ≡ board.old.base) × (board.new.since ≡ board.old.since)
+        × (board.new.faults ≡ board.old.faults) }
     ensures cause { HasCause (is_doubtful result)
         (D.fault_count board.old.disk) (D.fault_count board.new.disk) }
     ensures starved { OnErr result (board.new ≡ board.old) }

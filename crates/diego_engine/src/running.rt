@@ -121,6 +121,7 @@ fn run_loaded<K: Sink, D: Disk, G: Gate>(
 ) -> (Ended, D)
     requires fresh { IsFresh board }
     requires since { board.since ≡ D.moment board.disk }
+    requires faults { board.faults ≡ D.fault_count board.disk }
     ensures { CallEnds result.0.ending script.now board.base result.0
         (ports_of (K.held sink.old) (K.faults sink.old)
         (D.told board.disk) (D.fault_count board.disk) (D.moment board.disk))

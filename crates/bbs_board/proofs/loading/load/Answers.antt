@@ -6,6 +6,8 @@ use Rattle.bbs_journal.specs.Reading.{payloads_of}
 use Rattle.bbs_model.specs.Replay.{replay_log, IsLawful}
 use Rattle.bbs_model.specs.Valid.{IsValid}
 use Rattle.bbs_model.specs.declared.rows.Rows.{Rows}
+use Rattle.bbs_model.specs.declared.item.Item.{Item}
+use Rattle.bbs_board.specs.Doubts.{doubts_in, RoseForEach}
 use Rattle.bbs_board.specs.Opening.{board_of, IsBoard}
 use Rattle.bbs_board.proofs.Loaded.{unbroken, counted, loaded_board, loaded_holds}
 use Rattle.bbs_board.proofs.loading.load.Goals as goal
@@ -28,6 +30,8 @@ invariant_of-result g c =
       rows_are = sym base_is ∙ ap (replay_log c.in-Ok-rows.base) (sym log_is);
       whole = fresh.broken ∙ ap is_some none;
       counted = omega (arith, fresh.count, count, length-map c.in-Ok.loaded.frames.items (λ v. v.items));
+      doubted = subst (λ (l : List Item). RoseForEach (doubts_in l) c.faults-faults.result (g.D.Disk.fault_count c.in-Ok.loaded.journal.disk)) (sym log_is)
+          (omega (arith, c.faults-faults.ensures, c.in-Ok.ensures.stood));
       holds = rw (base_is, log_is, marks_is, fresh.mended)
           (loaded_holds _ _ c.in-Ok.loaded.journal.area c.in-Ok.loaded.journal.generation c.in-Ok.loaded.head.items payloads c.in-Ok.loaded.broken c.in-Ok.loaded.journal.end c.in-Ok-board_of.index.rows c.clock.result
           c.in-Ok.ensures.ok timed c.in-Ok.ensures.found c.in-Ok.ensures.end is);

@@ -1,4 +1,6 @@
-use Rattle.std.proofs.Common.{◌≡◌, ◌∙◌, true, false, is_ok, length, refl, sym, ap, subst, arith, rules}
+use Rattle.std.proofs.Common.{◌≡◌, ◌∙◌, Bool, true, false, is_ok, length, refl, sym, ap, subst, arith, rules}
+use Rattle.std.specs.Prelude.{is_err}
+use Rattle.byte_ports.specs.Cause.{HasCause}
 use Rattle.disk_trait.specs.Steps.{Goes}
 use Rattle.bbs_codec.proofs.Commands.{command_least, command_most}
 use Rattle.bbs_model.specs.Replay.{replay_log}
@@ -31,8 +33,9 @@ invariant_of-self-then-is_err-2 g c =
     let law : IsLegal (replay_log c.self.inside.base c.self.inside.log.items) c.args.command.now = subst (λ (v : View g.row.D.Denot). IsLegal (rows_of v) c.args.command.now) (sym c.self.view_is) c.requires in
     let legal : IsLegal c.self.inside.index.rows c.args.command.now = subst (λ (r : Rows). IsLegal r c.args.command.now) (sym c.self.invariant.rows_are) law in
     let failed : is_ok c.put-stored.result ≡ false = search rules in
+    let err : is_err c.put-stored.result ≡ true = search rules in
     let bytes = c.write_command-len.ensures.bytes in
-    sound_more g.D.Disk.told c.self.inside.index.rows c.self.inside.base c.self.inside.log.items c.self.inside.marks.items c.self.inside.since c.self.inside.journal c.put-stored.new.journal c.self.invariant
+    sound_more g.D.Disk.told g.D.Disk.fault_count c.self.inside.index.rows c.self.inside.base c.self.inside.log.items c.self.inside.marks.items c.self.inside.since c.self.inside.faults c.self.inside.journal c.put-stored.new.journal c.self.invariant
     c.args.by c.args.command.now c.write_command-len.ensures.fits legal false c.make_room.new.index.rows c.push_reserved.new.self.items c.push_reserved-then-is_err-2.new.self.items c.clock-mark.result
     c.make_room.ensures.rows
     (c.push_reserved.ensures.items ∙ rw c.make_room.ensures.lists.0 refl)
@@ -41,6 +44,7 @@ invariant_of-self-then-is_err-2 g c =
     (λ q told. g.met.D.Disk.timed c.put-stored.new.journal.disk q told ∙ sym c.clock-mark.ensures)
     (puts_as (is_ok c.put-stored.result) false _ _ failed bytes _ _ _ _ _ _ c.put-stored.ensures.does)
     (grows_as (is_ok c.put-stored.result) false _ _ failed bytes _ _ c.put-stored.ensures.grows)
+    (subst (λ (b : Bool). HasCause b (g.D.Disk.fault_count c.self.inside.journal.disk) (g.D.Disk.fault_count c.put-stored.new.journal.disk)) err c.put-stored.ensures.cause)
 
 pub returns-then-is_err-2-clause-does : goal.returns-then-is_err-2-clause-does
 returns-then-is_err-2-clause-does g c =
@@ -61,8 +65,9 @@ invariant_of-self-2 g c =
     let law : IsLegal (replay_log c.self.inside.base c.self.inside.log.items) c.args.command.now = subst (λ (v : View g.row.D.Denot). IsLegal (rows_of v) c.args.command.now) (sym c.self.view_is) c.requires in
     let legal : IsLegal c.self.inside.index.rows c.args.command.now = subst (λ (r : Rows). IsLegal r c.args.command.now) (sym c.self.invariant.rows_are) law in
     let made : is_ok c.put-stored.result ≡ true = search rules in
+    let err : is_err c.put-stored.result ≡ false = search rules in
     let bytes = c.write_command-len.ensures.bytes in
-    sound_more g.D.Disk.told c.self.inside.index.rows c.self.inside.base c.self.inside.log.items c.self.inside.marks.items c.self.inside.since c.self.inside.journal c.put-stored.new.journal c.self.invariant
+    sound_more g.D.Disk.told g.D.Disk.fault_count c.self.inside.index.rows c.self.inside.base c.self.inside.log.items c.self.inside.marks.items c.self.inside.since c.self.inside.faults c.self.inside.journal c.put-stored.new.journal c.self.invariant
     c.args.by c.args.command.now c.write_command-len.ensures.fits legal true c.apply-events.new.store.rows c.push_reserved-2.new.self.items c.push_reserved-3.new.self.items c.clock-mark.result
     (c.apply-events.ensures.state ∙ ap (λ (r : Rows). rows_after r c.args.command.now) c.make_room.ensures.rows)
     (c.push_reserved-2.ensures.items ∙ rw c.make_room.ensures.lists.0 refl)
@@ -71,6 +76,7 @@ invariant_of-self-2 g c =
     (λ q told. g.met.D.Disk.timed c.put-stored.new.journal.disk q told ∙ sym c.clock-mark.ensures)
     (puts_as (is_ok c.put-stored.result) true _ _ made bytes _ _ _ _ _ _ c.put-stored.ensures.does)
     (grows_as (is_ok c.put-stored.result) true _ _ made bytes _ _ c.put-stored.ensures.grows)
+    (subst (λ (b : Bool). HasCause b (g.D.Disk.fault_count c.self.inside.journal.disk) (g.D.Disk.fault_count c.put-stored.new.journal.disk)) err c.put-stored.ensures.cause)
 
 pub returns-clause-does : goal.returns-clause-does
 returns-clause-does g c =
