@@ -5,3 +5,4 @@ pub mod Lengths
 pub mod Sums
 pub mod Elements
 pub mod Parts
+pub mod Tables

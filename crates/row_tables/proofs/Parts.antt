@@ -9,7 +9,7 @@ use Rattle.std.proofs.lemmas.List.Elements.{All-head, All-tail}
 use Rattle.row_tables.specs.Table.{IsKeyOrder, put_row, keyed, IsRising}
 use Rattle.row_tables.proofs.Rising.{first_of_both, second_of_both, below_rest, IsRising-tail, IsRising-put_row}
 
-both_parts : (a b : Bool) → T a → T b → T (a && b)
+pub both_parts : (a b : Bool) → T a → T b → T (a && b)
 both_parts true b g h = h
 both_parts false b g h = g
 

@@ -1,9 +1,10 @@
 -- The laws of tables, each for rows of any type with keys in any order that tells keys apart.
-use Rattle.std.specs.Prelude.{◌≡◌, ◌≢◌, ℕ, ◌+◌, List, length, Some, None}
+use Rattle.std.specs.Prelude.{◌≡◌, ◌≢◌, ℕ, ◌+◌, List, length, map, Some, None}
 use Rattle.std.specs.declared.cmp.Ordering.{Ordering}
-use Rattle.std.specs.List.{sum_by, Contains}
+use Rattle.std.specs.List.{sum_by, AllPairs, Contains}
+use Rattle.std.specs.List.Sorted.{IsPermutation, IsSortedByKey}
 use Rattle.std.specs.Option.{option_map_or}
-use Rattle.row_tables.specs.Table.{find_row, put_row, without_row, IsRising}
+use Rattle.row_tables.specs.Table.{find_row, put_row, without_row, IsRising, table}
 
 -- a row that was put is found at its key, and the other keys answer as before
 pub record FindsAfterPut {K X : Type 0} (R : K → K → Ordering) (key : X → K) : Type 0 where
@@ -52,3 +53,9 @@ pub record FindsItsRows {K X : Type 0} (R : K → K → Ordering) (key : X → K
   pub inside : (q : K) (x : X) (xs : List X) → find_row R key q xs ≡ Some x → Contains xs x
   pub found : (x : X) (xs : List X) → IsRising R key xs → Contains xs x →
       find_row R key (key x) xs ≡ Some x
+
+-- the same rows in rising order are the table of them, and so are rows of unlike keys after a sort
+pub record SortsToTable {K X : Type 0} (R : K → K → Ordering) (key : X → K) : Type 0 where
+  pub rising : (xs ys : List X) → IsRising R key ys → IsPermutation xs ys → ys ≡ table R key xs
+  pub sorted : (xs ys : List X) → AllPairs (λ a b. a ≢ b) (map key xs) → IsSortedByKey key R ys →
+      IsPermutation xs ys → ys ≡ table R key xs

@@ -35,3 +35,8 @@ module _ {K X : Type 0} (R : K → K → Ordering) (key : X → K) where
   -- each key is below those after it
   abbrev pub IsRising : List X → Type 0
   IsRising xs = T (is_sorted R (keyed xs))
+
+  -- the rows, each in its place
+  abbrev pub table : List X → List X
+  table [] = []
+  table (x ∷ xs) = put_row x (table xs)

@@ -2,7 +2,7 @@
 //! None of these functions does anything: each is there for what it ensures.
 ghost use Rattle.std.specs.declared.cmp.Ordering.{Ordering};
 ghost use Rattle.row_tables.specs.Table.{IsKeyOrder};
-ghost use Rattle.row_tables.specs.Laws.{FindsAfterPut, FindsAfterRemoval, KeepRising, CountRows, SumRows, SameRows, FindsItsRows};
+ghost use Rattle.row_tables.specs.Laws.{FindsAfterPut, FindsAfterRemoval, KeepRising, CountRows, SumRows, SameRows, FindsItsRows, SortsToTable};
 
 /// What is found after a row was put.
 pub fn finds_after_put<K, X>()
@@ -39,6 +39,11 @@ pub fn same_rows<K, X>()
     ensures { (R : K → K → Ordering) (key : X → K) → IsKeyOrder R → SameRows R key }
 {}
 
+/// The same rows in rising order are their table.
+pub fn sorts_to_table<K, X>()
+    ensures { (R : K → K → Ordering) (key : X → K) → IsKeyOrder R → SortsToTable R key }
+{}
+
 #[cfg(test)]
 mod tests {
     use super::*;
@@ -52,5 +57,6 @@ mod tests {
         length_after_change::<u32, u8>();
         sum_after_change::<u32, u8>();
         same_rows::<u32, u8>();
+        sorts_to_table::<u32, u8>();
     }
 }
