@@ -7,14 +7,8 @@ use Rattle.disk_trait.specs.Steps.{Goes}
 pub goes_back : (before after : Option Past) (Does : Past → Past → Type 0) → Goes before after Does → (q : Past) → after ≡ Some q → (p : Past) × (before ≡ Some p) × Does p q
 goes_back None None Does goes q is = absurd (cc)
 goes_back None (Some x) Does goes q is = absurd goes
-goes_back (Some p) None Does goes q is = absurd goes
+goes_back (Some p) None Does goes q is = absurd (cc)
 goes_back (Some p) (Some x) Does goes q is = let e : x ≡ q = cc in (p, refl, subst (Does p) e goes)
-
--- where it tells its past before a call, it tells it after
-pub goes_on : (before after : Option Past) (Does : Past → Past → Type 0) → Goes before after Does → (p : Past) → before ≡ Some p → (q : Past) × (after ≡ Some q) × Does p q
-goes_on None after Does goes p is = absurd (cc)
-goes_on (Some x) None Does goes p is = absurd goes
-goes_on (Some x) (Some q) Does goes p is = let e : x ≡ p = cc in (q, refl, subst (λ (r : Past). Does r q) e goes)
 
 -- a call without which nothing was told differently
 pub goes_same : (told : Option Past) (Does : Past → Past → Type 0) → ((p : Past) → told ≡ Some p → Does p p) → Goes told told Does
@@ -25,7 +19,7 @@ goes_same (Some p) Does does = does p refl
 pub goes_weaker : (before after : Option Past) (Does Less : Past → Past → Type 0) → ((p q : Past) → before ≡ Some p → after ≡ Some q → Does p q → Less p q) → Goes before after Does → Goes before after Less
 goes_weaker None None Does Less weaker goes = tt
 goes_weaker None (Some q) Does Less weaker goes = goes
-goes_weaker (Some p) None Does Less weaker goes = goes
+goes_weaker (Some p) None Does Less weaker goes = tt
 goes_weaker (Some p) (Some q) Does Less weaker goes = weaker p q refl refl goes
 
 -- one call, and then another
@@ -35,6 +29,7 @@ pub goes_then : (before between after : Option Past) (First Second Both : Past �
 goes_then None None None First Second Both both first second = tt
 goes_then None None (Some r) First Second Both both first second = second
 goes_then None (Some q) after First Second Both both first second = absurd first
-goes_then (Some p) None after First Second Both both first second = absurd first
-goes_then (Some p) (Some q) None First Second Both both first second = second
+goes_then (Some p) None None First Second Both both first second = tt
+goes_then (Some p) None (Some r) First Second Both both first second = absurd second
+goes_then (Some p) (Some q) None First Second Both both first second = tt
 goes_then (Some p) (Some q) (Some r) First Second Both both first second = both p q r refl refl refl first second

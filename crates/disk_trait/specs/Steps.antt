@@ -4,11 +4,11 @@ use Rattle.disk_trait.specs.Held.{Held, Range, Torn}
 use Rattle.disk_trait.specs.Past.{Past, now, other}
 use Rattle.disk_trait.specs.declared.area.Area.{Area}
 
--- what is told goes on being told, and does this
+-- what is still told has done this; who is silent stays silent
 abbrev pub Goes : Option Past → Option Past → (Past → Past → Type 0) → Type 0
 Goes None None Does = Unit {0}
 Goes None (Some q) Does = ⊥
-Goes (Some p) None Does = ⊥
+Goes (Some p) None Does = Unit {0}
 Goes (Some p) (Some q) Does = Does p q
 
 -- a call takes one moment, if it succeeds or fails; at the clock's last value it fails and takes none
@@ -34,9 +34,14 @@ pub record Changes (area : Area) (Step : Held → Held → Type 0) (p q : Past) 
   pub here : Step (now p area) (now q area)
   pub there : now q (other area) ≡ now p (other area)
 
--- the room holds the bytes from `at` on, as far as both reach, and behind them what it held before
+-- the room begins with the bytes from `at` on, as far as both reach
 pub record Filled (bytes : List ℕ) (at count : ℕ) (before after : List ℕ) : Type 0 where
   pub count_is : count ≡ min (length before) (length bytes - at)
+  pub front : take count after ≡ take count (drop at bytes)
+
+-- so filled, and behind these bytes the room holds what it held before
+pub record FilledOnly (bytes : List ℕ) (at count : ℕ) (before after : List ℕ) : Type 0 where
+  pub filled : Filled bytes at count before after
   pub room : after ≡ take count (drop at bytes) ++ drop count before
 
 -- the list with these bytes over it from `at` on

@@ -1,5 +1,6 @@
 // A disk as its users see it. Its past tells what a read gives and what a stop may leave, at each
-// moment so far. A disk may also tell nothing: then the causes of its faults and its clock are known.
+// moment so far. A disk may also tell nothing, from the start or from some call on, and then never
+// again: of it the causes of its faults and its clock are known.
 ghost use Rattle.std.specs.Prelude.{◌≡◌, ℕ, ◌≤◌, Option, Some, length, is_ok, is_err, IfOk};
 ghost use Rattle.std.specs.Option.{ForSome};
 ghost use Rattle.byte_ports.specs.Cause.{HasCause};
@@ -22,17 +23,18 @@ pub trait Disk {
     /// The length of an area in bytes.
     fn len(&mut self, area: Area) -> Result<u64, Failed>
         ensures len { IfOk result
-            (λ n. ForSome (told self.old) (λ p. n ≡ length (content p area))) }
+            (λ n. ForSome (told self.new) (λ p. n ≡ length (content p area))) }
         ensures does { Goes (told self.old) (told self.new) Looks }
         ensures time { Ticks (is_ok result) (moment self.old) (moment self.new) }
         ensures cause { HasCause (is_err result) (fault_count self.old) (fault_count self.new) };
 
     /// Fills the room with the area's bytes from `at` on, and answers how many there were: fewer than
-    /// it holds where the area ends, and 0 past its end. After `Failed` the room may hold anything.
+    /// it holds where the area ends, and 0 past its end. Behind these the room may hold anything, and
+    /// after `Failed` all of it may.
     fn read_at(&mut self, area: Area, at: u64, room: &mut [u8]) -> Result<usize, Failed>
         ensures bound { IfOk result (λ n. n ≤ length room.old) }
         ensures bytes { IfOk result
-            (λ n. ForSome (told self.old) (λ p. Filled (content p area) at n room.old room.new)) }
+            (λ n. ForSome (told self.new) (λ p. Filled (content p area) at n room.old room.new)) }
         ensures does { Goes (told self.old) (told self.new) Looks }
         ensures time { Ticks (is_ok result) (moment self.old) (moment self.new) }
         ensures cause { HasCause (is_err result) (fault_count self.old) (fault_count self.new) };

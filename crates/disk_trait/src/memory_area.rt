@@ -1,7 +1,7 @@
 // An area held in memory: its bytes now, and what was done to them. Each earlier state is had by
 // undoing what was done since, so a read costs the same however much was written before.
 ghost use Rattle.std.specs.Prelude.{◌≡◌, ◌-◌, ◌^◌, ◌<◌, ◌≤◌, [], length, is_ok, OnOk, OnErr};
-ghost use Rattle.disk_trait.specs.Steps.{Wrote, Synced, Filled, overwritten};
+ghost use Rattle.disk_trait.specs.Steps.{Wrote, Synced, FilledOnly, overwritten};
 ghost use Rattle.disk_trait.specs.Deeds.{Sound, Sound-prop, NumberedTo};
 
 use crate::deed::{Deed, Entry};
@@ -100,7 +100,7 @@ pub(crate) fn lay(target: &mut Vec<u8>, at: usize, bytes: &[u8]) -> Result<(), A
 
 /// Copies what there is from `at` on, and answers how many bytes there were.
 pub(crate) fn fill(bytes: &[u8], at: u64, room: &mut [u8]) -> usize
-    ensures { Filled bytes.now at result room.old room.new }
+    ensures { FilledOnly bytes.now at result room.old room.new }
 {
     let from = bytes.len().min(at as usize);
     let count = room.len().min(bytes.len() - from);

@@ -3,7 +3,7 @@ ghost use Rattle.std.specs.Prelude.{◌≡◌, ◌-◌, ◌^◌, ◌<◌, ◌≤
 ghost use Rattle.std.specs.Option.{ForSome};
 ghost use Rattle.byte_ports.specs.Cause.{HasCause};
 ghost use Rattle.disk_trait.specs.Past.{Past, content};
-ghost use Rattle.disk_trait.specs.Steps.{Goes, Looks, Changes, Wrote, Synced, Filled, Ticks};
+ghost use Rattle.disk_trait.specs.Steps.{Goes, Looks, Changes, Wrote, Synced, Filled, FilledOnly, Ticks};
 ghost use Rattle.disk_trait.specs.MemoryAreas.{Numbered, Numbered-prop};
 
 use crate::areas::Areas;
@@ -176,7 +176,7 @@ impl Disk for MemoryDisk {
 
     fn len(&mut self, area: Area) -> Result<u64, Failed>
         ensures len { IfOk result
-            (λ n. ForSome (Some (memory_past self.old)) (λ p. n ≡ length (content p area))) }
+            (λ n. ForSome (Some (memory_past self.new)) (λ p. n ≡ length (content p area))) }
         ensures does { Goes (Some (memory_past self.old)) (Some (memory_past self.new)) Looks }
         ensures time { Ticks (is_ok result) (calls_of self.old) (calls_of self.new) }
         ensures cause { HasCause (is_err result) (faults_of self.old) (faults_of self.new) }
@@ -192,8 +192,10 @@ impl Disk for MemoryDisk {
     fn read_at(&mut self, area: Area, at: u64, room: &mut [u8]) -> Result<usize, Failed>
         ensures bound { IfOk result (λ n. n ≤ length room.old) }
         ensures bytes { IfOk result
-            (λ n. ForSome (Some (memory_past self.old))
+            (λ n. ForSome (Some (memory_past self.new))
             (λ p. Filled (content p area) at n room.old room.new)) }
+        ensures only { IfOk result
+            (λ n. FilledOnly (content (memory_past self.old) area) at n room.old room.new) }
         ensures does { Goes (Some (memory_past self.old)) (Some (memory_past self.new)) Looks }
         ensures time { Ticks (is_ok result) (calls_of self.old) (calls_of self.new) }
         ensures cause { HasCause (is_err result) (faults_of self.old) (faults_of self.new) }
