@@ -85,11 +85,11 @@ module _ (base : Rows) (since : ℕ) (q : Past) (since_is : q.clock ≡ since) (
 -- what was loaded stands on the disk, whatever a stop leaves
 pub loaded_holds : (t0 t1 : Option Past) (area : Area) (generation : ℕ) (head : List ℕ) (payloads : List (List ℕ)) (broken : Option ℕ) (end : ℕ) (rows : Rows) (since : ℕ) → Goes t0 t1 Secures
     → ((q : Past) → t1 ≡ Some q → q.clock ≡ since)
-    → ((c : Image) → Shows t0 c → IsOpening c area generation head payloads broken end) → end ≡ 23 + length head + bytes_of payloads → board_of area head payloads broken ≡ Ok rows
+    → ((c : Image) → Shows t1 c → IsOpening c area generation head payloads broken end) → end ≡ 23 + length head + bytes_of payloads → board_of area head payloads broken ≡ Ok rows
     → ForSome t1 (Holds rows [] [] since area generation end false)
 loaded_holds t0 t1 area generation head payloads broken end rows since goes timed found place is q told =
     let back = goes_back t0 t1 Secures goes q told in
-    let shows : Shows t0 (content q) = subst (λ (t : Option Past). Shows t (content q)) (sym back.1) (λ a. sym (back.2.keeps.same a)) in
+    let shows : Shows t1 (content q) = subst (λ (t : Option Past). Shows t (content q)) (sym told) (λ a. refl) in
     let none : broken ≡ None = unbroken area head payloads broken rows is in
     let opening : IsOpening (content q) area generation head payloads None end =
     subst (λ (b : Option ℕ). IsOpening (content q) area generation head payloads b end) none (found (content q) shows) in

@@ -6,6 +6,7 @@ mod following;
 mod head;
 mod laws;
 mod loading;
+mod memory_loading;
 mod putting;
 mod room;
 
@@ -16,6 +17,7 @@ pub use laws::{
     tasks_complete_once_over_a_stop,
 };
 pub use loading::load;
+pub use memory_loading::load_from_memory;
 
 #[cfg(test)]
 mod tests;

@@ -37,11 +37,11 @@ fn board_of(
 
 /// Loads the board that a disk holds, and syncs both areas. It writes nothing.
 pub fn load<D: Disk>(alloc: Global, disk: D) -> Result<Board<D>, (D, LoadFault)>
-    ensures found { IfOk result (λ b. (c : Image) → Shows (D.told disk) c → IsBoard b.base c) }
+    ensures found { IfOk result (λ b. (c : Image) → Shows (D.told b.disk) c → IsBoard b.base c) }
     ensures fresh { IfOk result IsFresh }
     ensures since { IfOk result (λ b. b.since ≡ D.moment b.disk) }
     ensures faults { IfOk result (λ b. b.faults ≡ D.fault_count b.disk) }
-    ensures refused { IfErr result (λ e. (c : Image) → Shows (D.told disk) c → Refuses e.1 c) }
+    ensures refused { IfErr result (λ e. (c : Image) → Shows (D.told e.0) c → Refuses e.1 c) }
     ensures ok { IfOk result (λ b. Goes (D.told disk) (D.told b.disk) Secures) }
     ensures err { IfErr result (λ e. Goes (D.told disk) (D.told e.0) Keeps) }
     ensures stood { IfOk result (λ b. D.fault_count b.disk ≡ D.fault_count disk) }

@@ -107,13 +107,13 @@ found_kept found p counts settled is = record {
 
 -- ---- the same, where the disk may tell nothing
 
-pub kept_found : (t0 t1 t2 : Option Past) (found : Found) → Goes t0 t1 Secures → Goes t1 t2 Peeks → IsCounted found → ((c : Image) → Shows t1 c → IsFound c found)
+pub kept_found : (t0 t1 t2 : Option Past) (found : Found) → Goes t0 t1 Secures → Goes t1 t2 Peeks → IsCounted found → ((c : Image) → Shows t2 c → IsFound c found)
     → ForSome t2 (IsKept found.place.area found.place.generation found.place.end found.place.frames false found.place.broken found.place.gate)
 kept_found t0 t1 t2 found synced peeked counts shows q is =
     let back = goes_back t1 t2 Peeks peeked q is in
     let first = goes_back t0 t1 Secures synced back.0 back.1 in
     let settled : IsSettled q = λ area. subst IsSettledArea (sym (back.2.still area)) (first.2.settled area) in
-    let shown : Shows t1 (content q) = subst (λ (t : Option Past). Shows t (content q)) (sym back.1) (λ area. sym (back.2.keeps.same area)) in
+    let shown : Shows t2 (content q) = subst (λ (t : Option Past). Shows t (content q)) (sym is) (λ area. refl) in
     found_kept found q counts settled (shows (content q) shown)
 
 pub secured : (t0 t1 t2 : Option Past) → Goes t0 t1 Secures → Goes t1 t2 Peeks → Goes t0 t2 Secures
@@ -122,9 +122,3 @@ secured t0 t1 t2 first second =
 
 pub kept_on : (t0 t1 t2 : Option Past) → Goes t0 t1 Secures → Goes t1 t2 Peeks → Goes t0 t2 Keeps
 kept_on t0 t1 t2 first second = goes_then t0 t1 t2 Secures Peeks Keeps (λ p q r i j k s peeks. keeps_then p q r s.keeps peeks.keeps) first second
-
--- what is shown after a sync was shown before it
-pub shows_secured : (t0 t1 : Option Past) (c : Image) → Goes t0 t1 Secures → Shows t0 c → Shows t1 c
-shows_secured None t1 c goes shows = absurd shows
-shows_secured (Some p) None c goes shows = absurd goes
-shows_secured (Some p) (Some q) c goes shows = λ area. goes.keeps.same area ∙ shows area

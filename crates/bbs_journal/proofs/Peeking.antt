@@ -1,5 +1,5 @@
 -- Looking at a disk, and syncing it, step by step.
-use Rattle.std.proofs.Common.{◌≡◌, ℕ, Bool, true, false, Option, Some, None, List, refl, Result, Ok, Err, IfOk, sym, ap, ◌∙◌, subst, arith, inl, inr}
+use Rattle.std.proofs.Common.{◌≡◌, ℕ, Bool, true, false, Option, Some, None, List, refl, Result, Ok, Err, IfOk, IfErr, sym, ap, ◌∙◌, subst, arith, inl, inr}
 use Rattle.std.proofs.lemmas.Bool.Decides.{leb_tells}
 use Rattle.disk_trait.specs.Held.{Held, Leaves, Has, IsSettledArea}
 use Rattle.disk_trait.specs.Past.{Past, Image, now, content, other}
@@ -102,11 +102,11 @@ peeks_none t = goes_same t Peeks (λ p is. peeks_same p)
 pub peeks_then : (t0 t1 t2 : Option Past) → Goes t0 t1 Peeks → Goes t1 t2 Peeks → Goes t0 t2 Peeks
 peeks_then t0 t1 t2 first second = goes_then t0 t1 t2 Peeks Peeks Peeks (λ p q r i j k f s. peeks_after p q r f s) first second
 
--- what is shown is shown again
-pub shows_on : (t0 t1 : Option Past) (c : Image) → Goes t0 t1 Peeks → Shows t0 c → Shows t1 c
-shows_on None t1 c goes shows = absurd shows
-shows_on (Some p) None c goes shows = absurd goes
-shows_on (Some p) (Some q) c goes shows = λ area. goes.keeps.same area ∙ shows area
+-- what is shown after a look was shown before it
+pub shows_back : (t0 t1 : Option Past) (c : Image) → Goes t0 t1 Peeks → Shows t1 c → Shows t0 c
+shows_back t0 None c goes shows = absurd shows
+shows_back None (Some q) c goes shows = absurd goes
+shows_back (Some p) (Some q) c goes shows = λ area. sym (goes.keeps.same area) ∙ shows area
 
 -- what is so of a value has this for a consequence
 pub if_ok_weaker : {X E : Type 0} (r : Result X E) (P Q : X → Type 0) → ((x : X) → P x → Q x) → IfOk r P → IfOk r Q
@@ -116,3 +116,7 @@ if_ok_weaker (Err e) P Q weaker holds = holds
 pub if_ok_both : {X E : Type 0} (r : Result X E) (P Q R : X → Type 0) → ((x : X) → P x → Q x → R x) → IfOk r P → IfOk r Q → IfOk r R
 if_ok_both (Ok x) P Q R both first second = both x first second
 if_ok_both (Err e) P Q R both first second = first
+
+pub if_err_weaker : {X E : Type 0} (r : Result X E) (P Q : E → Type 0) → ((e : E) → P e → Q e) → IfErr r P → IfErr r Q
+if_err_weaker (Ok x) P Q weaker holds = holds
+if_err_weaker (Err e) P Q weaker holds = weaker e holds

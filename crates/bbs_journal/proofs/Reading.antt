@@ -1,7 +1,7 @@
 -- What the bytes in front of a reader tell it.
-use Rattle.std.proofs.Common.{◌≡◌, ℕ, ◌-◌, ◌≤◌, min, Option, Some, None, List, length, take, drop, refl, sym, ap, ◌∙◌, subst, arith, length-drop, take_at}
+use Rattle.std.proofs.Common.{◌≡◌, ℕ, ◌-◌, ◌≤◌, min, Option, Some, None, List, length, take, drop, refl, sym, ap, ◌∙◌, subst, arith, length-drop}
 use Rattle.std.specs.Option.{ForSome}
-use Rattle.std.proofs.lemmas.List.{take_min, length-take-le}
+use Rattle.std.proofs.lemmas.List.{take_min}
 use Rattle.disk_trait.specs.Past.{Past, Image, content}
 use Rattle.disk_trait.specs.Steps.{Filled}
 use Rattle.disk_trait.specs.declared.area.Area.{Area}
@@ -11,8 +11,7 @@ use Rattle.bbs_journal.specs.Shows.{Shows}
 filled_front : (bytes : List ℕ) (n : ℕ) (before after : List ℕ) → length before ≡ 31 → Filled bytes 0 n before after → take n after ≡ take 31 bytes
 filled_front bytes n before after len filled =
     let count : n ≡ min 31 (length bytes) = omega (arith, filled.count_is, len) in
-    ap (take n) filled.room ∙ take_at (take n bytes) (drop n before) n (length-take-le n bytes (omega (arith, count)))
-    ∙ ap (λ (k : ℕ). take k bytes) count ∙ take_min 31 bytes
+    filled.front ∙ ap (λ (k : ℕ). take k bytes) count ∙ take_min 31 bytes
 
 pub shown_front : (t : Option Past) (area : Area) (n : ℕ) (before after : List ℕ) → length before ≡ 31 → ForSome t (λ p. Filled (content p area) 0 n before after) → (c : Image) → Shows t c → take n after ≡ front (c area)
 shown_front None area n before after len filled c shows = absurd shows
@@ -30,8 +29,7 @@ filled_part bytes at n len m before after room within len_is m_is filled =
     let same : m ≡ n = omega (arith, count, m_is, len_is) in
     let rest = length-drop at bytes in
     record {
-      taken = ap (λ (k : ℕ). take k after) same ∙ ap (take n) filled.room ∙ take_at (take n (drop at bytes)) (drop n before) n (length-take-le n (drop at bytes) (omega (arith, count, rest)))
-          ∙ ap (λ (k : ℕ). take k (drop at bytes)) (sym same);
+      taken = ap (λ (k : ℕ). take k after) same ∙ filled.front ∙ ap (λ (k : ℕ). take k (drop at bytes)) (sym same);
       count = omega (arith, same, count, rest);
     }
 

@@ -35,8 +35,8 @@ pub(crate) struct Found {
 }
 
 fn choose_area<D: Disk>(disk: &mut D) -> Result<Chosen, LoadFault>
-    ensures shows { IfOk result (λ x. (c : Image) → Shows (D.told disk.old) c → IsChosen c x) }
-    ensures fault { IfErr result (λ e. (c : Image) → Shows (D.told disk.old) c →
+    ensures shows { IfOk result (λ x. (c : Image) → Shows (D.told disk.new) c → IsChosen c x) }
+    ensures fault { IfErr result (λ e. (c : Image) → Shows (D.told disk.new) c →
         Fails e (headed c)) }
     ensures does { Goes (D.told disk.old) (D.told disk.new) Peeks }
     ensures cause { HasCause (failed is_disk_fault result)
@@ -70,7 +70,7 @@ fn read_head<D: Disk>(
     size: u32,
 ) -> Result<Vec<u8>, LoadFault>
     ensures len { IfOk result (λ v. length v.items ≡ size) }
-    ensures shows { IfOk result (λ v. (c : Image) → Shows (D.told disk.old) c →
+    ensures shows { IfOk result (λ v. (c : Image) → Shows (D.told disk.new) c →
         23 + size ≤ length (c area) → v.items ≡ take size (drop 23 (c area))) }
     ensures free { IfErr result IsFree }
     ensures does { Goes (D.told disk.old) (D.told disk.new) Peeks }
@@ -91,7 +91,7 @@ fn read_sized<D: Disk>(
     size: u32,
 ) -> Result<Found, LoadFault>
     requires { 23 + size ≤ len }
-    ensures shows { IfOk result (λ f. (c : Image) → Shows (D.told disk.old) c →
+    ensures shows { IfOk result (λ f. (c : Image) → Shows (D.told disk.new) c →
         IsChosen c chosen → IsSized c chosen.active len size → IsFound c f) }
     ensures counts { IfOk result IsCounted }
     ensures free { IfErr result IsFree }
@@ -119,10 +119,10 @@ fn read_sized<D: Disk>(
 }
 
 fn read_area<D: Disk>(alloc: Global, disk: &mut D, chosen: Chosen) -> Result<Found, LoadFault>
-    ensures shows { IfOk result (λ f. (c : Image) → Shows (D.told disk.old) c →
+    ensures shows { IfOk result (λ f. (c : Image) → Shows (D.told disk.new) c →
         IsChosen c chosen → IsFound c f) }
     ensures counts { IfOk result IsCounted }
-    ensures fault { IfErr result (λ e. (c : Image) → Shows (D.told disk.old) c →
+    ensures fault { IfErr result (λ e. (c : Image) → Shows (D.told disk.new) c →
         IsChosen c chosen → Fails e (headed c)) }
     ensures does { Goes (D.told disk.old) (D.told disk.new) Peeks }
     ensures cause { HasCause (failed is_disk_fault result)
@@ -137,9 +137,9 @@ fn read_area<D: Disk>(alloc: Global, disk: &mut D, chosen: Chosen) -> Result<Fou
 
 /// Both areas' first bytes tell which of them is read; then come its head and all its frames.
 pub(crate) fn find<D: Disk>(alloc: Global, disk: &mut D) -> Result<Found, LoadFault>
-    ensures shows { IfOk result (λ f. (c : Image) → Shows (D.told disk.old) c → IsFound c f) }
+    ensures shows { IfOk result (λ f. (c : Image) → Shows (D.told disk.new) c → IsFound c f) }
     ensures counts { IfOk result IsCounted }
-    ensures fault { IfErr result (λ e. (c : Image) → Shows (D.told disk.old) c →
+    ensures fault { IfErr result (λ e. (c : Image) → Shows (D.told disk.new) c →
         Fails e (headed c)) }
     ensures does { Goes (D.told disk.old) (D.told disk.new) Peeks }
     ensures cause { HasCause (failed is_disk_fault result)

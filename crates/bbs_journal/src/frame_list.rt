@@ -31,7 +31,7 @@ fn read_next<D: Disk>(
     len: u64,
 ) -> Result<Next, LoadFault>
     requires { at ≤ len }
-    ensures shows { IfOk result (λ next. (c : Image) → Shows (D.told disk.old) c →
+    ensures shows { IfOk result (λ next. (c : Image) → Shows (D.told disk.new) c →
         len ≡ length (c area) → IsAt next (drop at (c area))) }
     ensures within { IfOk result (λ next. IsWithin next (len - at)) }
     ensures free { IfErr result IsFree }
@@ -54,7 +54,7 @@ pub(crate) fn read_frames<D: Disk>(
     len: u64,
 ) -> Result<Frames, LoadFault>
     requires { start ≤ len }
-    ensures shows { IfOk result (λ f. (c : Image) → Shows (D.told disk.old) c →
+    ensures shows { IfOk result (λ f. (c : Image) → Shows (D.told disk.new) c →
         len ≡ length (c area) →
         AreFrames (payloads_of f.payloads.items) f.broken f.end start (drop start (c area))) }
     ensures end { IfOk result (λ f.

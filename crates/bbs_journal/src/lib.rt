@@ -14,6 +14,7 @@ mod laws;
 mod load_fault;
 mod loading;
 mod look;
+mod memory_loading;
 mod other_gate;
 mod place;
 mod preparing;
@@ -29,6 +30,7 @@ pub use laws::{
 };
 pub use load_fault::LoadFault;
 pub use loading::{Loaded, load};
+pub use memory_loading::load_from_memory;
 pub use other_gate::OtherGate;
 pub use preparing::{PrepareFault, prepare, what_is_prepared_is_opened};
 

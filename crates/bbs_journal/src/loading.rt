@@ -27,11 +27,11 @@ pub struct Loaded<D: Disk> {
 }
 
 fn read_disk<D: Disk>(alloc: Global, disk: &mut D) -> Result<Found, LoadFault>
-    ensures shows { IfOk result (λ f. (c : Image) → Shows (D.told disk.old) c → IsFound c f) }
+    ensures shows { IfOk result (λ f. (c : Image) → Shows (D.told disk.new) c → IsFound c f) }
     ensures counts { IfOk result IsCounted }
     ensures kept { IfOk result (λ f. ForSome (D.told disk.new) (IsKept f.place.area
         f.place.generation f.place.end f.place.frames false f.place.broken f.place.gate)) }
-    ensures fault { IfErr result (λ e. (c : Image) → Shows (D.told disk.old) c →
+    ensures fault { IfErr result (λ e. (c : Image) → Shows (D.told disk.new) c →
         Fails e (headed c)) }
     ensures ok { IfOk result (λ f. Goes (D.told disk.old) (D.told disk.new) Secures) }
     ensures err { IfErr result (λ e. Goes (D.told disk.old) (D.told disk.new) Keeps) }
@@ -45,13 +45,13 @@ fn read_disk<D: Disk>(alloc: Global, disk: &mut D) -> Result<Found, LoadFault>
 /// Reads a disk that holds a journal. At `Ok` both areas are synced. A frame that is not whole is no
 /// fault: what stands before it is read, and nothing can be appended or mended.
 pub fn load<D: Disk>(alloc: Global, mut disk: D) -> Result<Loaded<D>, (D, LoadFault)>
-    ensures found { IfOk result (λ l. (c : Image) → Shows (D.told disk) c →
+    ensures found { IfOk result (λ l. (c : Image) → Shows (D.told l.journal.disk) c →
         IsOpening c l.journal.area l.journal.generation l.head.items
         (payloads_of l.frames.items) l.broken l.journal.end) }
     ensures end { IfOk result (λ l. l.journal.end ≡
         23 + length l.head.items + bytes_of (payloads_of l.frames.items)) }
     ensures fresh { IfOk result (λ l. IsFresh l.journal (length l.frames.items) l.broken) }
-    ensures fault { IfErr result (λ e. (c : Image) → Shows (D.told disk) c →
+    ensures fault { IfErr result (λ e. (c : Image) → Shows (D.told e.0) c →
         Fails e.1 (headed c)) }
     ensures ok { IfOk result (λ l. Goes (D.told disk) (D.told l.journal.disk) Secures) }
     ensures err { IfErr result (λ e. Goes (D.told disk) (D.told e.0) Keeps) }

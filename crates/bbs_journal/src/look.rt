@@ -38,7 +38,7 @@ impl Front {
 }
 
 pub(crate) fn look<D: Disk>(disk: &mut D, area: Area) -> Result<Front, Failed>
-    ensures shows { IfOk result (λ f. (c : Image) → Shows (D.told disk.old) c →
+    ensures shows { IfOk result (λ f. (c : Image) → Shows (D.told disk.new) c →
         take f.count f.room ≡ front (c area)) }
     ensures does { Goes (D.told disk.old) (D.told disk.new) Peeks }
     ensures cause { HasCause (is_err result) (D.fault_count disk.old) (D.fault_count disk.new) }
@@ -49,7 +49,7 @@ pub(crate) fn look<D: Disk>(disk: &mut D, area: Area) -> Result<Front, Failed>
 }
 
 pub(crate) fn measure<D: Disk>(disk: &mut D, area: Area) -> Result<u64, Failed>
-    ensures shows { IfOk result (λ n. (c : Image) → Shows (D.told disk.old) c →
+    ensures shows { IfOk result (λ n. (c : Image) → Shows (D.told disk.new) c →
         n ≡ length (c area)) }
     ensures does { Goes (D.told disk.old) (D.told disk.new) Peeks }
     ensures cause { HasCause (is_err result) (D.fault_count disk.old) (D.fault_count disk.new) }
@@ -64,7 +64,7 @@ pub(crate) fn fill<D: Disk>(
     at: u64,
     room: &mut [u8],
 ) -> Result<(), Failed>
-    ensures shows { is_ok result ≡ true → (c : Image) → Shows (D.told disk.old) c →
+    ensures shows { is_ok result ≡ true → (c : Image) → Shows (D.told disk.new) c →
         at + length room.old ≤ length (c area) →
         room.new ≡ take (length room.old) (drop at (c area)) }
     ensures does { Goes (D.told disk.old) (D.told disk.new) Peeks }

@@ -65,7 +65,7 @@ fn opened(
     a: &[u8],
     b: &[u8],
 ) -> Result<Result<(usize, Option<u64>), LoadFault>, Fail> {
-    match load(alloc, disk_of(alloc, a, b, &[])?) {
+    match load_from_memory(alloc, disk_of(alloc, a, b, &[])?) {
         Ok(loaded) => Ok(Ok((loaded.frames.len(), loaded.broken))),
         Err((_, fault)) => Ok(Err(fault)),
     }

@@ -1,6 +1,6 @@
 //! Where the first defect of an area is told.
 use super::bytes::{EMPTY, STORED, changed};
-use super::{disk_of, load};
+use super::{disk_of, load_from_memory};
 use crate::LoadFault;
 use disk_trait::{Area, MemoryDisk};
 use std::alloc::Global;
@@ -9,7 +9,7 @@ use std::test::Fail;
 
 /// A load that must be refused: the disk, and why.
 pub fn refused_load(alloc: Global, disk: MemoryDisk) -> Result<(MemoryDisk, LoadFault), Fail> {
-    match load(alloc, disk) {
+    match load_from_memory(alloc, disk) {
         Ok(_board) => Err("there is a board")?,
         Err(refused) => Ok(refused),
     }

@@ -4,7 +4,7 @@ use Rattle.bbs_journal.specs.Reading.{IsAt, IsWithin, payloads_of, bytes_of}
 use Rattle.bbs_journal.specs.declared.frame.Next.{Next}
 use Rattle.bbs_journal.specs.declared.frame.Next.TheVariants.{Frame}
 use Rattle.bbs_journal.proofs.NextFrame.{one_more, all_stop, bytes_push}
-use Rattle.bbs_journal.proofs.Peeking.{shows_on}
+use Rattle.bbs_journal.proofs.Peeking.{shows_back}
 use Rattle.bbs_journal.proofs.frame_list.read_frames.Goals as goal
 
 pub loop-payloads-preserved : goal.loop-payloads-preserved
@@ -20,19 +20,19 @@ loop-payloads-preserved g c =
       stood = search rules;
       does = search rules;
       shows = λ c' shows len.
-          let next = c.in_ok-payload.ensures.shows c' (shows_on _ _ c' c.loop-payloads.invariant.does shows) len in
+          let next = c.in_ok-payload.ensures.shows c' shows len in
           one_more (c' c.args.area) c.loop-payloads.payloads.items c.args.start c.loop-payloads.at payload _ _ items (omega (arith, size))
-          (subst (λ (n : Next). IsAt n (drop c.loop-payloads.at (c' c.args.area))) c.in-Frame.is next) (c.loop-payloads.invariant.shows c' shows len);
+          (subst (λ (n : Next). IsAt n (drop c.loop-payloads.at (c' c.args.area))) c.in-Frame.is next) (c.loop-payloads.invariant.shows c' (shows_back _ _ c' c.in_ok-payload.ensures.does shows) len);
     }
 
 pub returns-in-Gate-clause-shows : goal.returns-in-Gate-clause-shows
 returns-in-Gate-clause-shows g c c' shows len =
-    let next = c.in_ok-payload.ensures.shows c' (shows_on _ _ c' c.loop-payloads.invariant.does shows) len in
+    let next = c.in_ok-payload.ensures.shows c' shows len in
     all_stop (c' c.args.area) c.loop-payloads.payloads.items c.args.start c.loop-payloads.at None
-    (subst (λ (n : Next). IsAt n (drop c.loop-payloads.at (c' c.args.area))) c.in-Gate.is next) (c.loop-payloads.invariant.shows c' shows len)
+    (subst (λ (n : Next). IsAt n (drop c.loop-payloads.at (c' c.args.area))) c.in-Gate.is next) (c.loop-payloads.invariant.shows c' (shows_back _ _ c' c.in_ok-payload.ensures.does shows) len)
 
 pub returns-in-Defect-clause-shows : goal.returns-in-Defect-clause-shows
 returns-in-Defect-clause-shows g c c' shows len =
-    let next = c.in_ok-payload.ensures.shows c' (shows_on _ _ c' c.loop-payloads.invariant.does shows) len in
+    let next = c.in_ok-payload.ensures.shows c' shows len in
     all_stop (c' c.args.area) c.loop-payloads.payloads.items c.args.start c.loop-payloads.at (Some c.loop-payloads.at)
-    (refl, subst (λ (n : Next). IsAt n (drop c.loop-payloads.at (c' c.args.area))) c.in-Defect.is next) (c.loop-payloads.invariant.shows c' shows len)
+    (refl, subst (λ (n : Next). IsAt n (drop c.loop-payloads.at (c' c.args.area))) c.in-Defect.is next) (c.loop-payloads.invariant.shows c' (shows_back _ _ c' c.in_ok-payload.ensures.does shows) len)

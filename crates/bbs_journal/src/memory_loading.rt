@@ -1,0 +1,38 @@
+//! Loading from a disk in memory, which tells its past at every moment.
+ghost use Rattle.std.specs.Prelude.{◌≡◌, ◌+◌, Some, length, IfOk, IfErr};
+ghost use Rattle.byte_ports.specs.Cause.{HasCause};
+ghost use Rattle.disk_trait.specs.Memory.{memory_past, faults_of};
+ghost use Rattle.disk_trait.specs.Past.{Image};
+ghost use Rattle.disk_trait.specs.Steps.{Goes};
+ghost use Rattle.bbs_journal.specs.Found.{IsFresh};
+ghost use Rattle.bbs_journal.specs.Opening.{headed, IsOpening};
+ghost use Rattle.bbs_journal.specs.Reading.{payloads_of, bytes_of};
+ghost use Rattle.bbs_journal.specs.Shows.{Shows, Keeps, Secures, is_disk_fault, Fails};
+
+use crate::{LoadFault, Loaded, load};
+use disk_trait::MemoryDisk;
+use std::alloc::Global;
+
+/// The same as `load`, with the sharper promise for a disk that never falls silent: what is found, or
+/// refused, is what the disk held when it was handed in.
+pub fn load_from_memory(
+    alloc: Global,
+    disk: MemoryDisk,
+) -> Result<Loaded<MemoryDisk>, (MemoryDisk, LoadFault)>
+    ensures found { IfOk result (λ l. (c : Image) → Shows (Some (memory_past disk)) c →
+        IsOpening c l.journal.area l.journal.generation l.head.items
+        (payloads_of l.frames.items) l.broken l.journal.end) }
+    ensures end { IfOk result (λ l. l.journal.end ≡
+        23 + length l.head.items + bytes_of (payloads_of l.frames.items)) }
+    ensures fresh { IfOk result (λ l. IsFresh l.journal (length l.frames.items) l.broken) }
+    ensures fault { IfErr result (λ e. (c : Image) → Shows (Some (memory_past disk)) c →
+        Fails e.1 (headed c)) }
+    ensures ok { IfOk result (λ l. Goes (Some (memory_past disk))
+        (Some (memory_past l.journal.disk)) Secures) }
+    ensures err { IfErr result (λ e. Goes (Some (memory_past disk)) (Some (memory_past e.0)) Keeps) }
+    ensures stood { IfOk result (λ l. faults_of l.journal.disk ≡ faults_of disk) }
+    ensures cause { IfErr result (λ e. HasCause (is_disk_fault e.1)
+        (faults_of disk) (faults_of e.0)) }
+{
+    load(alloc, disk)
+}
