@@ -5,6 +5,7 @@ mod Keeping
 mod Resuming
 mod Unique
 pub mod Peeking
+mod InPart
 mod Reading
 mod FrameAt
 mod NextFrame

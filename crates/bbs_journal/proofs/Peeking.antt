@@ -12,7 +12,7 @@ use Rattle.disk_trait.specs.declared.area.Area.TheVariants.{A, B}
 use Rattle.bbs_journal.specs.Shows.{Shows, Keeps, Peeks, Secures, Syncs}
 
 -- each area is this one or the other
-each_area : (area : Area) (P : Area → Type 0) → P area → P (other area) → (x : Area) → P x
+pub each_area : (area : Area) (P : Area → Type 0) → P area → P (other area) → (x : Area) → P x
 each_area A P here there A = here
 each_area A P here there B = there
 each_area B P here there A = there

@@ -1,10 +1,11 @@
 -- What preparing a disk for its first frame does.
-use Rattle.std.specs.Prelude.{◌≡◌, ◌≢◌, ◌⊎◌, List, ℕ, Bool, true, false, None, [], ◌∷◌, ◌++◌, Result, Ok, Err}
-use Rattle.disk_trait.specs.Past.{Past, content, IsSettled}
-use Rattle.disk_trait.specs.Runs.{Extends}
-use Rattle.disk_trait.specs.declared.area.Area.{Area}
+use Rattle.std.specs.Prelude.{◌≡◌, ◌≢◌, ◌⊎◌, ◌≤◌, max, List, ℕ, Bool, true, false, None, [], ◌∷◌, ◌++◌, length, Result, Ok, Err}
+use Rattle.disk_trait.specs.Held.{Held, Leaves}
+use Rattle.disk_trait.specs.Past.{Past, now, content, IsSettled}
+use Rattle.disk_trait.specs.Runs.{Extends, Runs}
 use Rattle.disk_trait.specs.declared.area.Area.TheVariants.{A, B}
 use Rattle.bbs_journal.specs.Opening.{IsOpening}
+use Rattle.bbs_journal.specs.Shows.{Peeks}
 use Rattle.bbs_journal.specs.declared.preparing.PrepareFault.{PrepareFault}
 use Rattle.bbs_journal.specs.declared.preparing.PrepareFault.TheVariants.{Disk, NotEmpty}
 
@@ -23,17 +24,31 @@ pub record Prepares (p q : Past) : Type 0 where
   pub b : content q B ≡ []
   pub settled : IsSettled q
 
--- an area isn't empty, and a read gives what it gave
+-- an area isn't empty, and both were only looked at
 pub record FindsBytes (p q : Past) : Type 0 where
-  pub extends : Extends p q
-  pub same : (area : Area) → content q area ≡ content p area
+  pub peeks : Peeks p q
   pub bytes : (content p A ≢ []) ⊎ (content p B ≢ [])
 
--- what a prepare did, by its answer
+-- no longer than 48 bytes, or than something that a stop could leave of the area before
+pub record IsShort (before : Held) (left : List ℕ) : Type 0 where
+  pub older : List ℕ
+  pub could : Leaves before older
+  pub short : length left ≤ max (length older) 48
+
+-- both areas were empty; all the while a stop leaves no more than 48 bytes of the first and changes nothing of the
+-- second, and a read gives no more of the first
+pub record PreparesInPart (p q : Past) : Type 0 where
+  pub a_was : content p A ≡ []
+  pub b_was : content p B ≡ []
+  pub runs : Runs A (IsShort (now p A)) p q
+  pub a : length (content q A) ≤ 48
+  pub b : content q B ≡ []
+
+-- what a prepare did, by its answer; where the disk failed, it had only looked, or both areas were empty
 abbrev pub PreparesBy : Result (Unit {0}) PrepareFault → Past → Past → Type 0
 PreparesBy (Ok x) p q = Prepares p q
 PreparesBy (Err NotEmpty) p q = FindsBytes p q
-PreparesBy (Err Disk) p q = Extends p q
+PreparesBy (Err Disk) p q = Peeks p q ⊎ PreparesInPart p q
 
 -- the disk failed
 abbrev pub is_disk_fault : Result (Unit {0}) PrepareFault → Bool

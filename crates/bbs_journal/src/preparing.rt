@@ -18,9 +18,10 @@ const PREPARED: [u8; 48] = [
 /// Why nothing was prepared.
 #[derive(Clone, Copy, Debug, PartialEq, Eq)]
 pub enum PrepareFault {
-    /// A device call failed. The first area may hold a part of the header.
+    /// A device call failed. Where an area had bytes nothing was written; else the first one may
+    /// hold a part of the header now.
     Disk,
-    /// An area has bytes, and nothing was written.
+    /// An area has bytes. Nothing was written.
     NotEmpty,
 }
 
@@ -32,7 +33,8 @@ impl From<Failed> for PrepareFault {
     }
 }
 
-/// Makes a journal without frames of two empty areas, and syncs both. It takes no memory.
+/// Makes a journal without frames of two empty areas, and syncs both. It looks at both before it writes,
+/// and takes no memory.
 pub fn prepare<D: Disk>(disk: &mut D) -> Result<(), PrepareFault>
     ensures does { Goes (D.told disk.old) (D.told disk.new) (PreparesBy result) }
     ensures cause { HasCause (is_disk_fault result)

@@ -1,6 +1,7 @@
 ghost use Rattle.std.specs.Prelude.{◌≡◌, false, IfOk};
 
 mod failing;
+mod preparing;
 mod stops;
 
 use super::*;
@@ -221,17 +222,5 @@ fn of_two_areas_the_newer_is_read(rt: HostRuntime) -> Result<(), Fail> {
     assert_eq!(rt; opened(alloc, &DESIRED, &[0, 2])?, Ok((1, None)));
     assert_eq!(rt; opened(alloc, &DESIRED, &[2])?, Ok((1, None)));
     assert_eq!(rt; opened(alloc, &[0; 48], &DESIRED)?, Ok((1, None)));
-    Ok(())
-}
-
-#[test]
-fn two_empty_areas_are_prepared_once(rt: HostRuntime) -> Result<(), Fail> {
-    let mut disk = disk_of(rt.alloc(), &[], &[], &[8])?;
-    assert_eq!(rt; prepare(&mut disk), Ok(()));
-    assert_eq!(rt; disk.bytes(Area::A), EMPTY.as_slice());
-    assert!(rt; disk.bytes(Area::B).is_empty());
-    assert_eq!(rt; prepare(&mut disk), Err(PrepareFault::NotEmpty));
-    assert_eq!(rt; prepare(&mut disk), Err(PrepareFault::Disk));
-    assert_eq!(rt; disk.faults(), 1);
     Ok(())
 }
