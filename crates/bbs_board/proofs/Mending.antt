@@ -1,13 +1,14 @@
 -- What mending and then appending come to together.
-use Rattle.std.proofs.Common.{◌≡◌, inl, inr, ⊎_elim, ℕ, Bool, true, false, Option, Some, None, List, length, refl, sym, subst, ◌∙◌}
-use Rattle.std.specs.Prelude.{is_some}
+use Rattle.std.proofs.Common.{◌≡◌, inl, inr, ⊎_elim, ℕ, Bool, true, false, Option, Some, None, List, length, refl, sym, ap, subst, ◌∙◌}
+use Rattle.std.specs.Prelude.{is_some, not, if◌then◌else◌}
+use Rattle.disk_trait.specs.Held.{Held}
 use Rattle.disk_trait.specs.Past.{Past, now}
 use Rattle.disk_trait.specs.Steps.{Goes}
 use Rattle.disk_trait.specs.declared.area.Area.{Area}
 use Rattle.disk_trait.proofs.Steps.{runs_then, runs_weaker}
 use Rattle.disk_trait.proofs.Told.{goes_then, goes_weaker}
 use Rattle.bbs_journal.specs.Areas.{BeforeOrAfter, Stands}
-use Rattle.bbs_journal.specs.Calls.{Appended, Appends, Adds, Mends, Closes, Grows}
+use Rattle.bbs_journal.specs.Calls.{Appended, Appends, Adds, Mends, Closes, Grows, Settles, left_of}
 use Rattle.bbs_journal.specs.View.{View as JournalView}
 use Rattle.bbs_board.specs.Puts.{MayHold, IsLeft, PutsOne, Puts}
 
@@ -96,6 +97,65 @@ module _ (area : Area) (payload : List ℕ) (end : ℕ) where
   pub puts_not : (t0 t1 : Option Past) (waits after : Bool) → waits ≡ true → after ≡ true → Goes t0 t1 (Closes area false end) → Goes t0 t1 (Puts area false waits after payload end)
   puts_not t0 t1 waits after is still closes =
       goes_weaker t0 t1 (Closes area false end) (Puts area false waits after payload end) (λ p q i j c. puts_from_failed waits after p q is still c) closes
+
+  -- an append that failed, and the mend that closes its gate where that is in doubt
+  adds_mended : (ok : Bool) (p q r : Past) → Adds area false true payload end p q → Closes area ok end q r → Adds area false (not ok) payload end p r
+  adds_mended ok p q r adds closes head payloads ready =
+      let appends = adds head payloads ready in
+      let mends = closes head payloads payload appends.leaves in
+      record {
+        runs = runs_then (BeforeOrAfter head payloads payload) area p q r appends.runs mends.runs;
+        leaves = mended_so ok head payloads (now r area) mends.leaves;
+      }
+    where
+      mended_so : (ok : Bool) (head : List ℕ) (payloads : List (List ℕ)) (held : Held) → Stands head payloads (left_of ok payload) end held → Appended false (not ok) head payloads payload end held
+      mended_so true head payloads held stands = stands
+      mended_so false head payloads held stands = stands
+
+  pub adds_closed : (t0 t1 t2 : Option Past) (waits ok after : Bool) → after ≡ (if ok then false else true) → (waits ≡ true → Goes t1 t2 (Closes area ok end)) → (waits ≡ false → (ok ≡ true) × (t2 ≡ t1))
+      → Goes t0 t1 (Adds area false waits payload end) → Goes t0 t2 (Adds area false after payload end)
+  adds_closed t0 t1 t2 true true after is closes idle adds =
+      subst (λ (b : Bool). Goes t0 t2 (Adds area false b payload end)) (sym is)
+      (goes_then t0 t1 t2 (Adds area false true payload end) (Closes area true end) (Adds area false false payload end) (λ p q r i j k a c. adds_mended true p q r a c) adds (closes refl))
+  adds_closed t0 t1 t2 true false after is closes idle adds =
+      subst (λ (b : Bool). Goes t0 t2 (Adds area false b payload end)) (sym is)
+      (goes_then t0 t1 t2 (Adds area false true payload end) (Closes area false end) (Adds area false true payload end) (λ p q r i j k a c. adds_mended false p q r a c) adds (closes refl))
+  adds_closed t0 t1 t2 false true after is closes idle adds =
+      subst (λ (b : Bool). Goes t0 t2 (Adds area false b payload end)) (sym is)
+      (subst (λ (t : Option Past). Goes t0 t (Adds area false false payload end)) (sym (idle refl).1) adds)
+  adds_closed t0 t1 t2 false false after is closes idle adds = absurd (let never = (idle refl).0 in cc)
+
+-- ---- the calls of a put, each at the journal that the one before it left
+
+module _ {D : Type 0} (told : D → Option Past) (v0 v1 v2 : JournalView D) (payload : List ℕ) (mended : Settles true v0 v1) (closes : v0.waits ≡ true → Goes (told v0.disk) (told v1.disk) (Closes v0.area true v0.end)) where
+  as_before : (ok waits : Bool) (t : Option Past) → Goes (told v1.disk) t (Adds v1.area ok waits payload v1.end) → Goes (told v1.disk) t (Adds v0.area ok waits payload v0.end)
+  as_before ok waits t adds =
+      subst (λ (a : Area). Goes (told v1.disk) t (Adds a ok waits payload v0.end)) mended.stays.area
+      (subst (λ (n : ℕ). Goes (told v1.disk) t (Adds v1.area ok waits payload n)) mended.end adds)
+
+  idle_told : v0.waits ≡ false → told v1.disk ≡ told v0.disk
+  idle_told idle = let still = mended.idle idle in ap (λ (v : JournalView D). told v.disk) still.1
+
+  pub put_made : (v2.waits ≡ false) → Goes (told v1.disk) (told v2.disk) (Adds v1.area true v2.waits payload v1.end) → Goes (told v0.disk) (told v2.disk) (Puts v0.area true v0.waits v2.waits payload v0.end)
+  put_made calm adds = puts_both v0.area payload v0.end (told v0.disk) (told v1.disk) (told v2.disk) true v0.waits v2.waits (λ is. calm) closes idle_told (as_before true v2.waits (told v2.disk) adds)
+
+  module _ (v3 : JournalView D) (ok : Bool) (adds : Goes (told v1.disk) (told v2.disk) (Adds v1.area false v2.waits payload v1.end)) (grows : Grows false (length payload) v1 v2) (settles : Settles ok v2 v3)
+      (shuts : v2.waits ≡ true → Goes (told v2.disk) (told v3.disk) (Closes v2.area ok v2.end)) where
+    shuts_there : v2.waits ≡ true → Goes (told v2.disk) (told v3.disk) (Closes v1.area ok v1.end)
+    shuts_there is =
+        subst (λ (a : Area). Goes (told v2.disk) (told v3.disk) (Closes a ok v1.end)) grows.stays.area
+        (subst (λ (n : ℕ). Goes (told v2.disk) (told v3.disk) (Closes v2.area ok n)) grows.end (shuts is))
+
+    adds_there : Goes (told v1.disk) (told v3.disk) (Adds v0.area false v3.waits payload v0.end)
+    adds_there = as_before false v3.waits (told v3.disk)
+        (adds_closed v1.area payload v1.end (told v1.disk) (told v2.disk) (told v3.disk) v2.waits ok v3.waits settles.waits shuts_there
+        (λ idle. let still = settles.idle idle in (still.0, ap (λ (v : JournalView D). told v.disk) still.1)) adds)
+
+    pub put_failed : Goes (told v0.disk) (told v3.disk) (Puts v0.area false v0.waits v3.waits payload v0.end)
+    put_failed = puts_both v0.area payload v0.end (told v0.disk) (told v1.disk) (told v3.disk) false v0.waits v3.waits (λ is. absurd (cc)) closes idle_told adds_there
+
+    pub adds_failed : v0.waits ≡ false → Goes (told v0.disk) (told v3.disk) (Adds v0.area false v3.waits payload v0.end)
+    adds_failed idle = subst (λ (t : Option Past). Goes t (told v3.disk) (Adds v0.area false v3.waits payload v0.end)) (idle_told idle) adds_there
 
 -- ---- said of what was written
 

@@ -1,10 +1,11 @@
 -- What mending and then appending do to the area of a journal.
-use Rattle.std.specs.Prelude.{◌≡◌, ◌⊎◌, ℕ, ◌+◌, Bool, true, false, is_some, Option, Some, List, [], ◌∷◌, ◌++◌, length}
+use Rattle.std.specs.Prelude.{◌≡◌, ◌⊎◌, ℕ, ◌+◌, ◌≤◌, Bool, true, false, is_some, Option, Some, List, [], ◌∷◌, ◌++◌, length}
 use Rattle.disk_trait.specs.Held.{Held}
 use Rattle.disk_trait.specs.Past.{Past, now}
 use Rattle.disk_trait.specs.Runs.{Runs}
 use Rattle.disk_trait.specs.declared.area.Area.{Area}
 use Rattle.bbs_journal.specs.Areas.{IsArea, Ready, Stands}
+use Rattle.bbs_journal.specs.Calls.{mend_calls}
 
 -- this payload is the one in doubt, or the new one
 abbrev pub IsOneOf : Option (List ℕ) → List ℕ → List ℕ → Type 0
@@ -43,3 +44,9 @@ abbrev pub Puts : Area → Bool → Bool → Bool → List ℕ → ℕ → Past 
 Puts area ok before after payload end p q =
     (head : List ℕ) (payloads : List (List ℕ)) (doubt : Option (List ℕ)) → before ≡ is_some doubt → Stands head payloads doubt end (now p area)
     → PutsOne area ok after head payloads doubt payload end p q
+
+-- the device calls of a put: four where it succeeds, behind the two of a mend where a gate waited; where it fails
+-- no more than those and the two that close its own gate
+pub record PutTakes (ok waits : Bool) (before after : ℕ) : Type 0 where
+  pub done : ok ≡ true → after ≡ before + mend_calls waits + 4
+  pub most : after ≤ before + mend_calls waits + 6

@@ -1,6 +1,6 @@
 //! A board over a disk, for one caller: each transition is on the disk before it is acknowledged, and
 //! whatever a stop leaves is opened as the board after a prefix of its log.
-ghost use Rattle.std.specs.Prelude.{◌≡◌, ◌≤◌, length, IfOk};
+ghost use Rattle.std.specs.Prelude.{◌≡◌, ◌≤◌, false, true, length, IfOk};
 ghost use Rattle.std.specs.Option.{ForSome};
 ghost use Rattle.byte_ports.specs.Cause.{HasCause};
 ghost use Rattle.disk_trait.specs.Steps.{Goes};
@@ -10,6 +10,7 @@ ghost use Rattle.bbs_model.specs.Valid.{IsValid};
 ghost use Rattle.bbs_board.specs.Calls.{Ends, added, is_done, is_disk_fault, Grows, Passes};
 ghost use Rattle.bbs_board.specs.Doubts.{doubts_in, RoseForEach};
 ghost use Rattle.bbs_board.specs.Kept.{Kept};
+ghost use Rattle.bbs_board.specs.Puts.{PutTakes};
 ghost use Rattle.bbs_board.specs.View.{rows_of};
 
 use crate::putting::put;
@@ -68,8 +69,8 @@ pub struct Closed<D> {
 }
 
 impl<D: Disk> Board<D> {
-    /// Makes a legal command a transition, by the four device calls of an append, and two more where an
-    /// earlier fault left a gate to be mended.
+    /// Makes a legal command a transition, by the four device calls of an append. Two more come first where
+    /// an earlier fault left a gate to be mended, and two last where the append failed at its own gate.
     fn transition(&mut self, by: u32, command: &Command) -> Result<Reply, CallFault>
         requires { IsLegal (rows_of self.old) command.now }
         ensures ends { Ends Verdict.Ok (length self.old.log) (rows_of self.old).next result }
@@ -77,6 +78,10 @@ impl<D: Disk> Board<D> {
             (D.moment self.new.disk) self.old self.new }
         ensures does { Goes (D.told self.old.disk) (D.told self.new.disk)
             (Passes self.old.waits Verdict.Ok (is_done result) (rows_of self.old) command.entry.now) }
+        ensures closes { self.old.waits ≡ false → self.new.waits ≡ true →
+            RoseForEach 2 (D.fault_count self.old.disk) (D.fault_count self.new.disk) }
+        ensures calls { PutTakes (is_done result) self.old.waits
+            (D.moment self.old.disk) (D.moment self.new.disk) }
         ensures cause { HasCause (is_disk_fault result)
             (D.fault_count self.old.disk) (D.fault_count self.new.disk) }
     {
@@ -102,8 +107,8 @@ impl<D: Disk> Board<D> {
 
     /// Does a command for the caller of this number. A refusal and a Same touch no device and take no
     /// memory. A legal command has all its memory before the first device call; where one of these
-    /// fails the rows stay, and the command is a doubt, which a stop may bring back until the next
-    /// transition is acknowledged.
+    /// fails the rows stay, and the command is a doubt. Where its gate was closed again nothing waits,
+    /// and no later stop brings it back; else one may, until the next transition is acknowledged.
     pub fn call(&mut self, by: u32, command: Command) -> Result<Reply, CallFault>
         ensures ends { Ends (verdict_of (rows_of self.old) command) (length self.old.log)
             (rows_of self.old).next result }
@@ -112,6 +117,10 @@ impl<D: Disk> Board<D> {
         ensures does { Goes (D.told self.old.disk) (D.told self.new.disk)
             (Passes self.old.waits (verdict_of (rows_of self.old) command) (is_done result)
             (rows_of self.old) command) }
+        ensures closes { self.old.waits ≡ false → self.new.waits ≡ true →
+            RoseForEach 2 (D.fault_count self.old.disk) (D.fault_count self.new.disk) }
+        ensures calls { PutTakes (is_done result) self.old.waits
+            (D.moment self.old.disk) (D.moment self.new.disk) }
         ensures cause { HasCause (is_disk_fault result)
             (D.fault_count self.old.disk) (D.fault_count self.new.disk) }
     {

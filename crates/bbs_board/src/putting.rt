@@ -1,16 +1,19 @@
 //! Mending what an earlier fault left, and then appending.
-ghost use Rattle.std.specs.Prelude.{◌≡◌, ◌<◌, ◌^◌, false, length, is_ok, is_err};
+ghost use Rattle.std.specs.Prelude.{◌≡◌, ◌<◌, ◌^◌, true, false, length, is_ok, is_err};
 ghost use Rattle.byte_ports.specs.Cause.{HasCause};
 ghost use Rattle.disk_trait.specs.Steps.{Goes};
 ghost use Rattle.bbs_journal.specs.Calls.{Adds, Grows};
 ghost use Rattle.bbs_journal.specs.Frames.{IsPayload};
-ghost use Rattle.bbs_board.specs.Puts.{Puts};
+ghost use Rattle.bbs_board.specs.Doubts.{RoseForEach};
+ghost use Rattle.bbs_board.specs.Puts.{Puts, PutTakes};
 
 use bbs_journal::{DiskFault, Journal};
 use disk_trait::Disk;
 
 /// Puts a payload behind the frames of a journal. Where a failed call left a gate in doubt, that is
-/// closed first, so that only one payload is ever in doubt.
+/// closed first, so that only one payload is ever in doubt. A put that fails at its own gate closes it
+/// at once, and tries that once: whoever opens the disk next may be told by a read what no sync will
+/// ever write. Where closing it fails too, the gate waits for the next put.
 pub fn put<D: Disk>(journal: &mut Journal<D>, payload: &[u8]) -> Result<(), DiskFault>
     requires payload { IsPayload payload.now }
     requires whole { journal.old.broken ≡ false }
@@ -18,12 +21,23 @@ pub fn put<D: Disk>(journal: &mut Journal<D>, payload: &[u8]) -> Result<(), Disk
     ensures does { Goes (D.told journal.old.disk) (D.told journal.new.disk)
         (Puts journal.old.area (is_ok result) journal.old.waits journal.new.waits payload.now
         journal.old.end) }
-    ensures appends { journal.old.waits ≡ false → Goes (D.told journal.old.disk) (D.told journal.new.disk)
+    ensures appends { journal.old.waits ≡ false → Goes (D.told journal.old.disk)
+        (D.told journal.new.disk)
         (Adds journal.old.area (is_ok result) journal.new.waits payload.now journal.old.end) }
+    ensures closes { journal.old.waits ≡ false → journal.new.waits ≡ true →
+        RoseForEach 2 (D.fault_count journal.old.disk) (D.fault_count journal.new.disk) }
+    ensures calls { PutTakes (is_ok result) journal.old.waits
+        (D.moment journal.old.disk) (D.moment journal.new.disk) }
     ensures cause { HasCause (is_err result)
         (D.fault_count journal.old.disk) (D.fault_count journal.new.disk) }
     ensures grows { Grows (is_ok result) (length payload.now) journal.old journal.new }
 {
     journal.mend()?;
-    journal.append(payload)
+    match journal.append(payload) {
+        Ok(()) => Ok(()),
+        Err(fault) => {
+            let _closed = journal.mend();
+            Err(fault)
+        }
+    }
 }

@@ -11,7 +11,7 @@ use Rattle.disk_trait.proofs.Ranges.{length_overwritten}
 use Rattle.disk_trait.proofs.Steps.{wrote_content, synced_content, runs_there}
 use Rattle.disk_trait.specs.declared.area.Area.{Area}
 use Rattle.bbs_journal.specs.Areas.{Ready, Stands, BeforeOrAfter, body_of}
-use Rattle.bbs_journal.specs.Calls.{WritesSynced, Adds, Closes}
+use Rattle.bbs_journal.specs.Calls.{WritesSynced, Adds, Closes, Takes}
 use Rattle.bbs_journal.specs.View.{View, HoldsFrames, IsKept}
 use Rattle.bbs_journal.specs.Other.{Yields}
 use Rattle.bbs_journal.specs.declared.other_gate.OtherGate.{OtherGate}
@@ -147,7 +147,7 @@ pub waits_inside : {D : Type 0} (inside value : View D) (waits : Bool) → insid
 waits_inside {D = D} inside value waits is here = ap (λ (v : View D). v.waits) is ∙ here
 
 -- the moments of two calls that were both made
-pub two_calls : (ok : Bool) (a b c : ℕ) → Ticks true a b → Ticks ok b c → ok ≡ true → c ≡ a + 2
+two_calls : (ok : Bool) (a b c : ℕ) → Ticks true a b → Ticks ok b c → ok ≡ true → c ≡ a + 2
 two_calls true a b c first second is = elim (leb_tells (2 ^ 64 - 1) a) [
   | inl late ↦ absurd (let f : true ≡ false = first.fails late.1 in cc)
   | inr early ↦ elim (leb_tells (2 ^ 64 - 1) b) [
@@ -156,3 +156,16 @@ two_calls true a b c first second is = elim (leb_tells (2 ^ 64 - 1) a) [
   ]
 ]
 two_calls false a b c first second is = absurd (cc)
+
+ticks_most : (ok : Bool) (a b : ℕ) → Ticks ok a b → b ≤ a + 1
+ticks_most ok a b ticks = elim (leb_tells (2 ^ 64 - 1) a) [
+  | inl late ↦ omega (arith, ticks.last late.1)
+  | inr early ↦ omega (arith, ticks.goes (omega (arith, early.1)))
+]
+
+-- and how many moments they take at most
+pub takes_two : (ok : Bool) (a b c : ℕ) → Ticks true a b → Ticks ok b c → Takes ok 2 a c
+takes_two ok a b c first second = record {
+  done = two_calls ok a b c first second;
+  most = omega (arith, ticks_most true a b first, ticks_most ok b c second);
+}

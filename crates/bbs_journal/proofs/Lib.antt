@@ -2,6 +2,7 @@ mod Bytes
 mod Frames
 mod Turning
 mod Keeping
+mod Written
 mod Resuming
 mod Unique
 pub mod Peeking

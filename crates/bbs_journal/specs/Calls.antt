@@ -1,12 +1,12 @@
 -- What the calls of a journal do to what a disk tells.
-use Rattle.std.specs.Prelude.{◌≡◌, ◌⊎◌, ℕ, ◌+◌, ◌<◌, ◌^◌, Bool, true, false, Option, Some, None, List, [], ◌∷◌, ◌++◌, length, if◌then◌else◌}
+use Rattle.std.specs.Prelude.{◌≡◌, ◌⊎◌, ℕ, ◌+◌, ◌<◌, ◌≤◌, ◌^◌, Bool, true, false, Option, Some, None, List, [], ◌∷◌, ◌++◌, length, if◌then◌else◌}
 use Rattle.disk_trait.specs.Held.{Held}
-use Rattle.disk_trait.specs.Past.{Past, now}
+use Rattle.disk_trait.specs.Past.{Past, now, content}
 use Rattle.disk_trait.specs.Runs.{Runs}
-use Rattle.disk_trait.specs.Steps.{Changes, Wrote, Synced}
+use Rattle.disk_trait.specs.Steps.{Changes, Wrote, Synced, overwritten}
 use Rattle.disk_trait.specs.declared.area.Area.{Area}
 use Rattle.bbs_journal.specs.Frames.{IsPayload}
-use Rattle.bbs_journal.specs.Areas.{BeforeOrAfter, Ready, Waits, Stands}
+use Rattle.bbs_journal.specs.Areas.{BeforeOrAfter, Ready, Waits, Stands, body_of}
 use Rattle.bbs_journal.specs.View.{View}
 
 -- what an append asks: a payload, an area without a defect, nothing in doubt, and fewer frames than can be counted
@@ -15,6 +15,16 @@ pub record Fits {D : Type 0} (bytes : List ℕ) (journal : View D) : Type 0 wher
   pub whole : journal.broken ≡ false
   pub mended : journal.waits ≡ false
   pub frames : journal.frames < 2 ^ 48
+
+-- a step of so many device calls: it makes all of them where it succeeds, and no more where it fails
+pub record Takes (ok : Bool) (calls before after : ℕ) : Type 0 where
+  pub done : ok ≡ true → after ≡ before + calls
+  pub most : after ≤ before + calls
+
+-- how many device calls a mend makes, by whether something waits
+abbrev pub mend_calls : Bool → ℕ
+mend_calls true = 2
+mend_calls false = 0
 
 -- a write and then a sync; it failed where one of them did
 abbrev pub WritesSynced : Bool → Area → ℕ → List ℕ → Past → Past → Type 0
@@ -37,6 +47,10 @@ pub record Appends (area : Area) (ok waits : Bool) (head : List ℕ) (payloads :
 abbrev pub Adds : Area → Bool → Bool → List ℕ → ℕ → Past → Past → Type 0
 Adds area ok waits payload end p q =
     (head : List ℕ) (payloads : List (List ℕ)) → Ready head payloads end (now p area) → Appends area ok waits head payloads payload end p q
+
+-- what a read gives is what it gave, with a gate of 1, the payload and a closed gate over it from this place on
+abbrev pub WritesFrame : Area → ℕ → List ℕ → Past → Past → Type 0
+WritesFrame area end payload p q = content q area ≡ overwritten end (1 ∷ body_of payload) (content p area)
 
 -- the doubt that is left after a mend
 abbrev pub left_of : Bool → List ℕ → Option (List ℕ)

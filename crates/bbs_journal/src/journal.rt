@@ -6,7 +6,7 @@ ghost use Rattle.byte_ports.specs.Cause.{HasCause};
 ghost use Rattle.disk_trait.specs.Steps.{Goes};
 ghost use Rattle.bbs_journal.specs.Frames.{IsPayload};
 ghost use Rattle.bbs_journal.specs.View.{IsKept};
-ghost use Rattle.bbs_journal.specs.Calls.{Adds, Closes, Grows, Settles, Fits};
+ghost use Rattle.bbs_journal.specs.Calls.{Adds, WritesFrame, Closes, Grows, Settles, Fits, Takes, mend_calls};
 
 use crate::body::{LONGEST, put_body};
 use crate::place::Place;
@@ -94,8 +94,10 @@ impl<D: Disk> Journal<D> {
         requires { Fits payload.now self.old }
         ensures does { Goes (D.told self.old.disk) (D.told self.new.disk)
             (Adds self.old.area (is_ok result) self.new.waits payload.now self.old.end) }
-        ensures calls { is_ok result ≡ true →
-            D.moment self.new.disk ≡ D.moment self.old.disk + 4 }
+        ensures bytes { is_ok result ≡ true → Goes (D.told self.old.disk) (D.told self.new.disk)
+            (WritesFrame self.old.area self.old.end payload.now) }
+        ensures calls { Takes (is_ok result) 4
+            (D.moment self.old.disk) (D.moment self.new.disk) }
         ensures cause { HasCause (is_err result)
             (D.fault_count self.old.disk) (D.fault_count self.new.disk) }
         ensures grows { Grows (is_ok result) (length payload.now) self.old self.new }
@@ -120,8 +122,8 @@ impl<D: Disk> Journal<D> {
             (Closes self.old.area (is_ok result) self.old.end) }
         ensures cause { HasCause (is_err result)
             (D.fault_count self.old.disk) (D.fault_count self.new.disk) }
-        ensures calls { self.old.waits ≡ true → is_ok result ≡ true →
-            D.moment self.new.disk ≡ D.moment self.old.disk + 2 }
+        ensures calls { Takes (is_ok result) (mend_calls self.old.waits)
+            (D.moment self.old.disk) (D.moment self.new.disk) }
         ensures settles { Settles (is_ok result) self.old self.new }
     {
         if !self.waits {

@@ -39,12 +39,42 @@ fn a_call_whose_disk_fails_is_a_doubt_and_the_rows_stay(rt: HostRuntime) -> Resu
         Item::Doubt(1, failed.command),
         Item::Done(2, failed.command),
     ];
-    // The append takes four calls, and two more where the gate has to be mended.
-    for (call, later) in [(8, 12), (9, 13), (10, 16), (11, 17)] {
+    // The append takes four calls, and two more close its gate where one of the last two fails.
+    for (call, mark, later) in [(8, 8, 12), (9, 9, 13), (10, 12, 16), (11, 13, 17)] {
         let disk = disk_of(alloc, &EMPTY, b"", &[call])?;
         let (_disk, log, marks) = play(&rt, alloc, disk, &[failed, again])?;
         assert_eq!(rt; log.as_slice(), items.as_slice());
-        assert_eq!(rt; marks.as_slice(), [call, later].as_slice());
+        assert_eq!(rt; marks.as_slice(), [mark, later].as_slice());
+    }
+    Ok(())
+}
+
+#[test]
+fn a_gate_that_failed_is_closed_in_the_same_call(rt: HostRuntime) -> Result<(), Fail> {
+    let alloc = rt.alloc();
+    let failed = Step {
+        by: 1,
+        command: desire()?,
+        end: Err(CallFault::Disk { place: 0 }),
+    };
+    // Which calls fail, the clock then, and the gate that the next process reads. The gate is written in
+    // call 10 and synced in 11; two calls close it. Where the second sync fails too, its 0 is read.
+    let table: [(&[u64], u64, u8); 6] = [
+        (&[10], 12, 0),
+        (&[11], 13, 0),
+        (&[10, 11], 11, 0),
+        (&[10, 12], 12, 0),
+        (&[11, 12], 12, 1),
+        (&[11, 13], 13, 0),
+    ];
+    for (failing, clock, gate) in table {
+        let disk = disk_of(alloc, &EMPTY, b"", failing)?;
+        let (disk, log, _marks) = play(&rt, alloc, disk, &[failed])?;
+        assert_eq!(rt; log.as_slice(), [Item::Doubt(1, failed.command)].as_slice());
+        assert_eq!(rt; disk.clock(), clock, "{failing:?}");
+        assert_eq!(rt; disk.bytes(Area::A).get(47), Some(&gate), "{failing:?}");
+        let names = desired_in(alloc, disk.bytes(Area::A), disk.bytes(Area::B))?;
+        assert_eq!(rt; names.is_empty(), gate == 0, "{failing:?}");
     }
     Ok(())
 }

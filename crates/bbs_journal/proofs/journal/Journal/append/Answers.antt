@@ -1,6 +1,7 @@
 use Rattle.std.proofs.Common.{◌≡◌, ◌+◌, true, false, is_ok, length, rules, arith}
 use Rattle.bbs_journal.proofs.Keeping.{room, room_on, kept_done, kept_refused, kept_in_doubt, waits_inside, broken_inside}
 use Rattle.bbs_journal.proofs.Turning.{refused, opened}
+use Rattle.bbs_journal.proofs.Written.{frame_written}
 use Rattle.bbs_journal.proofs.journal.Journal.append.Goals as goal
 
 pub write_synced-requires : goal.write_synced-requires
@@ -60,3 +61,8 @@ invariant_of-self-2 g c =
 pub returns-clause-does : goal.returns-clause-does
 returns-clause-does g c =
     rw (← c.self.view_is) (opened _ _ _ _ true _ _ _ c.put_body-len.ensures.bytes c.requires.payload c.in_ok-write_synced.ensures.does c.in_ok-write_synced-2.ensures.does)
+
+pub returns-clause-bytes : goal.returns-clause-bytes
+returns-clause-bytes g c =
+    let whole : c.self.inside.broken ≡ false = broken_inside _ _ _ c.self.view_is c.requires.whole in
+    rw (← c.self.view_is) (λ ok. frame_written _ _ _ _ _ _ _ c.put_body-len.ensures.bytes (room _ _ _ _ _ _ _ _ whole c.self.invariant.1) c.in_ok-write_synced.ensures.does c.in_ok-write_synced-2.ensures.does)
