@@ -10,6 +10,7 @@ mod InPart
 mod Reading
 mod FrameAt
 mod NextFrame
+mod Pieces
 mod Opening
 mod Choosing
 mod Loads

@@ -2,15 +2,8 @@
 use Rattle.std.proofs.Common.{◌≡◌, ℕ, suc, ◌+◌, ◌-◌, ◌≤◌, min, Option, List, [], ◌∷◌, ◌++◌, length, take, drop, refl, sym, ap, ◌∙◌, subst, arith, Global, Vec, append_assoc, append-nil, take-append-drop, drop_at}
 use Rattle.std.proofs.lemmas.List.{drop-drop, map_push}
 use Rattle.std.proofs.lemmas.List.Sums.{sum_by_push}
-use Rattle.disk_trait.specs.Past.{Past, Image}
-use Rattle.disk_trait.specs.declared.area.Area.{Area}
-use Rattle.std.specs.Option.{ForSome}
-use Rattle.disk_trait.specs.Past.{content}
-use Rattle.disk_trait.specs.Steps.{Filled}
-use Rattle.bbs_journal.proofs.Reading.{shown_part}
 use Rattle.bbs_journal.specs.Frames.{spelled, IsFrame}
 use Rattle.bbs_journal.specs.Areas.{Begins}
-use Rattle.bbs_journal.specs.Shows.{Shows}
 use Rattle.bbs_journal.specs.Opening.{IsBroken, AreFrames, Stops}
 use Rattle.bbs_journal.specs.Reading.{IsAt, IsWithin, payloads_of, bytes_of}
 use Rattle.bbs_journal.specs.declared.frame.Next.{Next}
@@ -77,12 +70,6 @@ pub within_at : (next : Next) (bytes : List ℕ) (n : ℕ) → length bytes ≤ 
 within_at (Frame payload) bytes n fits (rest, frame) = (frame.fits.1, omega (arith, fits, frame_length payload.items bytes rest frame))
 within_at Gate bytes n fits b = omega (arith, fits, ap length b.parts)
 within_at Defect bytes n fits broken = tt
-
-pub at_part : (t : Option Past) (area : Area) (at n len m : ℕ) (before after : List ℕ) (next : Next) → length before ≡ 515 → at ≤ len → m ≡ min n (len - at) → ForSome t (λ p. Filled (content p area) at n before after) → IsAt next (take m after)
-    → (c : Image) → Shows t c → len ≡ length (c area) → IsAt next (drop at (c area))
-at_part t area at n len m before after next room within m_is filled here c shows len_is =
-    let part = shown_part t area at n len m before after room within m_is filled c shows len_is in
-    at_whole m (drop at (c area)) next part.count (subst (IsAt next) part.taken here)
 
 -- one more frame in front of those that follow
 payloads_push : (frames : List (Vec ℕ Global)) (frame : Vec ℕ Global) → payloads_of (frames ++ frame ∷ []) ≡ payloads_of frames ++ frame.items ∷ []

@@ -8,6 +8,7 @@ pub mod Opening
 pub mod Shows
 pub mod Reading
 pub mod Found
+pub mod Pieces
 pub mod Grammar
 pub mod Newer
 pub mod Stops

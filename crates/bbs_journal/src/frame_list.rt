@@ -1,15 +1,16 @@
-//! Reading the frames of an area one by one.
+//! The frames of an area, one by one.
 ghost use Rattle.std.specs.Prelude.{◌≡◌, ◌+◌, ◌-◌, ◌*◌, ◌≤◌, length, drop, IfOk, IfErr};
 ghost use Rattle.byte_ports.specs.Cause.{HasCause};
 ghost use Rattle.disk_trait.specs.Past.{Image};
 ghost use Rattle.disk_trait.specs.Steps.{Goes};
 ghost use Rattle.bbs_journal.specs.Shows.{Shows, Peeks, is_disk_fault, IsFree, failed};
 ghost use Rattle.bbs_journal.specs.Opening.{AreFrames};
+ghost use Rattle.bbs_journal.specs.Pieces.{StartsBy, IsPieceOf};
 ghost use Rattle.bbs_journal.specs.Reading.{IsAt, IsWithin, payloads_of, bytes_of};
 
 use crate::LoadFault;
-use crate::body::LONGEST;
 use crate::frame::{Next, next_frame};
+use crate::piece::Piece;
 use disk_trait::{Area, Disk};
 use std::alloc::Global;
 
@@ -22,27 +23,29 @@ pub(crate) struct Frames {
     pub(crate) broken: Option<u64>,
 }
 
-/// Reads as many bytes as the longest frame has, where the area has so many of its `len` bytes left.
+/// What stands at a place of an area of `len` bytes, where a frame may begin.
 fn read_next<D: Disk>(
     alloc: Global,
     disk: &mut D,
     area: Area,
     at: u64,
     len: u64,
+    piece: &mut Piece,
 ) -> Result<Next, LoadFault>
-    requires { at ≤ len }
+    requires starts { StartsBy piece.old at }
+    requires within { at ≤ len }
+    ensures starts { IfOk result (λ next. StartsBy piece.new at) }
     ensures shows { IfOk result (λ next. (c : Image) → Shows (D.told disk.new) c →
-        len ≡ length (c area) → IsAt next (drop at (c area))) }
+        len ≡ length (c area) → IsPieceOf piece.old (c area) →
+        IsPieceOf piece.new (c area) × IsAt next (drop at (c area))) }
     ensures within { IfOk result (λ next. IsWithin next (len - at)) }
     ensures free { IfErr result IsFree }
     ensures does { Goes (D.told disk.old) (D.told disk.new) Peeks }
     ensures cause { HasCause (failed is_disk_fault result)
         (D.fault_count disk.old) (D.fault_count disk.new) }
 {
-    let mut room = [0u8; LONGEST];
-    let count = disk.read_at(area, at, &mut room)?;
-    let count = count.min((len - at) as usize);
-    Ok(next_frame(alloc, &room[..count])?)
+    piece.reach(disk, area, at, len)?;
+    Ok(next_frame(alloc, piece.part(at, len))?)
 }
 
 /// All frames from `start` on, of an area of `len` bytes.
@@ -67,9 +70,10 @@ pub(crate) fn read_frames<D: Disk>(
         (D.fault_count disk.old) (D.fault_count disk.new) }
 {
     let mut payloads = Vec::new(alloc);
+    let mut piece = Piece::new(alloc, start)?;
     let mut at = start;
     loop {
-        match read_next(alloc, disk, area, at, len)? {
+        match read_next(alloc, disk, area, at, len, &mut piece)? {
             Next::Frame(payload) => {
                 at += 3 + payload.len() as u64;
                 payloads.push(payload)?;

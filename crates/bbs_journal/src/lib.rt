@@ -16,6 +16,7 @@ mod loading;
 mod look;
 mod memory_loading;
 mod other_gate;
+mod piece;
 mod place;
 mod preparing;
 mod synced;

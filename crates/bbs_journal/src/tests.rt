@@ -149,6 +149,30 @@ fn the_longest_payload_has_512_bytes(rt: HostRuntime) -> Result<(), Fail> {
 }
 
 #[test]
+fn a_long_area_is_read_in_large_pieces(rt: HostRuntime) -> Result<(), Fail> {
+    let alloc = rt.alloc();
+    let mut frame = [7u8; 515];
+    frame[..3].copy_from_slice(&[1, 2, 0]);
+    let mut bytes = EMPTY[..47].to_vec(alloc)?;
+    for _ in 0..400 {
+        bytes.extend_from_slice(&frame)?;
+    }
+    bytes.push(0)?;
+    // 206048 bytes: a piece of 65536 has 127 of these frames, so four are read.
+    match load(alloc, disk_of(alloc, &bytes, &[], &[])?) {
+        Ok(loaded) => {
+            assert_eq!(rt; loaded.frames.len(), 400);
+            assert_eq!(rt; loaded.journal.clock(), CALLS + 3);
+        }
+        Err((_, fault)) => {
+            let failed: Result<(), LoadFault> = Err(fault);
+            return Ok(failed?);
+        }
+    }
+    Ok(())
+}
+
+#[test]
 fn a_cut_area_is_told_by_its_length_or_its_last_frame(rt: HostRuntime) -> Result<(), Fail> {
     for n in 0..82usize {
         let got = opened(rt.alloc(), &DESIRED[..n.min(81)], &[])?;
