@@ -1,0 +1,4 @@
+mod Own
+mod Others
+mod Told
+mod Over

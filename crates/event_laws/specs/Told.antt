@@ -1,0 +1,88 @@
+-- What events make of rows, for one who has the rows before them and hears of nothing else.
+use Rattle.std.specs.Prelude.{◌≡◌, true, false, List, [], ◌∷◌, Option, Some, None}
+use Rattle.bbs_model.specs.Laws.{Stands}
+use Rattle.bbs_model.specs.Replay.{replay, AreLegal}
+use Rattle.bbs_model.specs.Step.{rows_after, with_row, without_place_of, advanced, has_place_of, events_of}
+use Rattle.bbs_model.specs.declared.command.Command.{Command}
+use Rattle.bbs_model.specs.declared.event.Change.{Change}
+use Rattle.bbs_model.specs.declared.event.Change.TheVariants.{Created, Changed, Removed}
+use Rattle.bbs_model.specs.declared.event.Event.{Event}
+use Rattle.bbs_model.specs.declared.event.Events.{Events}
+use Rattle.bbs_model.specs.declared.event.Row.{Row}
+use Rattle.bbs_model.specs.declared.rows.Rows.{Rows}
+
+-- the rows with this one in its place, or with none there where it was removed
+abbrev pub with_change : Change → Row → Rows → Rows
+with_change Created r rows = with_row rows r
+with_change Changed r rows = with_row rows r
+with_change Removed r rows = without_place_of rows r
+
+-- the rows after an event
+abbrev pub with_event : Event → Rows → Rows
+with_event event rows = with_change event.change event.row rows
+
+-- the rows after events, one after another
+abbrev pub with_events : List Event → Rows → Rows
+with_events [] rows = rows
+with_events (e ∷ es) rows = with_events es (with_event e rows)
+
+-- an event that there may be, behind the first
+abbrev pub behind : Event → Option Event → List Event
+behind first None = first ∷ []
+behind first (Some second) = first ∷ second ∷ []
+
+-- the events of one transition, in order
+abbrev pub in_order : Events → List Event
+in_order events = behind events.first events.second
+
+-- the rows after the events of one transition, which is counted
+abbrev pub after_events : Rows → Events → Rows
+after_events rows events = advanced (with_events (in_order events) rows)
+
+-- the rows after one transition of which so much is told
+abbrev pub after_told : Rows → Option Events → Rows
+after_told rows None = rows
+after_told rows (Some events) = after_events rows events
+
+-- just before a row is created none stands at its key, one does before it is changed, and before it is
+-- removed this very row stands there
+abbrev pub IsDue : Change → Row → Rows → Type 0
+IsDue Created r rows = has_place_of rows r ≡ false
+IsDue Changed r rows = has_place_of rows r ≡ true
+IsDue Removed r rows = Stands rows r
+
+-- just after a row is created or changed it stands at its key, and after it is removed none does
+abbrev pub IsShown : Change → Row → Rows → Type 0
+IsShown Created r rows = Stands rows r
+IsShown Changed r rows = Stands rows r
+IsShown Removed r rows = has_place_of rows r ≡ false
+
+-- each event is due at the rows after those before it
+abbrev pub AreDue : Rows → List Event → Type 0
+AreDue rows [] = Unit {0}
+AreDue rows (e ∷ es) = IsDue e.change e.row rows × AreDue (with_event e rows) es
+
+-- these events are all that a transition did between the two
+pub record TellAll (old new : Rows) (events : Events) : Type 0 where
+  pub all : new ≡ after_events old events
+  pub due : AreDue old (in_order events)
+
+-- a legal command is told of, and its events tell all that it does
+pub record TellsAll (rows : Rows) (c : Command) : Type 0 where
+  pub events : Events
+  pub told : events_of rows c ≡ Some events
+  pub tell : TellAll rows (rows_after rows c) events
+
+-- what is told of commands, transition by transition
+abbrev pub told_of : Rows → List Command → List (Option Events)
+told_of rows [] = []
+told_of rows (c ∷ cs) = events_of rows c ∷ told_of (rows_after rows c) cs
+
+-- the rows after transitions of which so much is told, one after another
+abbrev pub after_all_told : Rows → List (Option Events) → Rows
+after_all_told rows [] = rows
+after_all_told rows (t ∷ ts) = after_all_told (after_told rows t) ts
+
+-- who follows the events of legal commands has the rows of the board
+abbrev pub FollowsTheBoard : Rows → List Command → Type 0
+FollowsTheBoard rows cs = AreLegal rows cs → replay rows cs ≡ after_all_told rows (told_of rows cs)
