@@ -2,3 +2,4 @@ mod Own
 mod Others
 mod Told
 mod Over
+mod Onward

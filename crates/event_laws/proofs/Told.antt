@@ -1,12 +1,13 @@
 -- The events of a command are all that it does.
-use Rattle.std.proofs.Common.{◌≡◌, Bool, true, false, cond, List, [], ◌∷◌, Option, Some, None, is_some, refl, ap, sym, subst, ◌∙◌}
+use Rattle.std.proofs.Common.{◌≡◌, Bool, true, false, cond, suc, length, List, [], ◌∷◌, Option, Some, None, is_some, refl, ap, sym, subst, ◌∙◌}
 use Rattle.diego_names.specs.Order.{name_order}
 use Rattle.diego_names.proofs.Ties.{IsKeyOrder-name_order}
 use Rattle.lrp_records.specs.Place.{place_of, place_order}
 use Rattle.lrp_records.proofs.Ties.{IsKeyOrder-place_order}
 use Rattle.row_tables.proofs.Lookups.{find_row-put_row_same, find_row-without_row_same}
 use Rattle.bbs_model.specs.Laws.{Stands, SaysSo, AreTrue}
-use Rattle.bbs_model.specs.Step.{IsLegal, changed_by, advanced, edited, edited_again, rows_after, with_row, without_place_of, has_place_of, event_of, event_again, events_in, events_of}
+use Rattle.bbs_model.specs.Replay.{replay, AreLegal}
+use Rattle.bbs_model.specs.Step.{IsLegal, changed_by, advanced, edited, edited_again, rows_after, with_row, without_place_of, has_place_of, event_of, event_again, events_in}
 use Rattle.bbs_model.specs.Tables.{process_of, task_name_of, cell_name_of}
 use Rattle.bbs_model.specs.declared.attempt.Attempt.{Attempt}
 use Rattle.bbs_model.specs.declared.attempt.Attempt.TheVariants.{Change as Changes}
@@ -22,7 +23,7 @@ use Rattle.bbs_model.specs.declared.event.Row.{Row}
 use Rattle.bbs_model.specs.declared.event.Row.TheVariants as row
 use Rattle.bbs_model.specs.declared.rows.Rows.{Rows}
 use Rattle.bbs_model.proofs.Keeps.{legal_changes}
-use Rattle.event_laws.specs.Told.{with_change, with_event, with_events, behind, after_told, IsDue, IsShown, AreDue, TellAll, TellsAll, told_of, after_all_told, FollowsTheBoard}
+use Rattle.event_laws.specs.Told.{with_change, with_event, with_events, behind, IsDue, IsShown, AreDue, TellAll, TellsAll, told_of, told_before, after_all, FollowsTheBoard}
 use Rattle.event_laws.proofs.Own.{IsSound, IsOwnAgain, AreOwn, own-attempt}
 
 -- what is told of an edit is what it does
@@ -77,12 +78,22 @@ tells_all rows c legal =
     }
 
 -- who follows the events has the rows
-pub follows : (rows : Rows) (cs : List Command) → FollowsTheBoard rows cs
-follows rows [] legal = refl
-follows rows (c ∷ cs) legal =
+follows-rows : (rows : Rows) (cs : List Command) → AreLegal rows cs → replay rows cs ≡ after_all rows (told_of rows cs)
+follows-rows rows [] legal = refl
+follows-rows rows (c ∷ cs) legal =
     let tells = tells_all rows c legal.0 in
-    let one : rows_after rows c ≡ after_told rows (events_of rows c) = tells.tell.all ∙ ap (after_told rows) (sym tells.told) in
-    follows (rows_after rows c) cs legal.1 ∙ ap (λ (r : Rows). after_all_told r (told_of (rows_after rows c) cs)) one
+    let later = told_of (rows_after rows c) cs in
+    follows-rows (rows_after rows c) cs legal.1 ∙ ap (λ (r : Rows). after_all r later) tells.tell.all
+    ∙ ap (λ (t : Option Events). after_all rows (told_before t later)) (sym tells.told)
+
+follows-each : (rows : Rows) (cs : List Command) → AreLegal rows cs → length (told_of rows cs) ≡ length cs
+follows-each rows [] legal = refl
+follows-each rows (c ∷ cs) legal =
+    let later = told_of (rows_after rows c) cs in
+    ap (λ (t : Option Events). length (told_before t later)) (tells_all rows c legal.0).told ∙ ap (λ n. suc n) (follows-each (rows_after rows c) cs legal.1)
+
+pub follows : (rows : Rows) (cs : List Command) → FollowsTheBoard rows cs
+follows rows cs = record { rows_are = follows-rows rows cs; each = follows-each rows cs }
 
 -- a row that was put stands there, and none where it was taken away
 Stands-with_row : (rows : Rows) (r : Row) → Stands (with_row rows r) r

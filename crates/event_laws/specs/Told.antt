@@ -1,5 +1,5 @@
 -- What events make of rows, for one who has the rows before them and hears of nothing else.
-use Rattle.std.specs.Prelude.{◌≡◌, true, false, List, [], ◌∷◌, Option, Some, None}
+use Rattle.std.specs.Prelude.{◌≡◌, true, false, List, [], ◌∷◌, length, Option, Some, None}
 use Rattle.bbs_model.specs.Laws.{Stands}
 use Rattle.bbs_model.specs.Replay.{replay, AreLegal}
 use Rattle.bbs_model.specs.Step.{rows_after, with_row, without_place_of, advanced, has_place_of, events_of}
@@ -39,10 +39,10 @@ in_order events = behind events.first events.second
 abbrev pub after_events : Rows → Events → Rows
 after_events rows events = advanced (with_events (in_order events) rows)
 
--- the rows after one transition of which so much is told
-abbrev pub after_told : Rows → Option Events → Rows
-after_told rows None = rows
-after_told rows (Some events) = after_events rows events
+-- the rows after the events of transitions, one after another
+abbrev pub after_all : Rows → List Events → Rows
+after_all rows [] = rows
+after_all rows (t ∷ ts) = after_all (after_events rows t) ts
 
 -- just before a row is created none stands at its key, one does before it is changed, and before it is
 -- removed this very row stands there
@@ -73,16 +73,17 @@ pub record TellsAll (rows : Rows) (c : Command) : Type 0 where
   pub told : events_of rows c ≡ Some events
   pub tell : TellAll rows (rows_after rows c) events
 
+-- in front of what is told later
+abbrev pub told_before : Option Events → List Events → List Events
+told_before None later = later
+told_before (Some events) later = events ∷ later
+
 -- what is told of commands, transition by transition
-abbrev pub told_of : Rows → List Command → List (Option Events)
+abbrev pub told_of : Rows → List Command → List Events
 told_of rows [] = []
-told_of rows (c ∷ cs) = events_of rows c ∷ told_of (rows_after rows c) cs
+told_of rows (c ∷ cs) = told_before (events_of rows c) (told_of (rows_after rows c) cs)
 
--- the rows after transitions of which so much is told, one after another
-abbrev pub after_all_told : Rows → List (Option Events) → Rows
-after_all_told rows [] = rows
-after_all_told rows (t ∷ ts) = after_all_told (after_told rows t) ts
-
--- who follows the events of legal commands has the rows of the board
-abbrev pub FollowsTheBoard : Rows → List Command → Type 0
-FollowsTheBoard rows cs = AreLegal rows cs → replay rows cs ≡ after_all_told rows (told_of rows cs)
+-- who has a board's rows, and then hears of each of its transitions, has its rows after them
+pub record FollowsTheBoard (rows : Rows) (cs : List Command) : Type 0 where
+  pub rows_are : AreLegal rows cs → replay rows cs ≡ after_all rows (told_of rows cs)
+  pub each : AreLegal rows cs → length (told_of rows cs) ≡ length cs
