@@ -22,7 +22,7 @@ unfolding len_in
 none_len bytes is two some few = grind (arith, nat_tests)
 
 -- a spelled payload begins with its length
-spelled_number : (payload rest : List ℕ) → IsPayload payload → from_be_bytes w16 (take 2 (spelled payload ++ rest)) ≡ length payload
+pub spelled_number : (payload rest : List ℕ) → IsPayload payload → from_be_bytes w16 (take 2 (spelled payload ++ rest)) ≡ length payload
 unfolding field_number
 spelled_number payload rest fits =
     let n = field_number w16 (length payload) in

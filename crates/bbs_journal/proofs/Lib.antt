@@ -18,4 +18,5 @@ pub mod Once
 pub mod Accepted
 pub mod Recovered
 pub mod Newer
+pub mod Outcomes
 pub mod Stops

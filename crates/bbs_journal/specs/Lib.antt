@@ -11,5 +11,6 @@ pub mod Found
 pub mod Pieces
 pub mod Grammar
 pub mod Newer
+pub mod Outcomes
 pub mod Stops
 pub mod Preparing

@@ -2,6 +2,7 @@
 ghost use Rattle.bbs_journal.specs.Areas.{AreOne};
 ghost use Rattle.bbs_journal.specs.Grammar.{AreOpened, AreRecovered, AreReady, OpensOnce};
 ghost use Rattle.bbs_journal.specs.Newer.{NewerIsOpened, NewerIsRecovered, RecoversOnce};
+ghost use Rattle.bbs_journal.specs.Outcomes.{OpensOrHasNoHead};
 ghost use Rattle.bbs_journal.specs.Stops.{StopsAreOpened, AcknowledgedAreOpened};
 
 /// The head and the bytes of an area tell its payloads.
@@ -17,6 +18,11 @@ pub fn what_is_recovered_is_opened()
 /// Two openings of one image agree in everything.
 pub fn an_image_is_opened_once()
     ensures { OpensOnce }
+{}
+
+/// Each image is opened, or has no head that can be read, whatever stands in it.
+pub fn an_image_is_opened_or_has_no_head()
+    ensures { OpensOrHasNoHead }
 {}
 
 /// The grammar finds one journal in an image at most.

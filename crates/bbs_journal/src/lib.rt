@@ -25,9 +25,9 @@ pub use fault::DiskFault;
 pub use journal::Journal;
 pub use laws::{
     a_stop_is_opened_before_or_after, an_area_holds_one_list_of_payloads, an_image_is_opened_once,
-    an_image_is_recovered_once, of_two_open_areas_the_newer_is_opened,
-    what_is_acknowledged_is_opened, what_is_opened_is_recovered, what_is_recovered_is_opened,
-    what_is_recovered_takes_frames,
+    an_image_is_opened_or_has_no_head, an_image_is_recovered_once,
+    of_two_open_areas_the_newer_is_opened, what_is_acknowledged_is_opened,
+    what_is_opened_is_recovered, what_is_recovered_is_opened, what_is_recovered_takes_frames,
 };
 pub use load_fault::LoadFault;
 pub use loading::{Loaded, load};
