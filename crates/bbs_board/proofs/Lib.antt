@@ -7,3 +7,4 @@ pub mod Keeping
 pub mod Doubting
 pub mod Held
 pub mod Completing
+mod Outcomes

@@ -22,6 +22,24 @@ OpensInOneWay = (a b : Rows) (c : Image) → IsBoard a c → IsBoard b c → a �
 abbrev pub RecoversOrRefuses : Type 0
 RecoversOrRefuses = (rows : Rows) (fault : LoadFault) (c : Image) → IsBoard rows c → IsRefused fault c → ⊥
 
+-- what is refused is refused for one defect only
+abbrev pub RefusesOnce : Type 0
+RefusesOnce = (a b : LoadFault) (c : Image) → IsRefused a c → IsRefused b c → a ≡ b
+
+-- the image is a board
+pub record IsSomeBoard (c : Image) : Type 0 where
+  pub rows : Rows
+  pub board : IsBoard rows c
+
+-- the image is none
+pub record IsNoBoard (c : Image) : Type 0 where
+  pub fault : LoadFault
+  pub refused : IsRefused fault c
+
+-- each image is a board, or is refused, whatever stands in it
+abbrev pub OpensOrIsRefused : Type 0
+OpensOrIsRefused = (c : Image) → IsSomeBoard c ⊎ IsNoBoard c
+
 -- what a stop leaves while a command is stored is a board with the rows before it or with those after it,
 -- and once it is acknowledged with those after it
 pub record StopsLeaveBoards (stored : Bool) (rows : Rows) (command : Command) (p q : Past) : Type 0 where

@@ -13,7 +13,8 @@ mod room;
 pub use bbs_journal::{LoadFault, PrepareFault, prepare};
 pub use board::{Board, Closed};
 pub use laws::{
-    a_board_is_not_refused, a_board_is_opened_in_one_way, a_stop_leaves_the_board_before_or_after,
+    a_board_is_not_refused, a_board_is_opened_in_one_way, a_refusal_is_one_refusal,
+    a_stop_leaves_the_board_before_or_after, an_image_is_a_board_or_refused,
     tasks_complete_once_over_a_stop,
 };
 pub use loading::load;
