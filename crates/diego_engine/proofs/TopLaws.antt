@@ -12,7 +12,7 @@ use Rattle.bbs_journal.specs.Preparing.{FindsBytes}
 use Rattle.bbs_journal.specs.declared.load_fault.LoadFault.{LoadFault}
 use Rattle.bbs_journal.specs.declared.load_fault.LoadFault.TheVariants as fault
 use Rattle.diego_engine.specs.Ending.{number_of}
-use Rattle.diego_engine.specs.Running.{Ports}
+use Rattle.diego_engine.specs.Running.{Ports, IsTold}
 use Rattle.diego_engine.specs.Script.{script_of}
 use Rattle.diego_engine.specs.Top.{limit, ReadsWhole, Ends, RunsWhole, Meets, is_before_board}
 use Rattle.diego_engine.specs.declared.ending.Ending.{Ending}
@@ -57,7 +57,7 @@ module _ (e : Ended) (left left' : Option (List ℕ)) (v w : Ports) where
   unstored_from how what n h = absurd (omega (arith, n))
 
   pub refused_from : (how : Ending) (what : Option Asked) → number_of how ≡ 6 → Ends how what e left left' v w
-      → (why : LoadFault) × ((image : Image) → Shows v.told image → IsRefused why image)
+      → (why : LoadFault) × ((image : Image) → Shows v.told image → IsTold w.told → IsRefused why image)
   refused_from (ending.NotABoard area) (Some asked.Run) n (script, reads, early) = (fault.NotABoard area, early.1)
   refused_from (ending.Damaged area at) (Some asked.Run) n (script, reads, early) = (fault.Damaged area at, early.1)
   refused_from (ending.NotABoard area) (Some asked.Prepare) n h = absurd h.0
@@ -126,23 +126,23 @@ module _ (e : Ended) (left left' : Option (List ℕ)) (v w : Ports) where
           let same : xs ≡ bytes = cc in
           omega (arith, len, ap length same, ap length consumes, length-append read ys)
 
-  pub complete_from : (how : Ending) (what : Option Asked) → what ≡ Some asked.Run → Ends how what e left left' v w → Meets left v.told
+  pub complete_from : (how : Ending) (what : Option Asked) → what ≡ Some asked.Run → Ends how what e left left' v w → Meets left v.told → IsTold w.told
       → (number_of how ≡ 3 → ⊥) → (Rose v.write_faults w.write_faults → ⊥) → (Rose v.disk_faults w.disk_faults → ⊥) → (number_of how ≡ 0) ⊎ (number_of how ≡ 7)
-  complete_from how None is h m read sink disk = cc
-  complete_from how (Some asked.Prepare) is h m read sink disk = cc
-  complete_from ending.Done (Some asked.Run) is h m read sink disk = inl refl
-  complete_from ending.OutOfMemory (Some asked.Run) is h m read sink disk = inr refl
-  complete_from ending.Read (Some asked.Run) is h m read sink disk = absurd (read refl)
-  complete_from ending.Unwritten (Some asked.Run) is h m read sink disk = absurd (sink (unwritten_from ending.Unwritten (Some asked.Run) refl h))
-  complete_from ending.Unopened (Some asked.Run) is h m read sink disk = absurd (disk (unstored_from ending.Unopened (Some asked.Run) refl h))
-  complete_from ending.Doubt (Some asked.Run) is h m read sink disk = absurd (disk (unstored_from ending.Doubt (Some asked.Run) refl h))
-  complete_from (ending.NotABoard area) (Some asked.Run) is (script, reads, early) m read sink disk =
-      absurd (not_refused m.rows (fault.NotABoard area) m.image m.board (early.1 m.image m.shows))
-  complete_from (ending.Damaged area at) (Some asked.Run) is (script, reads, early) m read sink disk =
-      absurd (not_refused m.rows (fault.Damaged area at) m.image m.board (early.1 m.image m.shows))
-  complete_from ending.TooLong (Some asked.Run) is h m read sink disk =
+  complete_from how None is h m told read sink disk = cc
+  complete_from how (Some asked.Prepare) is h m told read sink disk = cc
+  complete_from ending.Done (Some asked.Run) is h m told read sink disk = inl refl
+  complete_from ending.OutOfMemory (Some asked.Run) is h m told read sink disk = inr refl
+  complete_from ending.Read (Some asked.Run) is h m told read sink disk = absurd (read refl)
+  complete_from ending.Unwritten (Some asked.Run) is h m told read sink disk = absurd (sink (unwritten_from ending.Unwritten (Some asked.Run) refl h))
+  complete_from ending.Unopened (Some asked.Run) is h m told read sink disk = absurd (disk (unstored_from ending.Unopened (Some asked.Run) refl h))
+  complete_from ending.Doubt (Some asked.Run) is h m told read sink disk = absurd (disk (unstored_from ending.Doubt (Some asked.Run) refl h))
+  complete_from (ending.NotABoard area) (Some asked.Run) is (script, reads, early) m told read sink disk =
+      absurd (not_refused m.rows (fault.NotABoard area) m.image m.board (early.1 m.image m.shows told))
+  complete_from (ending.Damaged area at) (Some asked.Run) is (script, reads, early) m told read sink disk =
+      absurd (not_refused m.rows (fault.Damaged area at) m.image m.board (early.1 m.image m.shows told))
+  complete_from ending.TooLong (Some asked.Run) is h m told read sink disk =
       absurd (let more = not_more m.bytes (limit + 1) m.left_is h.1 in let few = m.few in omega (arith, more, few))
-  complete_from ending.Script (Some asked.Run) is (untouched, (read_bytes, consumes, end, few, none)) m read sink disk =
+  complete_from ending.Script (Some asked.Run) is (untouched, (read_bytes, consumes, end, few, none)) m told read sink disk =
       absurd (cc (sym none ∙ ap script_of (read_all m.bytes read_bytes m.left_is consumes end) ∙ m.script_is))
-  complete_from ending.Usage (Some asked.Run) is h m read sink disk = absurd h
-  complete_from ending.Exists (Some asked.Run) is h m read sink disk = absurd h
+  complete_from ending.Usage (Some asked.Run) is h m told read sink disk = absurd h
+  complete_from ending.Exists (Some asked.Run) is h m told read sink disk = absurd h

@@ -1,4 +1,6 @@
 pub mod Ending
+pub mod Headline
+pub mod InMemory
 pub mod LineKinds
 pub mod Lines
 pub mod Member

@@ -1,5 +1,5 @@
 -- How the run of a script ends, by what the ports and the disk did.
-use Rattle.std.specs.Prelude.{◌≡◌, ◌⊎◌, ℕ, Bool, true, false, not, List, [], ◌∷◌, map, Option, Result, Ok, Err}
+use Rattle.std.specs.Prelude.{◌≡◌, ◌⊎◌, ℕ, Bool, true, false, not, List, [], ◌∷◌, map, Option, Some, None, Result, Ok, Err}
 use Rattle.std.specs.Io.KnownBytes.{Appends}
 use Rattle.std.specs.Option.{ForSome}
 use Rattle.byte_ports.specs.Cause.{HasCause}
@@ -44,6 +44,11 @@ ports_of held write_faults told disk_faults clock = record {
   disk_faults = disk_faults;
   clock = clock;
 }
+
+-- the disk tells its past
+abbrev pub IsTold : Option Past → Type 0
+IsTold None = ⊥
+IsTold (Some p) = Unit {0}
 
 -- a text was put into a sink that held this, whole or up to a fault
 pub record PrintsTo (whole : Bool) (text : List ℕ) (held held' : Option (List ℕ)) (faults faults' : ℕ) : Type 0 where
@@ -114,19 +119,20 @@ CallEnds ending.Unwritten script rows e v w = (failed : Bool) × EndsCall script
 CallEnds ending.OutOfMemory script rows e v w = EndsEarly false e v w
 CallEnds other script rows e v w = ⊥
 
--- the run loaded a board, and made its call
+-- the run loaded a board, that of the disk where it tells its past to the end, and made its call
 pub record EndsLate (script : Script) (whole failed : Bool) (e : Ended) (v w : Ports) : Type 0 where
   pub rows : Rows
   pub between : Ports
-  pub opens : (image : Image) → Shows v.told image → IsBoard rows image
+  pub opens : (image : Image) → Shows v.told image → IsTold w.told → IsBoard rows image
+  pub timed : (q : Past) → between.told ≡ Some q → q.clock ≡ between.clock
   pub secures : Goes v.told between.told Secures
   pub same_sink : (between.held ≡ v.held) × (between.write_faults ≡ v.write_faults)
   pub no_fault : between.disk_faults ≡ v.disk_faults
   pub call : EndsCall script rows whole failed e between w
 
--- no board was loaded, for this fault, which the content of the disk explains
+-- no board was loaded, for this fault, which the content of a disk explains that tells its past to the end
 abbrev pub EndsRefused : LoadFault → Ended → Ports → Ports → Type 0
-EndsRefused why e v w = EndsEarly false e v w × ((image : Image) → Shows v.told image → IsRefused why image)
+EndsRefused why e v w = EndsEarly false e v w × ((image : Image) → Shows v.told image → IsTold w.told → IsRefused why image)
 
 -- how the run of a script ends
 abbrev pub ScriptEnds : Ending → Script → Ended → Ports → Ports → Type 0

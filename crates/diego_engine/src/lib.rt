@@ -4,12 +4,14 @@
 mod calling;
 mod commands;
 mod ending;
+mod in_memory;
 mod phase;
 mod running;
 mod script;
 mod top;
 mod words;
 
+pub use in_memory::diego_top_in_memory;
 pub use top::{TopEnd, diego_top, still_top};
 
 #[cfg(test)]

@@ -4,13 +4,15 @@ ghost use Rattle.byte_ports.specs.Cause.{HasCause, Rose};
 ghost use Rattle.byte_ports.specs.Content.{Lost};
 ghost use Rattle.disk_trait.specs.Past.{Image};
 ghost use Rattle.disk_trait.specs.Steps.{Goes};
+ghost use Rattle.bbs_board.specs.Doubts.{doubts_in, RoseForEach};
 ghost use Rattle.bbs_board.specs.Opening.{IsRefused};
 ghost use Rattle.bbs_journal.specs.Shows.{Shows};
 ghost use Rattle.bbs_journal.specs.Preparing.{FindsBytes};
 ghost use Rattle.bbs_journal.specs.declared.load_fault.LoadFault.{LoadFault as Why};
 ghost use Rattle.diego_engine.specs.Script.{script_of};
 ghost use Rattle.diego_engine.specs.Ending.{number_of};
-ghost use Rattle.diego_engine.specs.Running.{ports_of};
+ghost use Rattle.diego_engine.specs.Headline.{Headline};
+ghost use Rattle.diego_engine.specs.Running.{IsTold, ports_of};
 ghost use Rattle.diego_engine.specs.Top.{ReadsWhole, StillEnds, Ends, Meets, RunsWhole, is_before_board, limit};
 ghost use Rattle.diego_engine.specs.Words.{asked_of};
 ghost use Rattle.diego_engine.specs.declared.ending.Ending.{Ending as AnEnding};
@@ -78,6 +80,7 @@ pub fn still_top<S: Source, K: Sink, D: Disk>(
 ) -> TopEnd<S, K, D>
     requires { asked_of (map (λ w. string_bytes w) words.now) ≢ Some wanted.Run }
     ensures source { result.source ≡ source }
+    ensures unopened { is_before_board result.status ≡ true → result.disk ≡ disk }
     ensures ends { (how : AnEnding) × (result.status ≡ number_of how)
         × StillEnds how (asked_of (map (λ w. string_bytes w) words.now))
         (record { ending = how; log = result.log; marks = result.marks; answers = result.answers })
@@ -105,6 +108,9 @@ fn whole_top<S: Source, K: Sink, D: Disk, G: Gate>(
         (ports_of (K.held result.sink) (K.faults result.sink)
         (D.told result.disk) (D.fault_count result.disk) (D.moment result.disk)) }
     ensures read { HasCause (result.status == 3) (S.faults source) (S.faults result.source) }
+    ensures unread { asked_of (map (λ w. string_bytes w) words.now) ≢ Some wanted.Run
+        → result.source ≡ source }
+    ensures unopened { is_before_board result.status ≡ true → result.disk ≡ disk }
 {
     if !asks_for_a_run(words) {
         return still_top(alloc, words, source, sink, disk);
@@ -113,8 +119,10 @@ fn whole_top<S: Source, K: Sink, D: Disk, G: Gate>(
     top_end(ended, source, sink, disk)
 }
 
-/// All that the program does. What it prints and does to the disk is told by `ends`: the other clauses
-/// say of each status where it comes from.
+/// All that the program does. `headline` is what the board promises, whatever the status; what is printed
+/// and done to the disk is told by `ends`, and the other clauses say of each status where it comes from.
+/// The clauses on content speak of a disk that tells its past; one that falls silent on the way has
+/// only its causes and its safety.
 pub fn diego_top<S: Source, K: Sink, D: Disk, G: Gate>(
     alloc: Global,
     words: &[String],
@@ -123,6 +131,14 @@ pub fn diego_top<S: Source, K: Sink, D: Disk, G: Gate>(
     disk: D,
     gate: &G,
 ) -> TopEnd<S, K, D>
+    // What was acknowledged, a stop leaves; nothing else shows but a doubt; and each doubt has a fault of
+    // the disk for its cause.
+    ensures headline { asked_of (map (λ w. string_bytes w) words.now) ≡ Some wanted.Run
+        → Headline result.log.items result.marks.items (D.told disk) (D.told result.disk)
+        (D.fault_count disk) (D.fault_count result.disk) }
+    ensures doubts { RoseForEach (doubts_in result.log.items)
+        (D.fault_count disk) (D.fault_count result.disk) }
+
     ensures ends { (how : AnEnding) × (result.status ≡ number_of how)
         × Ends how (asked_of (map (λ w. string_bytes w) words.now))
         (record { ending = how; log = result.log; marks = result.marks; answers = result.answers })
@@ -139,11 +155,18 @@ pub fn diego_top<S: Source, K: Sink, D: Disk, G: Gate>(
     ensures unwritten { result.status ≡ 4 → Rose (K.faults sink) (K.faults result.sink) }
     ensures unstored { result.status ≡ 5 → Rose (D.fault_count disk) (D.fault_count result.disk) }
     ensures refused { result.status ≡ 6 → (why : Why)
-        × ((image : Image) → Shows (D.told disk) image → IsRefused why image) }
+        × ((image : Image) → Shows (D.told disk) image → IsTold (D.told result.disk)
+        → IsRefused why image) }
     ensures too_long { result.status ≡ 8 → Lost (S.left source) (S.left result.source) (limit + 1) }
     ensures exists { result.status ≡ 9 → Goes (D.told disk) (D.told result.disk) FindsBytes }
     ensures untouched { is_before_board result.status ≡ true
         → (D.told result.disk ≡ D.told disk) × (D.fault_count result.disk ≡ D.fault_count disk) }
+
+    // What is handed back is what was handed in: the source, where nothing is run, and the disk, where it
+    // ends before the opening.
+    ensures unread { asked_of (map (λ w. string_bytes w) words.now) ≢ Some wanted.Run
+        → result.source ≡ source }
+    ensures unopened { is_before_board result.status ≡ true → result.disk ≡ disk }
 
     // A run that ends with 0 read a script, opened a board, and made the call: its answer is the step's
     // verdict at that board, and the log, the disk and the text say the same.
@@ -159,6 +182,7 @@ pub fn diego_top<S: Source, K: Sink, D: Disk, G: Gate>(
     // With a script and a board, and without a fault, all is done unless memory runs out.
     ensures complete { asked_of (map (λ w. string_bytes w) words.now) ≡ Some wanted.Run
         → Meets (S.left source) (D.told disk)
+        → IsTold (D.told result.disk)
         → (Rose (S.faults source) (S.faults result.source) → ⊥)
         → (Rose (K.faults sink) (K.faults result.sink) → ⊥)
         → (Rose (D.fault_count disk) (D.fault_count result.disk) → ⊥)

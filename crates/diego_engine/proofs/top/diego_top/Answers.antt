@@ -1,8 +1,15 @@
 use Rattle.std.proofs.Common.{sym, ◌∙◌, ap, ℕ, inl, inr}
 use Rattle.std.specs.Prelude.{◌==◌}
 use Rattle.diego_engine.specs.Top.{is_before_board}
+use Rattle.diego_engine.proofs.Headlines.{headline_from, doubts_from}
 use Rattle.diego_engine.proofs.TopLaws.{usage_from, usage_to, script_from, unwritten_from, unstored_from, refused_from, too_long_from, exists_from, untouched_from, done_from, complete_from}
 use Rattle.diego_engine.proofs.top.diego_top.Goals as goal
+
+pub returns-clause-headline : goal.returns-clause-headline
+returns-clause-headline g c is = let (how, status, ends) = c.whole_top.ensures.ends in headline_from _ _ _ _ _ how _ is ends
+
+pub returns-clause-doubts : goal.returns-clause-doubts
+returns-clause-doubts g c = let (how, status, ends) = c.whole_top.ensures.ends in doubts_from _ _ _ _ _ how _ ends
 
 pub returns-clause-usage : goal.returns-clause-usage
 returns-clause-usage g c =
@@ -33,9 +40,9 @@ returns-clause-untouched g c n =
     untouched_from _ _ _ _ _ how _ (ap is_before_board (sym status) ∙ n) ends
 
 pub returns-clause-complete : goal.returns-clause-complete
-returns-clause-complete g c is meets source sink disk =
+returns-clause-complete g c is meets told source sink disk =
     let (how, status, ends) = c.whole_top.ensures.ends in
-    elim (complete_from _ _ _ _ _ how _ is ends meets (λ n. source (c.whole_top.ensures.read.rose (ap (λ (m : ℕ). m == 3) (status ∙ n)))) sink disk) [
+    elim (complete_from _ _ _ _ _ how _ is ends meets told (λ n. source (c.whole_top.ensures.read.rose (ap (λ (m : ℕ). m == 3) (status ∙ n)))) sink disk) [
       | inl n ↦ inl (status ∙ n)
       | inr n ↦ inr (status ∙ n)
     ]

@@ -1,0 +1,14 @@
+use Rattle.diego_engine.proofs.Spoken.{spoken, spoken_whole}
+use Rattle.diego_engine.proofs.in_memory.diego_top_in_memory.Goals as goal
+
+pub returns-clause-ends : goal.returns-clause-ends
+returns-clause-ends g c = let (how, status, ends) = c.diego_top.ensures.ends in (how, status, spoken _ _ _ tt _ _ how _ ends)
+
+pub returns-clause-done : goal.returns-clause-done
+returns-clause-done g c n is = let (how, whole) = c.diego_top.ensures.done n is in (how, spoken_whole _ _ _ tt _ _ whole)
+
+pub returns-clause-complete : goal.returns-clause-complete
+returns-clause-complete g c is meets source sink disk = c.diego_top.ensures.complete is meets tt source sink disk
+
+pub returns-clause-refused : goal.returns-clause-refused
+returns-clause-refused g c n = let (why, refused) = c.diego_top.ensures.refused n in (why, λ image shows. refused image shows tt)
