@@ -1,6 +1,5 @@
 -- The headline, from each way in which a run ends.
-use Rattle.std.proofs.Common.{◌≡◌, ℕ, ◌+◌, ◌≤◌, Bool, List, [], Option, Some, None, refl, sym, subst, arith}
-use Rattle.std.specs.Option.{ForSome}
+use Rattle.std.proofs.Common.{◌≡◌, ℕ, ◌≤◌, Bool, List, [], Option, Some, None, refl, sym, subst, arith}
 use Rattle.disk_trait.specs.Past.{Past}
 use Rattle.disk_trait.specs.Runs.{Extends}
 use Rattle.disk_trait.specs.Held.{Leaves}
@@ -14,8 +13,8 @@ use Rattle.bbs_board.specs.Calls.{StoresBy}
 use Rattle.bbs_board.specs.Doubts.{doubts_in, RoseForEach}
 use Rattle.diego_engine.specs.Headline.{Headline}
 use Rattle.diego_engine.specs.Phase.{command_of}
-use Rattle.diego_engine.specs.Running.{Ports, IsEmpty, EndsEarly, EndsCall, EndsLate}
-use Rattle.diego_engine.specs.Top.{EndsUntouched, RunEnds, StillEnds, Ends}
+use Rattle.diego_engine.specs.Running.{Ports, IsEmpty, EndsEarly, EndsLate}
+use Rattle.diego_engine.specs.Top.{EndsUntouched, RunEnds, Ends}
 use Rattle.diego_engine.specs.declared.ending.Ending.{Ending}
 use Rattle.diego_engine.specs.declared.ending.Ending.TheVariants as ending
 use Rattle.diego_engine.specs.declared.running.Ended.{Ended}

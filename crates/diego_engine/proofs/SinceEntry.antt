@@ -1,5 +1,5 @@
 -- What is kept since the entry, by runs that only look, and by runs that load a board and then call it.
-use Rattle.std.proofs.Common.{◌≡◌, ◌∙◌, ℕ, ◌≤◌, Bool, List, [], ◌∷◌, Option, Some, None, refl, sym, ap, subst, arith, inl, inr}
+use Rattle.std.proofs.Common.{◌≡◌, ℕ, ◌≤◌, Bool, List, [], ◌∷◌, Option, Some, refl, sym, subst, arith, inl, inr}
 use Rattle.std.proofs.lemmas.Bool.Decides.{leb_tells}
 use Rattle.std.specs.Option.{ForSome}
 use Rattle.disk_trait.specs.Held.{Held, Leaves}
@@ -11,7 +11,6 @@ use Rattle.disk_trait.proofs.Told.{goes_back}
 use Rattle.disk_trait.specs.declared.area.Area.{Area}
 use Rattle.bbs_journal.specs.Shows.{Shows, Keeps as KeepsContent, Secures}
 use Rattle.bbs_model.specs.Replay.{IsReached, IsLawful}
-use Rattle.bbs_model.specs.Step.{verdict_of}
 use Rattle.bbs_model.specs.declared.command.Command.{Command}
 use Rattle.bbs_model.specs.declared.item.Item.{Item}
 use Rattle.bbs_model.specs.declared.rows.Rows.{Rows}
@@ -22,7 +21,7 @@ use Rattle.bbs_board.specs.Doubts.{doubts_in, RoseForEach}
 use Rattle.bbs_board.specs.Kept.{IsFound, AreRising, Kept}
 use Rattle.bbs_board.specs.Opening.{IsBoard}
 use Rattle.bbs_board.proofs.Loaded.{one_board}
-use Rattle.diego_engine.specs.Headline.{Holds, Takes, Headline}
+use Rattle.diego_engine.specs.Headline.{HoldsOnly, Takes, Headline}
 use Rattle.diego_engine.specs.Running.{IsTold}
 
 -- numbers that never fall lie above each smaller one
@@ -41,7 +40,7 @@ stores_extend verdict.Ok stored rows command p q stores = stores.extends
 stores_extend verdict.Same stored rows command p q stores = subst (Extends p) (sym stores) (extends_same p)
 stores_extend (verdict.Refused why) stored rows command p q stores = subst (Extends p) (sym stores) (extends_same p)
 
-module _ (rows : Rows) (p : Past) (holds : Holds rows p) where
+module _ (rows : Rows) (p : Past) (holds : HoldsOnly rows p) where
   -- what a stop may leave at entry is the board
   is_found : (log : List Item) (image : Image) → ((area : Area) → Leaves (now p area) (image area)) → IsFound rows log 0 image
   is_found log image leaves =

@@ -1,5 +1,5 @@
 -- Over a disk that tells its past at the end, the ways in which the program ends ask nothing of the end.
-use Rattle.std.proofs.Common.{◌≡◌, ℕ, Bool, true, false, List, Option, Some, None, refl, subst}
+use Rattle.std.proofs.Common.{ℕ, Bool, true, false, List, Option, Some, None}
 use Rattle.diego_engine.specs.InMemory.{EndsLate as SpokenLate, Ends as SpokenEnds, RunEnds as SpokenRun, RunsWhole as SpokenWhole}
 use Rattle.diego_engine.specs.Running.{Ports, IsTold, EndsLate}
 use Rattle.diego_engine.specs.Top.{Ends, RunEnds, RunsWhole}

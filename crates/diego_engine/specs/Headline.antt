@@ -10,7 +10,7 @@ use Rattle.bbs_board.specs.Kept.{Kept}
 use Rattle.bbs_board.specs.Opening.{IsBoard}
 
 -- the disk holds a board with these rows, and a stop leaves that and nothing else
-pub record Holds (rows : Rows) (p : Past) : Type 0 where
+pub record HoldsOnly (rows : Rows) (p : Past) : Type 0 where
   pub board : IsBoard rows (content p)
   pub settled : IsSettled p
 
@@ -25,4 +25,4 @@ pub record Takes (rows : Rows) (log : List Item) (marks : List ℕ) (p q : Past)
 -- where the disk tells its past at entry and at the end, and holds a board at entry: that board took this log
 abbrev pub Headline : List Item → List ℕ → Option Past → Option Past → ℕ → ℕ → Type 0
 Headline log marks told told' faults faults' =
-    ForSome told (λ p. ForSome told' (λ q. (rows : Rows) → Holds rows p → Takes rows log marks p q faults faults'))
+    ForSome told (λ p. ForSome told' (λ q. (rows : Rows) → HoldsOnly rows p → Takes rows log marks p q faults faults'))

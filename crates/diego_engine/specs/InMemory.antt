@@ -46,7 +46,8 @@ ScriptEnds other script e v w = ⊥
 
 -- a script was read, and its run ended so
 abbrev pub RunsScript : Ending → Ended → Option (List ℕ) → Option (List ℕ) → Ports → Ports → Type 0
-RunsScript how e left left' v w = (script : Script) × ReadsWhole left left' (λ bytes. script_of bytes ≡ Some script) × ScriptEnds how script e v w
+RunsScript how e left left' v w =
+    (script : Script) × ReadsWhole left left' (λ bytes. script_of bytes ≡ Some script) × ScriptEnds how script e v w
 
 -- how `run` ends
 abbrev pub RunEnds : Ending → Ended → Option (List ℕ) → Option (List ℕ) → Ports → Ports → Type 0
@@ -71,4 +72,5 @@ Ends how None e left left' v w = StillEnds how None e v w × (left' ≡ left)
 
 -- a script was read, its call was made, and its text was written whole, and no fault was met
 abbrev pub RunsWhole : Ended → Option (List ℕ) → Option (List ℕ) → Ports → Ports → Type 0
-RunsWhole e left left' v w = (script : Script) × ReadsWhole left left' (λ bytes. script_of bytes ≡ Some script) × EndsLate script true false e v w
+RunsWhole e left left' v w =
+    (script : Script) × ReadsWhole left left' (λ bytes. script_of bytes ≡ Some script) × EndsLate script true false e v w

@@ -64,7 +64,8 @@ pub record EndsUntouched (e : Ended) (v w : Ports) : Type 0 where
 
 -- a script was read, and its run ended so
 abbrev pub RunsScript : Ending → Ended → Option (List ℕ) → Option (List ℕ) → Ports → Ports → Type 0
-RunsScript how e left left' v w = (script : Script) × ReadsWhole left left' (λ bytes. script_of bytes ≡ Some script) × ScriptEnds how script e v w
+RunsScript how e left left' v w =
+    (script : Script) × ReadsWhole left left' (λ bytes. script_of bytes ≡ Some script) × ScriptEnds how script e v w
 
 -- how `run` ends
 abbrev pub RunEnds : Ending → Ended → Option (List ℕ) → Option (List ℕ) → Ports → Ports → Type 0
@@ -120,4 +121,5 @@ pub record Meets (left : Option (List ℕ)) (told : Option Past) : Type 0 where
 
 -- a script was read, its call was made, and its text was written whole, and no fault was met
 abbrev pub RunsWhole : Ended → Option (List ℕ) → Option (List ℕ) → Ports → Ports → Type 0
-RunsWhole e left left' v w = (script : Script) × ReadsWhole left left' (λ bytes. script_of bytes ≡ Some script) × EndsLate script true false e v w
+RunsWhole e left left' v w =
+    (script : Script) × ReadsWhole left left' (λ bytes. script_of bytes ≡ Some script) × EndsLate script true false e v w

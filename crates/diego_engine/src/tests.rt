@@ -3,13 +3,14 @@
 mod bytes;
 mod devices;
 mod endings;
+mod gates;
 mod limits;
 mod runs;
 mod stops;
 
-use crate::{TopEnd, diego_top};
+use crate::{TopEnd, diego_top_in_memory};
 use bbs_model::{Answered, Item};
-use byte_ports::{MemorySink, MemorySource, OpenGate};
+use byte_ports::{Gate, MemorySink, MemorySource, OpenGate};
 use disk_trait::MemoryDisk;
 use std::alloc::Global;
 use std::process::Abort;
@@ -45,8 +46,13 @@ fn words(alloc: Global, texts: &[&str]) -> Result<Vec<String>, Fail> {
     Ok(words)
 }
 
-/// What the words do where this is given.
-fn left_by(alloc: Global, texts: &[&str], given: &Given<'_>) -> Result<Left, Fail> {
+/// What the words do where this is given, and actors are held up at this gate.
+fn left_at<G: Gate>(
+    alloc: Global,
+    texts: &[&str],
+    given: &Given<'_>,
+    gate: &G,
+) -> Result<Left, Fail> {
     let words = words(alloc, texts)?;
     let source = MemorySource::new(given.source.to_vec(alloc)?, given.takes.to_vec(alloc)?);
     let sink = MemorySink::new(alloc, given.puts.to_vec(alloc)?);
@@ -61,7 +67,7 @@ fn left_by(alloc: Global, texts: &[&str], given: &Given<'_>) -> Result<Left, Fai
         log,
         marks,
         answers,
-    } = diego_top(alloc, &words, source, sink, disk, &OpenGate);
+    } = diego_top_in_memory(alloc, &words, source, sink, disk, gate);
     Ok(Left {
         status,
         sink,
@@ -70,6 +76,11 @@ fn left_by(alloc: Global, texts: &[&str], given: &Given<'_>) -> Result<Left, Fai
         marks,
         answers,
     })
+}
+
+/// The same, where nobody is held up.
+fn left_by(alloc: Global, texts: &[&str], given: &Given<'_>) -> Result<Left, Fail> {
+    left_at(alloc, texts, given, &OpenGate)
 }
 
 fn run(alloc: Global, given: &Given<'_>) -> Result<Left, Fail> {

@@ -1,0 +1,47 @@
+//! That an actor is held up at its gate before its call, and nobody else anywhere.
+use super::bytes::first_run;
+use super::{Given, left_at};
+use byte_ports::Gate;
+use std::cell::Cell;
+use std::test::Fail;
+
+// It counts how often it was passed, and keeps who passed last.
+#[derive(Drop)]
+struct Counting {
+    passes: Cell<u32>,
+    last: Cell<u32>,
+}
+
+impl Gate for Counting {
+    fn pass(&self, actor: u32) {
+        self.passes.set(self.passes.get().saturating_add(1));
+        self.last.set(actor);
+    }
+}
+
+#[test]
+fn a_run_passes_its_gate_once_where_it_makes_its_call(rt: HostRuntime) -> Result<(), Fail> {
+    let whole = first_run();
+    let no_board = Given { a: &[], ..whole };
+    let no_script = Given {
+        source: b"{}",
+        ..whole
+    };
+    let cases: [(&str, Given<'_>, u8, u32, u32); 4] = [
+        ("run", whole, 0, 1, 1),
+        ("run", no_board, 6, 0, 0),
+        ("run", no_script, 2, 0, 0),
+        ("prepare", no_board, 0, 0, 0),
+    ];
+    for (word, given, status, passes, last) in cases {
+        let gate = Counting {
+            passes: Cell::new(0),
+            last: Cell::new(0),
+        };
+        let left = left_at(rt.alloc(), &["diego_run", word], &given, &gate)?;
+        assert_eq!(rt; left.status, status);
+        assert_eq!(rt; gate.passes.get(), passes);
+        assert_eq!(rt; gate.last.get(), last);
+    }
+    Ok(())
+}
