@@ -17,6 +17,7 @@ pub use disk::Disk;
 pub use file_disk::FileDisk;
 pub use image::Torn;
 pub use memory_disk::MemoryDisk;
+pub use meter::Meter;
 
 #[cfg(test)]
 mod tests;

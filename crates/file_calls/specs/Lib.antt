@@ -1,0 +1,10 @@
+pub mod Call
+pub mod Note
+pub mod Files
+pub mod Possible
+pub mod Honest
+pub mod Told
+pub mod Made
+pub mod Moved
+pub mod Disk
+pub mod Laws
