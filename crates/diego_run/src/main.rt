@@ -2,32 +2,35 @@
 //! folder.
 #![tactic(auto)]
 
+ghost use Rattle.std.specs.Prelude.{◌≡◌, codes, string_bytes, IfOk};
+
+mod streams;
+mod words;
+
 use byte_ports::{OpenGate, StdSink, StdSource};
 use diego_engine::{TopEnd, diego_top};
-use disk_trait::FileDisk;
+use real_files::{FileDisk, RealCalls};
 use std::alloc::{AllocError, Global};
 use std::env::Env;
 use std::fs::File;
-use std::io::{ErrorKind, Input, Print};
+use std::io;
+use std::io::{Input, Print};
+use std::marker::Brand;
 use std::process::ExitCode;
 use std::rt::Files;
-use std::{env, io};
+use streams::Streams;
 
 /// The status where there is no memory for the words or the names of the files. No file is touched.
 const OUT_OF_MEMORY: u8 = 7;
 
-/// The words of the command line, the program's name first. There are none where one of them isn't
-/// UTF-8, since no such word is in the grammar.
-fn words<R: Env + AllocGlobal>(rt: &R) -> Result<Vec<String>, AllocError> {
-    match env::args(rt) {
-        Ok(words) => words.collect(rt.alloc()),
-        Err(error) if error.kind() == ErrorKind::InvalidData => Ok(Vec::new(rt.alloc())),
-        Err(_) => Err(AllocError),
-    }
-}
+/// The status where a standard stream is closed and can't be held. No file is touched.
+const NO_STREAM: u8 = 4;
 
-/// The names of the board's two files.
-fn file_names(alloc: Global) -> Result<(String, String), AllocError> {
+/// The names of the files of area A and of area B.
+fn file_names(alloc: Global) -> Result<(String, String), AllocError>
+    ensures a { IfOk result (λ names. string_bytes names.0 ≡ codes "board.a") }
+    ensures b { IfOk result (λ names. string_bytes names.1 ≡ codes "board.b") }
+{
     let a = String::from_str(alloc, "board.a")?;
     let b = String::from_str(alloc, "board.b")?;
     Ok((a, b))
@@ -37,9 +40,9 @@ fn file_names(alloc: Global) -> Result<(String, String), AllocError> {
 fn status<R: Env + Input + Print + Files<File = File> + AllocGlobal>(
     rt: &R,
 ) -> Result<u8, AllocError> {
-    let words = words(rt)?;
+    let words = words::words(rt)?;
     let (a, b) = file_names(rt.alloc())?;
-    let disk = FileDisk::new(rt, a, b);
+    let disk = FileDisk::new(RealCalls::<&R, Brand>::new(rt, a, b));
     let source = StdSource::new(rt.reader());
     let sink = StdSink::new(io::writer(rt));
     let TopEnd {
@@ -55,5 +58,8 @@ fn status<R: Env + Input + Print + Files<File = File> + AllocGlobal>(
 }
 
 fn main(rt: HostRuntime) -> ExitCode {
-    ExitCode::from(status(&rt).unwrap_or(OUT_OF_MEMORY))
+    match Streams::hold(&rt) {
+        Ok(_streams) => ExitCode::from(status(&rt).unwrap_or(OUT_OF_MEMORY)),
+        Err(_) => ExitCode::from(NO_STREAM),
+    }
 }

@@ -5,16 +5,13 @@ mod area;
 mod areas;
 mod deed;
 mod disk;
-mod file_disk;
 mod image;
 mod memory_area;
 mod memory_disk;
 mod meter;
-mod two_files;
 
 pub use area::Area;
 pub use disk::Disk;
-pub use file_disk::FileDisk;
 pub use image::Torn;
 pub use memory_disk::MemoryDisk;
 pub use meter::Meter;

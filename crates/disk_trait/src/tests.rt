@@ -57,55 +57,6 @@ fn what_is_written_is_read(rt: HostRuntime) -> Result<(), Fail> {
 }
 
 #[test]
-fn two_files_keep_what_is_written(rt: HostRuntime) -> Result<(), Fail> {
-    let alloc = rt.alloc();
-    let folder = std::env::temp_dir(&rt)?;
-    let id = std::process::id(rt.process());
-    let a = format!(in alloc; "{}/disk_trait_{id}_a", folder.as_str())?;
-    let b = format!(in alloc; "{}/disk_trait_{id}_b", folder.as_str())?;
-
-    let mut first = FileDisk::new(rt.clone()?, a.clone()?, b.clone()?);
-    assert_eq!(rt; first.len(Area::A), Ok(0));
-    assert!(rt; first.write_at(Area::A, 0, b"abc").is_ok());
-    assert!(rt; first.write_at(Area::A, 2, b"de").is_ok());
-    assert!(rt; first.sync(Area::A).is_ok());
-    assert!(rt; first.write_at(Area::B, 0, b"f").is_ok());
-    assert!(rt; first.sync(Area::B).is_ok());
-    assert_eq!(rt; first.clock(), 6);
-    assert_eq!(rt; first.faults(), 0);
-
-    let mut second = FileDisk::new(rt.clone()?, a.clone()?, b.clone()?);
-    let mut room = *b"......";
-    assert_eq!(rt; second.read_at(Area::A, 1, &mut room), Ok(3));
-    assert_eq!(rt; room.as_slice(), b"bde...".as_slice());
-    assert_eq!(rt; second.len(Area::A), Ok(4));
-    assert_eq!(rt; second.len(Area::B), Ok(1));
-
-    // Each area is the file of its own name.
-    let in_a = std::fs::read(&rt, a.as_str())?;
-    let in_b = std::fs::read(&rt, b.as_str())?;
-    assert_eq!(rt; in_a.as_slice(), b"abde".as_slice());
-    assert_eq!(rt; in_b.as_slice(), b"f".as_slice());
-
-    std::fs::remove_file(&rt, a.as_str())?;
-    std::fs::remove_file(&rt, b.as_str())?;
-    Ok(())
-}
-
-#[test]
-fn a_folder_that_is_missing_is_a_fault(rt: HostRuntime) -> Result<(), Fail> {
-    let alloc = rt.alloc();
-    let a = String::from_str(alloc, "no_such_folder/a")?;
-    let b = String::from_str(alloc, "no_such_folder/b")?;
-    let mut disk = FileDisk::new(rt.clone()?, a, b);
-    assert_eq!(rt; disk.sync(Area::A), Err(Failed));
-    assert_eq!(rt; disk.len(Area::B), Err(Failed));
-    assert_eq!(rt; disk.clock(), 2);
-    assert_eq!(rt; disk.faults(), 2);
-    Ok(())
-}
-
-#[test]
 fn a_write_is_pending_until_its_sync(rt: HostRuntime) -> Result<(), Fail> {
     let mut disk = memory(rt.alloc(), &[])?;
     assert!(rt; disk.write_at(Area::A, 0, b"xyz").is_ok());

@@ -7,6 +7,10 @@ use Rattle.file_calls.specs.Call.{Call}
 use Rattle.file_calls.specs.Told.{told_of}
 
 module _ {C : Type 0} {g : calls.Ghosts C} where
+  -- the system below
+  abbrev pub system_of : FileDisk C g → C
+  system_of disk = disk.calls
+
   -- the calls that it has made, the newest first
   abbrev pub history_of : FileDisk C g → List Call
   history_of disk = g.history disk.calls

@@ -30,7 +30,7 @@ pub struct FileDisk<C: Calls + Drop> {
 }
 
 impl<C: Calls + Drop> FileDisk<C> {
-    ghost use Rattle.file_calls.specs.Disk.{history_of};
+    ghost use Rattle.file_calls.specs.Disk.{history_of, system_of};
 
     /// A disk over a system that wasn't called yet.
     pub fn new(calls: C) -> FileDisk<C>
@@ -44,6 +44,13 @@ impl<C: Calls + Drop> FileDisk<C> {
             meter: Meter::new(),
             in_folder: false,
         }
+    }
+
+    /// The system below, for tests of what lies on its files.
+    pub fn system(&self) -> &C
+        ensures { result.now ≡ system_of self.now }
+    {
+        &self.calls
     }
 }
 

@@ -1,0 +1,134 @@
+// Two files of the system, opened at their first use, one line for a call of the system.
+ghost use Rattle.std.specs.Prelude.{◌<◌, ◌≤◌, ◌^◌, length, IfOk};
+
+use disk_trait::Area;
+use std::fs::{File, OpenOptions};
+use std::io;
+use std::io::ErrorKind;
+use std::os::fd::AsRawFd;
+use std::os::unix::fs::FileExt;
+use std::rt::Files;
+
+/// The system refuses to read or write from a further place on.
+const LAST_PLACE: u64 = (1 << 63) - 1;
+
+/// The numbers of the standard streams are 0 to this one.
+const LAST_STREAM: i32 = 2;
+
+#[derive(Drop)]
+struct Opened {
+    a: File,
+    b: File,
+}
+
+#[derive(Drop)]
+pub(crate) struct TwoFiles<R: Files<File = File> + AllocGlobal + Drop> {
+    rt: R,
+    a: String,
+    b: String,
+    opened: Option<Opened>,
+}
+
+impl<R: Files<File = File> + AllocGlobal + Drop> TwoFiles<R> {
+    pub(crate) fn new(rt: R, a: String, b: String) -> TwoFiles<R> {
+        TwoFiles {
+            rt,
+            a,
+            b,
+            opened: None,
+        }
+    }
+
+    pub(crate) fn len(&mut self, area: Area) -> io::Result<u64> {
+        Ok(self.file(area)?.metadata()?.len())
+    }
+
+    pub(crate) fn read_some(&mut self, area: Area, at: u64, room: &mut [u8]) -> io::Result<usize>
+        ensures { IfOk result (λ n. (n ≤ length room.old) × (at < 2 ^ 63)) }
+    {
+        read_from(self.file(area)?, at, room)
+    }
+
+    pub(crate) fn write_some(&mut self, area: Area, at: u64, bytes: &[u8]) -> io::Result<usize>
+        ensures { IfOk result (λ n. (0 < n) × (n ≤ length bytes.now) × (at < 2 ^ 63)) }
+    {
+        write_to(self.file(area)?, at, bytes)
+    }
+
+    /// The folder is that of the file itself where the name is a link.
+    pub(crate) fn sync_name(&mut self, area: Area) -> io::Result<()> {
+        self.file(area)?;
+        let path = self.rt.canonicalize(self.rt.alloc(), self.name(area))?;
+        match path.parent() {
+            Some(folder) => File::open(&self.rt, folder)?.sync_all(),
+            None => Err(ErrorKind::NotFound.into()),
+        }
+    }
+
+    pub(crate) fn sync_data(&mut self, area: Area) -> io::Result<()> {
+        self.file(area)?.sync_data()
+    }
+
+    fn name(&self, area: Area) -> &str {
+        match area {
+            Area::A => self.a.as_str(),
+            Area::B => self.b.as_str(),
+        }
+    }
+
+    fn file(&mut self, area: Area) -> io::Result<&File> {
+        if self.opened.is_none() {
+            let a = open_locked(&self.rt, self.a.as_str())?;
+            let b = open_locked(&self.rt, self.b.as_str())?;
+            self.opened = Some(Opened { a, b });
+        }
+        match (&self.opened, area) {
+            (Some(opened), Area::A) => Ok(&opened.a),
+            (Some(opened), Area::B) => Ok(&opened.b),
+            (None, _) => Err(ErrorKind::NotFound.into()),
+        }
+    }
+}
+
+fn read_from(file: &File, at: u64, room: &mut [u8]) -> io::Result<usize>
+    ensures { IfOk result (λ n. (n ≤ length room.old) × (at < 2 ^ 63)) }
+{
+    let count = file.read_at(room, at)?;
+    if at > LAST_PLACE {
+        return Err(ErrorKind::InvalidInput.into());
+    }
+    Ok(count)
+}
+
+pub(crate) fn write_to(file: &File, at: u64, bytes: &[u8]) -> io::Result<usize>
+    ensures { IfOk result (λ n. (0 < n) × (n ≤ length bytes.now) × (at < 2 ^ 63)) }
+{
+    let count = file.write_at(bytes, at)?;
+    if count == 0 || at > LAST_PLACE {
+        return Err(ErrorKind::WriteZero.into());
+    }
+    Ok(count)
+}
+
+/// An ordinary file that nobody else has locked. Where the name is free the file is made, and where the
+/// name is a link to nothing too, at the place that the link names. Whatever else stands there is not
+/// opened. A file never gets the number of a standard stream, so that what is meant for the stream
+/// can't land in it.
+fn open_locked<R: Files<File = File>>(rt: &R, name: &str) -> io::Result<File> {
+    match rt.metadata(name) {
+        Ok(found) if !found.is_file() => return Err(ErrorKind::Unsupported.into()),
+        Ok(_) => {}
+        Err(error) if error.kind() == ErrorKind::NotFound => {}
+        Err(error) => return Err(error),
+    }
+    let mut how = OpenOptions::new();
+    how.read(true).write(true).create(true);
+    let file = how.open(rt, name)?;
+    if !file.metadata()?.is_file() || file.as_raw_fd() <= LAST_STREAM {
+        return Err(ErrorKind::Unsupported.into());
+    }
+    match file.try_lock() {
+        Ok(()) => Ok(file),
+        Err(error) => Err(error.into()),
+    }
+}
