@@ -1,0 +1,14 @@
+pub mod Lists
+pub mod Wraps
+pub mod Views
+pub mod Draws
+pub mod Looks
+pub mod HandsOn
+pub mod Notes
+pub mod Gives
+pub mod Joins
+pub mod Ends
+pub mod Deals
+pub mod Closes
+pub mod Turning
+pub mod Public

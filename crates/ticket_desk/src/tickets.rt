@@ -1,0 +1,76 @@
+//! The steps of a turn at the two words: a ticket is drawn, its turn is awaited, and the turn is handed on.
+ghost use Rattle.std.specs.Prelude.{◌≡◌, ℕ, [], ◌∷◌, false, true, Some, None};
+ghost use Rattle.ticket_desk.specs.Steps.{TakesTurn, Fits, after_turn};
+ghost use Rattle.ticket_desk.specs.Turns.{Adds};
+ghost use Rattle.ticket_desk.specs.Tables.{IsBoard, IsWaiting, IsDone};
+
+use crate::history::History;
+use crate::plays::{Draw, HandOn, Look};
+use crate::rule::{Place, Top};
+use std::sync::Wait;
+use std::thread;
+
+const DRAWN: usize = 0;
+
+const SERVED: usize = 1;
+
+/// So often a waiting thread gives its processor away before it sleeps.
+const PATIENCE: u32 = 16;
+
+const LOW_HALF: u64 = 0xffff_ffff;
+
+/// Draws a ticket.
+pub(crate) fn draw<V: History>(top: &Top<V>, place: &mut Place<V>, number: u32) -> u64
+    requires board { IsBoard top.now.table_id place.old.table_id }
+    requires free { (place.old.me.0.ticket ≡ None) × (place.old.me.0.number ≡ Some number) × (place.old.me.0.turn ≡ false) }
+    ensures board { place.new.table_id ≡ place.old.table_id }
+    ensures drawn { place.new.me ≡ (record place.old.me.0 { ticket = Some result }, place.old.me.1) }
+{
+    let _ = number;
+    top.fetch_add::<Draw>(place, DRAWN, 1)
+}
+
+/// Waits until the ticket is served. The value is out with the seat then.
+pub(crate) fn await_turn<V: History, R: Wait>(
+    rt: &R,
+    top: &Top<V>,
+    place: &mut Place<V>,
+    number: u32,
+    ticket: u64,
+)
+    requires board { IsBoard top.now.table_id place.old.table_id }
+    requires waits { IsWaiting number ticket place.old.me }
+    ensures board { place.new.table_id ≡ place.old.table_id }
+    ensures turn { TakesTurn V.items V.origin place.old.me place.new.me }
+{
+    let _ = number;
+    let mut looks = 0;
+    for _ in rt.forever() {
+        let served = top.load::<Look>(place, SERVED);
+        if served == ticket {
+            return;
+        }
+        if looks < PATIENCE {
+            looks += 1;
+            thread::yield_now();
+        } else {
+            top.park(rt, SERVED, (served & LOW_HALF) as u32);
+        }
+    }
+    unreachable!()
+}
+
+/// Serves the next ticket. The value is home, and its history may be longer by one item of this number.
+pub(crate) fn hand_on<V: History>(top: &Top<V>, place: &mut Place<V>, number: u32, ticket: u64)
+    requires board { IsBoard top.now.table_id place.old.table_id }
+    requires done { IsDone V.items V.origin V.by number ticket place.old.me }
+    ensures board { place.new.table_id ≡ place.old.table_id }
+    ensures home { (x : V) × (place.old.me.1 ≡ (0, Some x) ∷ []) × (place.new.me ≡ (after_turn place.old.me.0 (V.items x), [])) }
+{
+    let _ = number;
+    let next = ticket.wrapping_add(1);
+    top.store::<HandOn>(place, SERVED, next);
+    if top.peek(DRAWN) != next {
+        top.wake_all(SERVED);
+    }
+}
