@@ -72,7 +72,7 @@ module _ {K X : Type 0} (R : K → K → Ordering) (key : X → K) where
       both_parts (is_lt (R k (key x))) (below_all R k (keyed R key xs)) (subst (λ c. T (is_lt c)) (sym (h 0 x (omega arith))) tt)
       (below_all-from_each k xs (λ j d below. h (suc j) d (omega arith)))
 
-  IsRising-from_pairs : (xs : List X) → AllPairs (λ x y. R (key x) (key y) ≡ Less) xs → IsRising R key xs
+  pub IsRising-from_pairs : (xs : List X) → AllPairs (λ x y. R (key x) (key y) ≡ Less) xs → IsRising R key xs
   IsRising-from_pairs [] h = tt
   IsRising-from_pairs (x ∷ xs) h =
       both_parts (below_all R (key x) (keyed R key xs)) (is_sorted R (keyed R key xs))

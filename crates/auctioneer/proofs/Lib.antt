@@ -1,0 +1,6 @@
+pub mod TurnOrder
+pub mod Bests
+pub mod Placings
+pub mod Standings
+pub mod Leasts
+pub mod AuctionLaws

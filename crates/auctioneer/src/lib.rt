@@ -1,0 +1,24 @@
+//! The auction: jobs in order, each to the best cell that fits it.
+#![tactic(auto)]
+
+mod auction;
+mod counting;
+mod laws;
+mod placement;
+mod placing;
+mod scan;
+mod stand;
+mod standing;
+mod turns;
+
+pub use auction::run_auction;
+pub use laws::{
+    each_job_has_one_placement, placements_name_answers, placements_spread_over_zones,
+    placements_take_room,
+};
+pub use placement::Placement;
+pub use scan::scan_auction;
+pub use stand::Stand;
+
+#[cfg(test)]
+mod tests;

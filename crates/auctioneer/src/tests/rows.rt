@@ -1,0 +1,61 @@
+use super::checks::auction_of;
+use super::making::*;
+use super::*;
+
+const P: &[u8] = b"11111111-2222-3333-4444-555555555555-66666666-7777-8888-9999-aaaaaaaaaaaa";
+
+const Q: &[u8] = b"bbbbbbbb-2222-3333-4444-555555555555-66666666-7777-8888-9999-aaaaaaaaaaaa";
+
+#[test]
+fn first_instances_tasks_and_others_go_to_empty_zones_and_cells(
+    rt: HostRuntime,
+) -> Result<(), Fail> {
+    let alloc = rt.alloc();
+    let mut cells = Vec::new(alloc);
+    for (name, zone) in [
+        (b"c4", b"z2"),
+        (b"c1", b"z1"),
+        (b"c3", b"z2"),
+        (b"c2", b"z1"),
+    ] {
+        cells.push(cell(alloc, name, zone, TOTALS)?)?;
+    }
+    let migrate = task(b"migrate-1", 128, 512)?;
+    let p0 = lrp(P, 0, 256, 1024)?;
+    let p1 = lrp(P, 1, 256, 1024)?;
+    let p2 = lrp(P, 2, 256, 1024)?;
+    let q0 = lrp(Q, 0, 512, 1024)?;
+    let placed = auction_of(&rt, alloc, &[p2, migrate, p0, q0, p1], &cells)?;
+    let wanted = [
+        on(&q0, b"c1")?,
+        on(&p0, b"c2")?,
+        on(&migrate, b"c3")?,
+        on(&p1, b"c4")?,
+        on(&p2, b"c3")?,
+    ];
+    assert_eq!(rt; placed.items(), wanted.as_slice());
+    Ok(())
+}
+
+#[test]
+fn a_job_without_room_changes_nothing_for_the_others(rt: HostRuntime) -> Result<(), Fail> {
+    let alloc = rt.alloc();
+    let mut cells = Vec::new(alloc);
+    cells.push(cell(alloc, b"c1", b"z1", TOTALS)?)?;
+    let first = lrp(b"a", 0, 4000, 10)?;
+    let large = lrp(b"b", 0, 2000, 10)?;
+    let small = lrp(b"c", 0, 96, 10)?;
+    let tagged = Job {
+        tag: Some(Name::read(b"gpu")?),
+        ..lrp(b"d", 0, 1, 1)?
+    };
+    let placed = auction_of(&rt, alloc, &[tagged, small, large, first], &cells)?;
+    let wanted = [
+        on(&first, b"c1")?,
+        Placement::NoRoom { job: large.job },
+        on(&small, b"c1")?,
+        Placement::NoRoom { job: tagged.job },
+    ];
+    assert_eq!(rt; placed.items(), wanted.as_slice());
+    Ok(())
+}
