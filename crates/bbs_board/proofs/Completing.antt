@@ -2,7 +2,7 @@
 use Rattle.std.proofs.Common.{◌≡◌, ◌+◌, subst}
 use Rattle.bbs_model.specs.Replay.{IsReached}
 use Rattle.bbs_model.specs.declared.rows.Rows.{Rows}
-use Rattle.bbs_model.proofs.KeepOnce.{once_over_openings}
+use Rattle.bbs_laws.proofs.Public.{once_over_openings}
 use Rattle.bbs_board.specs.Laws.{CompletesOnceOverStops}
 use Rattle.bbs_board.proofs.Loaded.{one_board}
 

@@ -13,7 +13,7 @@ use Rattle.bbs_model.specs.declared.command.Command.{Command}
 use Rattle.bbs_model.specs.declared.rows.Rows.{Rows}
 use Rattle.bbs_model.specs.declared.verdict.Verdict.{Verdict}
 use Rattle.bbs_model.specs.declared.verdict.Verdict.TheVariants as verdict
-use Rattle.bbs_model.proofs.KeepRuns.{next-rows_after}
+use Rattle.bbs_laws.proofs.Public.{next-rows_after}
 use Rattle.bbs_board.specs.Opening.{rows_in, after_read, after_payload, or_damaged, followed, board_of}
 
 -- what was read on with was there

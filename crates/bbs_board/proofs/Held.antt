@@ -17,8 +17,7 @@ use Rattle.bbs_model.specs.declared.item.Item.{Item}
 use Rattle.bbs_model.specs.declared.item.Item.TheVariants.{Done, Doubt}
 use Rattle.bbs_model.specs.declared.rows.Rows.{Rows}
 use Rattle.bbs_model.specs.Valid.{IsValid}
-use Rattle.bbs_model.proofs.KeepLogs.{place-within, IsLawful-append}
-use Rattle.bbs_model.proofs.KeepRuns.{next-rows_after}
+use Rattle.bbs_laws.proofs.Public.{place-within, IsLawful-append, next-rows_after}
 use Rattle.std.specs.Prelude.{not}
 use Rattle.byte_ports.specs.Cause.{HasCause}
 use Rattle.bbs_board.specs.Doubts.{doubts_in, RoseForEach}

@@ -15,7 +15,7 @@ use Rattle.bbs_model.specs.declared.command.Command.{Command}
 use Rattle.bbs_model.specs.declared.item.Item.{Item}
 use Rattle.bbs_model.specs.declared.item.Item.TheVariants.{Done, Doubt}
 use Rattle.bbs_model.specs.declared.rows.Rows.{Rows}
-use Rattle.bbs_model.proofs.KeepLogs.{legal_at}
+use Rattle.bbs_laws.proofs.Public.{legal_at}
 use Rattle.bbs_board.specs.Kept.{IsFound, Kept}
 use Rattle.bbs_board.specs.Opening.{board_of, IsBoard}
 use Rattle.bbs_board.specs.Puts.{MayHold, IsOneOf, PutsOne}

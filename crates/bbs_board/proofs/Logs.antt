@@ -6,7 +6,7 @@ use Rattle.bbs_model.specs.Step.{rows_after}
 use Rattle.bbs_model.specs.declared.item.Item.{Item}
 use Rattle.bbs_model.specs.declared.item.Item.TheVariants.{Doubt}
 use Rattle.bbs_model.specs.declared.rows.Rows.{Rows}
-use Rattle.bbs_model.proofs.KeepLogs.{replay_log-append, place-within}
+use Rattle.bbs_laws.proofs.Public.{replay_log-append, place-within}
 use Rattle.bbs_board.specs.Kept.{AreRising}
 
 -- ---- places in a list

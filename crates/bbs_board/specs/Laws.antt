@@ -3,7 +3,7 @@ use Rattle.std.specs.Prelude.{◌≡◌, ◌⊎◌, ℕ, ◌+◌, ◌≤◌, Boo
 use Rattle.std.specs.List.{slice_get}
 use Rattle.disk_trait.specs.Past.{Past, Image, Images, ImagesSince}
 use Rattle.bbs_journal.specs.declared.load_fault.LoadFault.{LoadFault}
-use Rattle.bbs_model.specs.Births.{completions}
+use Rattle.bbs_laws.specs.Births.{completions}
 use Rattle.bbs_model.specs.Replay.{IsLawful}
 use Rattle.bbs_model.specs.Step.{rows_after}
 use Rattle.bbs_model.specs.Valid.{IsValid}

@@ -18,7 +18,7 @@ use Rattle.task_records.specs.declared.task.Task.{Task}
 use Rattle.bbs_model.specs.Limits.{most_instances}
 use Rattle.bbs_model.specs.Tables.{process_of, task_name_of, cell_name_of}
 use Rattle.bbs_model.specs.Valid.{HasFewInstances, AreDesired, IsHeldBefore, IsRunning, SuitsPresence, IsActualRow, AreActual, runner_of, IsTaskRow, AreTasks, HasJoined, AreCells}
-use Rattle.bbs_model.proofs.KeepEach.{each_weaker}
+use Rattle.bbs_model.proofs.Public.{each_weaker}
 use Rattle.bbs_codec.specs.Head.{is_held_before, is_running, suits_presence, desired_keep, actual_keep, tasks_keep, cells_keep}
 use Rattle.bbs_codec.proofs.Followers.{IsTable}
 use Rattle.bbs_codec.proofs.Pushes.{both_true, true_both, not_true}

@@ -10,6 +10,8 @@ pub mod Step
 pub mod Store
 pub mod Valid
 pub mod Replay
-pub mod Births
 pub mod Runs
-pub mod Laws
+pub mod Calls
+pub mod Told
+pub mod PortView
+pub mod Work

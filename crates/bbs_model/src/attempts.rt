@@ -164,6 +164,3 @@ fn if_joined(cell: &Option<CellRow>, epoch: u64, attempt: Attempt) -> Attempt
         Some(row) => Attempt::Refuse(BoardRefusal::StaleEpoch { now: row.epoch }),
     }
 }
-
-#[cfg(test)]
-mod tests;

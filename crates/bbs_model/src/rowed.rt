@@ -74,3 +74,16 @@ impl Rowed for CellRow {
         self.cell
     }
 }
+
+// A place among the actual rows is its own key.
+impl Rowed for (Key, Presence) {
+    type Key = (Key, Presence);
+
+    ghost key = { λ place. place };
+
+    ghost ordered = { IsKeyOrder-place_order };
+
+    fn key(&self) -> (Key, Presence) {
+        *self
+    }
+}

@@ -1,5 +1,1 @@
-mod commands;
-mod instances;
-mod runs;
-mod tasks;
 mod verdicts;

@@ -1,15 +1,41 @@
 //! What a desire comes to on two boards.
-ghost use Rattle.std.specs.Prelude.{◌≡◌, ◌≤◌, IfOk};
+ghost use Rattle.std.specs.Prelude.{◌≡◌, ◌≤◌, IfOk, None};
 ghost use Rattle.bbs_model.specs.Limits.{most_transitions};
 ghost use Rattle.bbs_model.specs.Valid.{IsValid};
 
 use crate::decide;
-use crate::tests::commands::{at, process};
 use bbs_index::Index;
-use bbs_model::{BoardRefusal, Op, Rows, Verdict};
+use bbs_model::{BoardRefusal, Command, Op, Rows, Verdict};
+use crash_backoff::Moment;
 use diego_names::{List, Name};
+use lrp_records::Desired;
 use std::alloc::Global;
 use std::test::Fail;
+
+// A process that wants so many instances.
+fn process(process: Name, instances: u32) -> Desired
+    ensures { result ≡ record {
+      process = process;
+      domain = process;
+      instances = instances;
+      memory = 64;
+      disk = 128;
+      tag = None;
+      route = None;
+      port = 8080;
+    } }
+{
+    Desired {
+        process,
+        domain: process,
+        instances,
+        memory: 64,
+        disk: 128,
+        tag: None,
+        route: None,
+        port: 8080,
+    }
+}
 
 // A board of one process, after so many transitions.
 fn board(alloc: Global, web: Name, next: u64) -> Result<Rows, Fail>
@@ -33,7 +59,11 @@ fn desire(alloc: Global, next: u64, web: Name, name: Name, instances: u32) -> Re
     let rows = board(alloc, web, next)?;
     let index = Index::of(alloc, &rows)?;
     let desired = process(name, instances);
-    Ok(decide(&index, &at(0, Op::Desire { desired })))
+    let command = Command {
+        now: Moment(0),
+        op: Op::Desire { desired },
+    };
+    Ok(decide(&index, &command))
 }
 
 #[test]

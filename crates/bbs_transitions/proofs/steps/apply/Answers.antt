@@ -6,7 +6,7 @@ use Rattle.bbs_model.specs.declared.attempt.Attempt.{Attempt}
 use Rattle.bbs_model.specs.declared.attempt.Attempt.TheVariants.{Change}
 use Rattle.bbs_model.specs.declared.found.Found.{Found}
 use Rattle.bbs_model.specs.declared.rows.Rows.{Rows}
-use Rattle.bbs_model.proofs.Keeps.{IsValid-rows_after, wanted-first}
+use Rattle.bbs_laws.proofs.Public.{IsValid-rows_after, wanted-first}
 use Rattle.bbs_transitions.proofs.steps.apply.Goals as goal
 
 pub perform-first-requires-clause-fits : goal.perform-first-requires-clause-fits

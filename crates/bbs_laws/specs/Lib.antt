@@ -1,0 +1,4 @@
+pub mod Births
+pub mod Laws
+pub mod Events
+pub mod Hearing

@@ -1,5 +1,0 @@
-use Rattle.bbs_model.proofs.Keeps.{keeps_valid}
-use Rattle.bbs_model.proofs.laws.legal_commands_keep_rows_valid.Goals as goal
-
-pub returns : goal.returns
-returns c = keeps_valid

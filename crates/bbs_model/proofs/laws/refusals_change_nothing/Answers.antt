@@ -1,5 +1,0 @@
-use Rattle.bbs_model.proofs.KeepRuns.{changes_where_legal}
-use Rattle.bbs_model.proofs.laws.refusals_change_nothing.Goals as goal
-
-pub returns : goal.returns
-returns c = changes_where_legal

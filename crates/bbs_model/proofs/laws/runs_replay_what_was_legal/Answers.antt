@@ -1,5 +1,0 @@
-use Rattle.bbs_model.proofs.KeepRuns.{replays_what_was_legal}
-use Rattle.bbs_model.proofs.laws.runs_replay_what_was_legal.Goals as goal
-
-pub returns : goal.returns
-returns c = replays_what_was_legal

@@ -1,0 +1,26 @@
+use Rattle.std.proofs.Common.{◌≡◌, ◌∙◌, ap, sym, subst, refl, List, Option}
+use Rattle.lrp_records.specs.Place.{place_of, place_order}
+use Rattle.lrp_records.specs.declared.actual.Actual.{Actual}
+use Rattle.lrp_records.specs.declared.presence.Presence.{Presence}
+use Rattle.row_tables.specs.Table.{find_row}
+use Rattle.bbs_model.specs.Tables.{find_actual}
+use Rattle.bbs_model.specs.Work.{ordinary_work, evacuating_work, row_work}
+use Rattle.plain_step.proofs.asking.row_work.Goals as goal
+
+pub returns-in-Ordinary : goal.returns-in-Ordinary
+returns-in-Ordinary c =
+    let rows = c.args.rows.now in
+    let key = c.args.key.now in
+    let found : c.find_in-row.result ≡ find_actual rows key c.args.presence =
+    c.find_in-row.ensures ∙ ap (λ (xs : List Actual). find_row place_order place_of (key, c.args.presence) xs) c.items.ensures in
+    c.ordinary_work.ensures ∙ ap (λ (o : Option Actual). ordinary_work rows c.args.now key o) found
+    ∙ subst (λ (p : Presence). ordinary_work rows c.args.now key (find_actual rows key p) ≡ row_work rows c.args.now key p) (sym c.in-Ordinary.is) refl
+
+pub returns-in-Evacuating : goal.returns-in-Evacuating
+returns-in-Evacuating c =
+    let rows = c.args.rows.now in
+    let key = c.args.key.now in
+    let found : c.find_in-row.result ≡ find_actual rows key c.args.presence =
+    c.find_in-row.ensures ∙ ap (λ (xs : List Actual). find_row place_order place_of (key, c.args.presence) xs) c.items.ensures in
+    c.evacuating_work.ensures ∙ ap (λ (o : Option Actual). evacuating_work rows c.args.now key o) found
+    ∙ subst (λ (p : Presence). evacuating_work rows c.args.now key (find_actual rows key p) ≡ row_work rows c.args.now key p) (sym c.in-Evacuating.is) refl

@@ -1,0 +1,97 @@
+//! What a board has at the keys of a command, by plain scans.
+ghost use Rattle.std.specs.Option.{option_and_then};
+ghost use Rattle.std.specs.Prelude.{◌≡◌, ◌≤◌, sum_by};
+ghost use Rattle.bbs_model.specs.Found.{found_by, process_in, key_in, evacuating_in, task_in, cell_in};
+ghost use Rattle.bbs_model.specs.Tables.{counts_of, find_desired, find_actual, find_task, find_cell};
+ghost use Rattle.bbs_model.specs.Valid.{IsValid};
+ghost use Rattle.lrp_records.specs.declared.desired.Desired.{Desired as ADesired};
+ghost use Rattle.lrp_records.specs.declared.presence.Presence.TheVariants.{Ordinary, Evacuating};
+
+use bbs_model::{Counts, Found, Op, Rows, find_in};
+use cell_records::CellRow;
+use lrp_records::{Actual, Desired, Presence};
+use task_records::Task;
+
+/// How many rows there are.
+pub fn counts(rows: &Rows) -> Counts
+    requires { IsValid rows.now }
+    ensures { result ≡ counts_of rows.now }
+{
+    Counts {
+        desired: rows.desired.len() as u32,
+        wanted: wanted(rows.desired.items()),
+        actual: rows.actual.len() as u32,
+        tasks: rows.tasks.len() as u32,
+        cells: rows.cells.len() as u32,
+    }
+}
+
+/// What the board has at the keys of an operation.
+pub fn found(rows: &Rows, op: &Op) -> Found
+    requires { IsValid rows.now }
+    ensures { result ≡ found_by rows.now op.now }
+{
+    Found {
+        desired: desired_for(rows, op),
+        ordinary: ordinary_for(rows, op),
+        evacuating: evacuating_for(rows, op),
+        task: task_for(rows, op),
+        cell: cell_for(rows, op),
+        counts: counts(rows),
+        next: rows.next,
+    }
+}
+
+fn desired_for(rows: &Rows, op: &Op) -> Option<Desired>
+    ensures { result ≡ option_and_then (find_desired rows.now) (process_in op.now) }
+{
+    match op.process() {
+        Some(process) => find_in(rows.desired.items(), &process),
+        None => None,
+    }
+}
+
+fn ordinary_for(rows: &Rows, op: &Op) -> Option<Actual>
+    ensures { result ≡ option_and_then (λ key. find_actual rows.now key Ordinary) (key_in op.now) }
+{
+    match op.key() {
+        Some(key) => find_in(rows.actual.items(), &(key, Presence::Ordinary)),
+        None => None,
+    }
+}
+
+fn evacuating_for(rows: &Rows, op: &Op) -> Option<Actual>
+    ensures { result
+        ≡ option_and_then (λ key. find_actual rows.now key Evacuating) (evacuating_in op.now) }
+{
+    match op.evacuating() {
+        Some(key) => find_in(rows.actual.items(), &(key, Presence::Evacuating)),
+        None => None,
+    }
+}
+
+fn task_for(rows: &Rows, op: &Op) -> Option<Task>
+    ensures { result ≡ option_and_then (find_task rows.now) (task_in op.now) }
+{
+    match op.task() {
+        Some(name) => find_in(rows.tasks.items(), &name),
+        None => None,
+    }
+}
+
+fn cell_for(rows: &Rows, op: &Op) -> Option<CellRow>
+    ensures { result ≡ option_and_then (find_cell rows.now) (cell_in op.now) }
+{
+    match op.cell() {
+        Some(cell) => find_in(rows.cells.items(), &cell),
+        None => None,
+    }
+}
+
+/// The instances that all these processes want together.
+fn wanted(rows: &[Desired]) -> u32
+    requires { sum_by (λ (d : ADesired). d.instances) rows.now ≤ 50000 }
+    ensures { result ≡ sum_by (λ (d : ADesired). d.instances) rows.now }
+{
+    rows.iter().map(|row| row.instances).sum()
+}
