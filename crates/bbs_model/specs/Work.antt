@@ -99,7 +99,8 @@ ordinary_work rows now key (Some a) =
 
 -- why an EVACUATING row has no use: its instance isn't wanted, is lost, or runs again
 abbrev pub is_spent : Rows → Moment → Key → Actual → Bool
-is_spent rows now key a = not (wants rows key) || is_lost rows now a.state || runs_there rows now (find_actual rows key Ordinary)
+is_spent rows now key a =
+    not (wants rows key) || is_lost rows now a.state || runs_there rows now (find_actual rows key Ordinary)
 
 -- what is asked of an EVACUATING row
 abbrev pub evacuating_work : Rows → Moment → Key → Option Actual → Option Op
@@ -110,7 +111,8 @@ evacuating_work rows now key (Some a) = if is_spent rows now key a then drop_row
 -- half an hour; a client that doesn't end has 30 seconds; an outcome that nobody takes is kept for two minutes
 abbrev pub asked_of_task : Rows → Moment → Task → TaskState → Option Op
 asked_of_task rows now t task.Pending = asked_if (has_passed 1800 t.since now) (op.CancelTask t.name)
-asked_of_task rows now t (task.Running instance cell) = asked_if (not (is_there rows now cell instance.epoch)) (op.CancelTask t.name)
+asked_of_task rows now t (task.Running instance cell) =
+    asked_if (not (is_there rows now cell instance.epoch)) (op.CancelTask t.name)
 asked_of_task rows now t (task.Completed failed) = asked_if (has_passed 120 t.since now) (op.ExpireTask t.name)
 asked_of_task rows now t (task.Resolving failed) = asked_if (has_passed 30 t.since now) (op.KickTask t.name)
 

@@ -5,19 +5,19 @@ use Rattle.std.proofs.lemmas.List.{take-append-drop, take-take}
 use Rattle.task_records.specs.States.{is_unfinished, is_completed}
 use Rattle.task_records.specs.declared.task.Task.{Task}
 use Rattle.task_records.proofs.LifeLaws.{completed_is_finished}
-use Rattle.bbs_model.specs.Births.{born_at, is_waiting, is_ended, is_completed_between, completions}
+use Rattle.bbs_laws.specs.Births.{born_at, is_waiting, is_ended, is_completed_between, completions}
 use Rattle.bbs_model.specs.Replay.{after_item, command_in, replay_log, rows_at, IsLawful, IsReached}
 use Rattle.bbs_model.specs.Step.{IsLegal}
 use Rattle.bbs_model.specs.Valid.{IsTaskRow, IsValid}
 use Rattle.bbs_model.specs.declared.item.Item.{Item}
 use Rattle.bbs_model.specs.declared.item.Item.TheVariants.{Done, Doubt}
 use Rattle.bbs_model.specs.declared.rows.Rows.{Rows}
-use Rattle.bbs_model.proofs.KeepBirths.{waits-below}
-use Rattle.bbs_model.proofs.KeepEach.{each_weaker}
-use Rattle.bbs_model.proofs.KeepLogs.{IsValid-after_item, IsValid-rows_at, IsValid-reached, IsLawful-take, IsLawful-parts, replay_log-append, legal_at}
-use Rattle.bbs_model.proofs.KeepOnce.{rests-after_item, completions-none, completions-once}
-use Rattle.bbs_model.proofs.KeepRuns.{next-rows_after}
-use Rattle.event_laws.specs.Sessions.{IsOver, StaysOver, Session, AreSessions, kept_completions, CompletesOnceInAll}
+use Rattle.bbs_laws.proofs.Public.{waits-below}
+use Rattle.bbs_model.proofs.Public.{each_weaker}
+use Rattle.bbs_laws.proofs.Public.{IsValid-after_item, IsValid-rows_at, IsValid-reached, IsLawful-take, IsLawful-parts, replay_log-append, legal_at}
+use Rattle.bbs_laws.proofs.Public.{rests-after_item, completions-none, completions-once}
+use Rattle.bbs_laws.proofs.Public.{next-rows_after}
+use Rattle.event_laws.specs.Incarnations.{IsOver, StaysOver, Incarnation, AreIncarnations, kept_completions, CompletesOnceInAll}
 
 -- over one item
 born-after_item : (rows : Rows) (item : Item) (b : ℕ) → IsLegal rows (command_in item) → b < rows.next → b < (after_item rows item).next
@@ -97,8 +97,8 @@ over-completions rows (i ∷ is) b valid lawful some =
       | false ↦ λ e h. let rest : 1 ≤ completions after is b = omega arith in over-completions after is b valid_after lawful.1 rest
     ] refl some
 
--- nothing that is over gets an outcome in any session
-kept-none : (base : Rows) (sessions : List Session) (b : ℕ) → IsValid base → AreSessions base sessions → IsOver base b → kept_completions base sessions b ≡ 0
+-- nothing that is over gets an outcome in any incarnation
+kept-none : (base : Rows) (incarnations : List Incarnation) (b : ℕ) → IsValid base → AreIncarnations base incarnations → IsOver base b → kept_completions base incarnations b ≡ 0
 kept-none base [] b valid are over = refl
 kept-none base (s ∷ ss) b valid are over =
     let lawful : IsLawful base (take s.kept s.log) = IsLawful-take base s.log s.kept are.0 in
@@ -110,7 +110,7 @@ kept-none base (s ∷ ss) b valid are over =
 no_more : (m n : ℕ) → m ≤ 1 → n ≤ 1 → (1 ≤ m → n ≡ 0) → m + n ≤ 1
 no_more m n one two none = grind (arith)
 
-pub once_in_all : (base : Rows) (sessions : List Session) (b : ℕ) → CompletesOnceInAll base sessions b
+pub once_in_all : (base : Rows) (incarnations : List Incarnation) (b : ℕ) → CompletesOnceInAll base incarnations b
 once_in_all base [] b valid are = omega arith
 once_in_all base (s ∷ ss) b valid are =
     let kept = take s.kept s.log in

@@ -35,7 +35,7 @@ use Rattle.task_records.proofs.MoveLaws.{KeepsTask-task_move}
 use Rattle.bbs_model.specs.Attempts.{if_known, if_joined, put, drop_row, unless_refused}
 use Rattle.bbs_model.specs.Cells.{join_refusals, vanish}
 use Rattle.bbs_model.specs.Found.{key_in, task_in, found_by}
-use Rattle.bbs_model.specs.Laws.{Stands}
+use Rattle.bbs_laws.specs.Events.{Stands}
 use Rattle.bbs_model.specs.Lrps.{new_row, make_refusals, moved_to, is_running_as, left_row, stays_because}
 use Rattle.bbs_model.specs.Processes.{desire_refusals, asks_for, resize_refusals}
 use Rattle.bbs_model.specs.Step.{attempt_at, edited}
@@ -52,8 +52,8 @@ use Rattle.bbs_model.specs.declared.event.Row.{Row}
 use Rattle.bbs_model.specs.declared.event.Row.TheVariants as row
 use Rattle.bbs_model.specs.declared.rows.Rows.{Rows}
 use Rattle.bbs_model.specs.declared.verdict.BoardRefusal.TheVariants as why
-use Rattle.bbs_model.proofs.KeepSteps.{by_test, by_passing, by_knowing, by_joining}
-use Rattle.bbs_model.proofs.KeepWalk.{each-evacuate}
+use Rattle.bbs_laws.proofs.Public.{by_test, by_passing, by_knowing, by_joining}
+use Rattle.bbs_laws.proofs.Public.{each-evacuate}
 use Rattle.event_laws.specs.Frame.{own_process, own_instance, own_cell}
 
 -- the row has one of the command's own keys

@@ -5,7 +5,7 @@ use Rattle.diego_names.proofs.Ties.{IsKeyOrder-name_order}
 use Rattle.lrp_records.specs.Place.{place_of, place_order}
 use Rattle.lrp_records.proofs.Ties.{IsKeyOrder-place_order}
 use Rattle.row_tables.proofs.Lookups.{find_row-put_row_same, find_row-without_row_same}
-use Rattle.bbs_model.specs.Laws.{Stands, SaysSo, AreTrue}
+use Rattle.bbs_laws.specs.Events.{Stands, SaysSo, AreTrue}
 use Rattle.bbs_model.specs.Replay.{replay, AreLegal}
 use Rattle.bbs_model.specs.Step.{IsLegal, changed_by, advanced, edited, edited_again, rows_after, with_row, without_place_of, has_place_of, event_of, event_again, events_in}
 use Rattle.bbs_model.specs.Tables.{process_of, task_name_of, cell_name_of}
@@ -22,7 +22,7 @@ use Rattle.bbs_model.specs.declared.event.Events.{Events}
 use Rattle.bbs_model.specs.declared.event.Row.{Row}
 use Rattle.bbs_model.specs.declared.event.Row.TheVariants as row
 use Rattle.bbs_model.specs.declared.rows.Rows.{Rows}
-use Rattle.bbs_model.proofs.Keeps.{legal_changes}
+use Rattle.bbs_laws.proofs.Public.{legal_changes}
 use Rattle.event_laws.specs.Told.{with_change, with_event, with_events, behind, IsDue, IsShown, AreDue, TellAll, TellsAll, told_of, told_before, after_all, FollowsTheBoard}
 use Rattle.event_laws.proofs.Own.{IsSound, IsOwnAgain, AreOwn, own-attempt}
 

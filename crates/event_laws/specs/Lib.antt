@@ -1,3 +1,3 @@
 pub mod Told
 pub mod Frame
-pub mod Sessions
+pub mod Incarnations

@@ -1,6 +1,6 @@
 -- What events make of rows, for one who has the rows before them and hears of nothing else.
 use Rattle.std.specs.Prelude.{◌≡◌, true, false, List, [], ◌∷◌, length, Option, Some, None}
-use Rattle.bbs_model.specs.Laws.{Stands}
+use Rattle.bbs_laws.specs.Events.{Stands}
 use Rattle.bbs_model.specs.Replay.{replay, AreLegal}
 use Rattle.bbs_model.specs.Step.{rows_after, with_row, without_place_of, advanced, has_place_of, events_of}
 use Rattle.bbs_model.specs.declared.command.Command.{Command}

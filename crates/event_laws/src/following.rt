@@ -3,9 +3,9 @@ ghost use Rattle.std.specs.Prelude.{◌≡◌, ◌+◌, ◌<◌, ◌^◌, length
 ghost use Rattle.bbs_model.specs.Step.{with_row, without_place_of};
 ghost use Rattle.event_laws.specs.Told.{with_event, after_events, after_all};
 
-use crate::tables::{copied, with, without};
 use bbs_model::{Change, Event, Events, Row, Rows};
 use diego_names::OutOfMemory;
+use plain_step::{copy_of, put, take_away};
 use std::alloc::Global;
 
 /// Brings rows along by the events of transitions, in their order, and counts each. The events are
@@ -44,44 +44,4 @@ fn take_in(alloc: Global, rows: &mut Rows, event: &Event) -> Result<(), OutOfMem
         Change::Created | Change::Changed => put(alloc, rows, &event.row),
         Change::Removed => take_away(alloc, rows, &event.row),
     }
-}
-
-fn put(alloc: Global, rows: &mut Rows, row: &Row) -> Result<(), OutOfMemory>
-    ensures { OnOk result (rows.new ≡ with_row rows.old row.entry.now) }
-{
-    match *row {
-        Row::Desired(row) => rows.desired = with(alloc, rows.desired.items(), row)?,
-        Row::Actual(row) => rows.actual = with(alloc, rows.actual.items(), row)?,
-        Row::Task(row) => rows.tasks = with(alloc, rows.tasks.items(), row)?,
-        Row::Cell(row) => rows.cells = with(alloc, rows.cells.items(), row)?,
-    }
-    Ok(())
-}
-
-/// Takes away what stands in the place of a row.
-fn take_away(alloc: Global, rows: &mut Rows, row: &Row) -> Result<(), OutOfMemory>
-    ensures { OnOk result (rows.new ≡ without_place_of rows.old row.entry.now) }
-{
-    match *row {
-        Row::Desired(row) => {
-            rows.desired = without(alloc, rows.desired.items(), &row.process)?;
-        }
-        Row::Actual(row) => rows.actual = without(alloc, rows.actual.items(), &row.place())?,
-        Row::Task(row) => rows.tasks = without(alloc, rows.tasks.items(), &row.name)?,
-        Row::Cell(row) => rows.cells = without(alloc, rows.cells.items(), &row.cell)?,
-    }
-    Ok(())
-}
-
-/// The same rows.
-fn copy_of(alloc: Global, rows: &Rows) -> Result<Rows, OutOfMemory>
-    ensures { IfOk result (λ copy. copy ≡ rows.now) }
-{
-    Ok(Rows {
-        desired: copied(alloc, rows.desired.items())?,
-        actual: copied(alloc, rows.actual.items())?,
-        tasks: copied(alloc, rows.tasks.items())?,
-        cells: copied(alloc, rows.cells.items())?,
-        next: rows.next,
-    })
 }

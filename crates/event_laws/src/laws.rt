@@ -1,7 +1,7 @@
 //! The laws of events and of what is over. None of these functions does anything: each is there for
 //! what it ensures.
 ghost use Rattle.std.specs.Prelude.{ℕ, List};
-ghost use Rattle.bbs_model.specs.Laws.{AreTrue};
+ghost use Rattle.bbs_laws.specs.Events.{AreTrue};
 ghost use Rattle.bbs_model.specs.Replay.{IsLawful};
 ghost use Rattle.bbs_model.specs.Step.{IsLegal, rows_after};
 ghost use Rattle.bbs_model.specs.Valid.{IsValid};
@@ -11,7 +11,7 @@ ghost use Rattle.bbs_model.specs.declared.event.Events.{Events as TheEvents};
 ghost use Rattle.bbs_model.specs.declared.item.Item.{Item as AnItem};
 ghost use Rattle.bbs_model.specs.declared.rows.Rows.{Rows as TheRows};
 ghost use Rattle.event_laws.specs.Frame.{KeepsOthers};
-ghost use Rattle.event_laws.specs.Sessions.{Session, StaysOver, CompletesOnceInAll};
+ghost use Rattle.event_laws.specs.Incarnations.{Incarnation, StaysOver, CompletesOnceInAll};
 ghost use Rattle.event_laws.specs.Told.{with_event, IsShown, TellAll, TellsAll, FollowsTheBoard};
 
 /// The events of a legal command are all that it does: the rows before it and its events give the
@@ -46,6 +46,6 @@ pub fn commands_change_their_own_rows()
 pub fn what_is_over_stays_over()
     ensures stays { (base : TheRows) (log : List AnItem) (birth : ℕ) →
         IsValid base → IsLawful base log → StaysOver base log birth }
-    ensures once { (base : TheRows) (sessions : List Session) (birth : ℕ) →
-        CompletesOnceInAll base sessions birth }
+    ensures once { (base : TheRows) (incarnations : List Incarnation) (birth : ℕ) →
+        CompletesOnceInAll base incarnations birth }
 {}

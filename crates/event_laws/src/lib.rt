@@ -3,7 +3,6 @@
 
 mod following;
 mod laws;
-mod tables;
 
 pub use following::follow;
 pub use laws::{

@@ -48,7 +48,8 @@ goes_then p q r f g = record {
 }
 
 -- two calls one after another, with a view between them
-pub record AreCalled (by : ℕ) (v : PortView) (c d : Command) (first second : Result Reply CallFault) (w : PortView) : Type 0 where
+pub record AreCalled (by : ℕ) (v : PortView) (c d : Command) (first second : Result Reply CallFault)
+    (w : PortView) : Type 0 where
   pub between : PortView
   pub first_is : IsCalled by v c first between
   pub second_is : IsCalled by between d second w

@@ -61,7 +61,7 @@ fn has_place_of(rows: &Rows, row: &Row) -> bool
 }
 
 /// Puts a row in its place. Where memory runs out, the rows stay.
-fn put(alloc: Global, rows: &mut Rows, row: &Row) -> Result<(), OutOfMemory>
+pub fn put(alloc: Global, rows: &mut Rows, row: &Row) -> Result<(), OutOfMemory>
     ensures ok { OnOk result (rows.new ≡ with_row rows.old row.entry.now) }
     ensures err { OnErr result (rows.new ≡ rows.old) }
 {
@@ -86,7 +86,7 @@ fn put(alloc: Global, rows: &mut Rows, row: &Row) -> Result<(), OutOfMemory>
 }
 
 /// Takes away what stands in the place of a row. Where memory runs out, the rows stay.
-fn take_away(alloc: Global, rows: &mut Rows, row: &Row) -> Result<(), OutOfMemory>
+pub fn take_away(alloc: Global, rows: &mut Rows, row: &Row) -> Result<(), OutOfMemory>
     ensures ok { OnOk result (rows.new ≡ without_place_of rows.old row.entry.now) }
     ensures err { OnErr result (rows.new ≡ rows.old) }
 {

@@ -12,7 +12,7 @@ mod tables;
 mod two_calls;
 mod working;
 
-pub use editing::copy_of;
+pub use editing::{copy_of, put, take_away};
 pub use looking::{counts, found};
 pub use port::PlainPort;
 pub use runs::{run, run_all};

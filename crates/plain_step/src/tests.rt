@@ -82,7 +82,7 @@ fn two_calls_over_a_port_are_heard(rt: HostRuntime) -> Result<(), Fail> {
     let heard = port.events(alloc, 0, 10)?;
     let event = Event {
         change: Change::Created,
-        row: Row::Desired(desired),
+        row: Row::Desired(wanted(web)),
     };
     assert!(rt; heard.events.items() == [event].as_slice());
     assert_eq!(rt; heard.upto, port.place());

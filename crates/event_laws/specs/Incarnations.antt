@@ -1,6 +1,6 @@
 -- A board over any number of stops: what it logged each time, and what it was found at after it.
 use Rattle.std.specs.Prelude.{◌≡◌, ℕ, ◌+◌, ◌<◌, ◌≤◌, false, List, [], ◌∷◌, take}
-use Rattle.bbs_model.specs.Births.{is_waiting, completions}
+use Rattle.bbs_laws.specs.Births.{is_waiting, completions}
 use Rattle.bbs_model.specs.Replay.{IsLawful, IsReached}
 use Rattle.bbs_model.specs.Valid.{IsValid}
 use Rattle.bbs_model.specs.declared.item.Item.{Item}
@@ -19,22 +19,22 @@ StaysOver base log birth =
 
 -- from one opening of a board to the next: what it logged, how many of the first items are kept for
 -- certain, and the rows that it was found at after it
-pub record Session : Type 0 where
+pub record Incarnation : Type 0 where
   pub log : List Item
   pub kept : ℕ
   pub found : Rows
 
--- each session is lawful from where the board was found before it
-abbrev pub AreSessions : Rows → List Session → Type 0
-AreSessions base [] = Unit {0}
-AreSessions base (s ∷ ss) = IsLawful base s.log × IsReached base s.log s.kept s.found × AreSessions s.found ss
+-- each incarnation is lawful from where the board was found before it
+abbrev pub AreIncarnations : Rows → List Incarnation → Type 0
+AreIncarnations base [] = Unit {0}
+AreIncarnations base (s ∷ ss) = IsLawful base s.log × IsReached base s.log s.kept s.found × AreIncarnations s.found ss
 
 -- how often the task of a birth got its outcome in items that are kept
-abbrev pub kept_completions : Rows → List Session → ℕ → ℕ
+abbrev pub kept_completions : Rows → List Incarnation → ℕ → ℕ
 kept_completions base [] birth = 0
 kept_completions base (s ∷ ss) birth = completions base (take s.kept s.log) birth + kept_completions s.found ss birth
 
--- no task gets its outcome twice over all sessions
-abbrev pub CompletesOnceInAll : Rows → List Session → ℕ → Type 0
-CompletesOnceInAll base sessions birth =
-    IsValid base → AreSessions base sessions → kept_completions base sessions birth ≤ 1
+-- no task gets its outcome twice over all incarnations
+abbrev pub CompletesOnceInAll : Rows → List Incarnation → ℕ → Type 0
+CompletesOnceInAll base incarnations birth =
+    IsValid base → AreIncarnations base incarnations → kept_completions base incarnations birth ≤ 1
