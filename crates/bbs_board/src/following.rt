@@ -8,8 +8,8 @@ ghost use Rattle.bbs_board.specs.Opening.{after_legal, after_payload, followed, 
 use bbs_codec::read_command;
 use bbs_index::Index;
 use bbs_journal::LoadFault;
-use bbs_model::{Command, RowStore, Verdict};
-use bbs_transitions::{apply, decide};
+use bbs_model::{Command, RowStore};
+use bbs_transitions::{Stepped, step_in};
 use diego_names::OutOfMemory;
 use disk_trait::Area;
 
@@ -20,12 +20,11 @@ fn follow_command(index: &mut Index, command: &Command) -> Result<bool, OutOfMem
         (after_legal index.old.rows command.entry.now ≡ None)) }
     ensures valid { IsValid index.new.rows }
 {
-    if decide(index, command) != Verdict::Ok {
-        return Ok(false);
-    }
     index.reserve(2)?;
-    let _events = apply(index, command);
-    Ok(true)
+    match step_in(index, command) {
+        Stepped::Done(_) => Ok(true),
+        Stepped::Same | Stepped::Refused(_) => Ok(false),
+    }
 }
 
 /// Does the command of a payload, and tells whether it is one that is legal there.

@@ -1,1 +1,2 @@
+mod Doable
 mod Boards

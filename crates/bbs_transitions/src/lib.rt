@@ -3,9 +3,11 @@
 
 mod edits;
 mod looks;
+mod stepped;
 mod steps;
 
-pub use steps::{apply, decide};
+pub use stepped::Stepped;
+pub use steps::{apply, decide, step_in};
 
 #[cfg(test)]
 mod tests;
