@@ -1,6 +1,7 @@
 //! The printed text, at lines that were worked out by hand.
 mod answers;
 mod events;
+mod tables;
 
 use crate::{Summary, summary_text};
 use cell_records::Amounts;

@@ -1,5 +1,5 @@
-use super::{TOTALS, desired, instance, key, name, reads};
-use crate::{answer_text, call_word, subject_text, why_text};
+use super::{desired, instance, key, name, reads};
+use crate::answer_text;
 use bbs_model::{BoardRefusal, CallEnd, CallFault, Op, Reply};
 use diego_names::StateName;
 use lrp_records::LrpRefusal;
@@ -98,68 +98,6 @@ fn a_refused_answer_tells_why(rt: HostRuntime) -> Result<(), Fail> {
     ] {
         let text = answer_text(rt.alloc(), &name(actor)?, line, &op, &refused(why))?;
         reads(&rt, text.as_slice(), want);
-    }
-    Ok(())
-}
-
-#[test]
-fn a_command_is_told_by_its_word_and_what_it_names(rt: HostRuntime) -> Result<(), Fail> {
-    let (key, process, job, cell) = (key("web", 12)?, name("web")?, name("job")?, name("c1")?);
-    let update = Op::Update {
-        process,
-        instances: 2,
-        route: None,
-        port: 8080,
-    };
-    let join = Op::Join {
-        cell,
-        zone: name("z1")?,
-        tag: None,
-        totals: TOTALS,
-        ttl: 600,
-    };
-    let task = Op::NewTask {
-        name: job,
-        memory: 64,
-        disk: 64,
-        tag: None,
-    };
-    for (op, word, subject) in [
-        (update, "update", "web"),
-        (Op::PlaceFail { key }, "placefail", "web/12"),
-        (task, "task", "job"),
-        (Op::ExpireTask { name: job }, "expire", "job"),
-        (join, "join", "c1"),
-        (Op::Vanish { cell }, "vanish", "c1"),
-    ] {
-        assert_eq!(rt; call_word(&op), word);
-        let text = subject_text(rt.alloc(), &op)?;
-        assert_eq!(rt; text.as_str(), subject);
-    }
-    Ok(())
-}
-
-#[test]
-fn a_refusal_is_told_with_its_number(rt: HostRuntime) -> Result<(), Fail> {
-    let have = instance(7, 2);
-    let last = 4_294_967_295;
-    for (why, want) in [
-        (BoardRefusal::NotWanted, "not wanted"),
-        (BoardRefusal::TooMany { limit: 5000 }, "too many 5000"),
-        (BoardRefusal::StaleEpoch { now: 8 }, "stale epoch 8"),
-        (BoardRefusal::LeaseHolds { until: 600 }, "lease holds 600"),
-        (
-            BoardRefusal::Lrp(LrpRefusal::WrongInstance { have }),
-            "wrong instance 7.2",
-        ),
-        (BoardRefusal::Lrp(LrpRefusal::GivenUp), "given up"),
-        (
-            BoardRefusal::Task(TaskRefusal::NotDue { at: last }),
-            "not due 4294967295",
-        ),
-    ] {
-        let text = why_text(rt.alloc(), &why)?;
-        assert_eq!(rt; text.as_str(), want);
     }
     Ok(())
 }
