@@ -54,7 +54,8 @@ gives_taken reads at count within ends =
 
 pub believes : (first : First) (history : List Call) → is_honest first history ≡ true → Believes first history
 believes first history honest = record {
-  marks = λ area at len. (honest, honest);
+  began_is = honest;
+  means_is = λ area at len. honest;
   lengths = λ area. and_both _ _ (eq-eqb _ _ refl) honest;
   bytes = λ area at count within ends. and_both _ _ (gives_taken (held_by first area history).reads at count within ends) honest;
   writes = λ area at bytes. honest;

@@ -27,7 +27,8 @@ is_announced (range ∷ ranges) at len = nat_le range.from at && nat_le (at + le
 
 -- these bytes may be written here: they were announced, and begin where the file has an end or a byte
 abbrev pub is_ready : Held → ℕ → List ℕ → Bool
-is_ready held at bytes = nat_le at (length held.reads) && is_announced held.pending at (length bytes) && list_all (λ b. nat_lt b 256) bytes
+is_ready held at bytes =
+    nat_le at (length held.reads) && is_announced held.pending at (length bytes) && list_all (λ b. nat_lt b 256) bytes
 
 -- the file with these bytes over it. A write that wasn't announced is none of the disk's
 abbrev pub put : Held → ℕ → List ℕ → Held
@@ -45,7 +46,8 @@ is_named area (call ∷ earlier) = names area call || is_named area earlier
 -- a call's effect. A range that was announced is pending, a write that was refused leaves what a read
 -- gives, and a sync settles a file whose name is on the disk
 abbrev pub held_after : Area → Call → Bool → Held → Held
-held_after area (means here at len) has_name held = if same_area area here then pend held (record { from = at; len = len }) held.reads else held
+held_after area (means here at len) has_name held =
+    if same_area area here then pend held (record { from = at; len = len }) held.reads else held
 held_after area (written here at ok bytes) has_name held = if same_area area here && ok then put held at bytes else held
 held_after area (flushed here ok) has_name held = if same_area area here && ok && has_name then settle held else held
 held_after area call has_name held = held
@@ -67,7 +69,8 @@ ticks (call ∷ earlier) = ticks earlier + tick call
 -- the calls of the first so many device calls
 abbrev pub up_to : ℕ → List Call → List Call
 up_to moment [] = []
-up_to moment (call ∷ earlier) = if nat_le (ticks earlier + tick call) moment then call ∷ earlier else up_to moment earlier
+up_to moment (call ∷ earlier) =
+    if nat_le (ticks earlier + tick call) moment then call ∷ earlier else up_to moment earlier
 
 -- two files of no bytes
 abbrev pub blank : First

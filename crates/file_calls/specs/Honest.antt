@@ -21,7 +21,8 @@ any_call test (call ∷ earlier) = test call || any_call test earlier
 -- a read from here on of a file that reads so gives these bytes: fewer than there was room for, maybe,
 -- and none only at the end
 abbrev pub gives : List ℕ → ℕ → List ℕ → Bool
-gives reads at bytes = bytes_eq (take (length bytes) (drop at reads)) bytes && (nat_lt 0 (length bytes) || nat_le (length reads) at)
+gives reads at bytes =
+    bytes_eq (take (length bytes) (drop at reads)) bytes && (nat_lt 0 (length bytes) || nat_le (length reads) at)
 
 -- the answer agrees with what the calls before it say. Any call may be refused. After a sync that was
 -- refused none is believed, since the system may have dropped what it had to write

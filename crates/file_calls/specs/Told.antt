@@ -21,8 +21,11 @@ abbrev pub told_of : First → List Call → Option Past
 told_of first history = if is_honest first history then Some (past_of first history) else None
 
 -- the clock of what is told counts the device calls
-pub told_clock : (first : First) (history : List Call) (p : Past) (clock : ℕ) → clock ≡ ticks history → told_of first history ≡ Some p → p.clock ≡ clock
+pub told_clock : (first : First) (history : List Call) (p : Past) (clock : ℕ) → clock ≡ ticks history
+    → told_of first history ≡ Some p → p.clock ≡ clock
 told_clock first history p clock is told = elim (cases_Bool (is_honest first history)) [
-  | inl honest ↦ let same : Some (past_of first history) ≡ Some p = rw honest at told in let e : past_of first history ≡ p = cc in sym (ap (λ (x : Past). x.clock) e) ∙ sym is
+  | inl honest ↦
+      let same : Some (past_of first history) ≡ Some p = rw honest at told in
+      let e : past_of first history ≡ p = cc in sym (ap (λ (x : Past). x.clock) e) ∙ sym is
   | inr silent ↦ let none : None ≡ Some p = rw silent at told in absurd (cc)
 ]

@@ -16,9 +16,9 @@ use crate::{CallError, Calls};
 use byte_ports::Failed;
 use disk_trait::{Area, Disk, Meter};
 
-/// Each area is a file. The disk tells what the files held at the first call and what its calls have
-/// done since, as long as the answers are those of a disk, and from the first that isn't it tells
-/// nothing.
+/// Each area is a file. The disk tells what the files held at the first call and what its calls
+/// have done since, as long as the answers are those of a disk, and from the first that isn't it
+/// tells nothing.
 #[derive(Drop)]
 pub struct FileDisk<C: Calls + Drop> {
     calls: C,
@@ -77,7 +77,8 @@ impl<C: Calls + Drop> Disk for FileDisk<C> {
 
     ghost use Rattle.file_calls.specs.Told.{told_clock};
 
-    ghost timed = { λ disk p is. told_clock C.Calls.first (C.Calls.history disk.calls) p disk.meter.clock disk.timed is };
+    ghost timed = { λ disk p is.
+        told_clock C.Calls.first (C.Calls.history disk.calls) p disk.meter.clock disk.timed is };
 
     fn len(&mut self, area: Area) -> Result<u64, Failed>
         ensures len { IfOk result

@@ -5,8 +5,8 @@ use crate::{CallError, Calls, Contents, Mishap, MishapKind, Record};
 use disk_trait::Area;
 use std::marker::PhantomData;
 
-/// Two files in memory. Each call goes wrong as the first of the mishaps says that names its number.
-/// Nothing is proved of its answers but what each system's keep to.
+/// Two files in memory. Each call goes wrong as the first of the mishaps says that names its
+/// number. Nothing is proved of its answers but what each system's keep to.
 #[derive(Drop)]
 pub struct MemoryCalls<F: Contents> {
     a: Vec<u8>,

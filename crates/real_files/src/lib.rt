@@ -1,5 +1,5 @@
-//! The calls of the system on two files, through std: what a disk of files makes of them is proved, and
-//! that each line here makes the call that it notes is read.
+//! The calls of the system on two files, through std: what a disk of files makes of them is proved,
+//! and that each line here makes the call that it notes is read.
 #![tactic(auto)]
 
 mod real_calls;

@@ -11,8 +11,8 @@ use std::marker::PhantomData;
 use std::rt::Files;
 
 /// Two files of the system. They are opened and locked at the first call, and made where they are
-/// missing. A call for which that fails is refused, and the next one tries again. `F` stands for what
-/// the files held then, whatever that was.
+/// missing. A call for which that fails is refused, and the next one tries again. `F` stands for
+/// what the files held then, whatever that was.
 #[derive(Drop)]
 pub struct RealCalls<R: Files<File = File> + AllocGlobal + Drop, F: Contents> {
     files: TwoFiles<R>,

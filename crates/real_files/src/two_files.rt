@@ -110,10 +110,10 @@ pub(crate) fn write_to(file: &File, at: u64, bytes: &[u8]) -> io::Result<usize>
     Ok(count)
 }
 
-/// An ordinary file that nobody else has locked. Where the name is free the file is made, and where the
-/// name is a link to nothing too, at the place that the link names. Whatever else stands there is not
-/// opened. A file never gets the number of a standard stream, so that what is meant for the stream
-/// can't land in it.
+/// An ordinary file that nobody else has locked. Where the name is free the file is made, and where
+/// the name is a link to nothing too, at the place that the link names. Whatever else stands there
+/// is not opened. A file never gets the number of a standard stream, so that what is meant for the
+/// stream can't land in it.
 fn open_locked<R: Files<File = File>>(rt: &R, name: &str) -> io::Result<File> {
     match rt.metadata(name) {
         Ok(found) if !found.is_file() => return Err(ErrorKind::Unsupported.into()),
