@@ -20,7 +20,8 @@ module _ {V T O : Type 0} where
   -- the passes of the numbers from 1 on, as the first view gave them
   abbrev pub AreGiven : TableId → View T O → ℕ → List (Pass V T O) → Type 0
   AreGiven z v many passes = (suc (length passes) ≡ many)
-      × EachAt (λ k (p : Pass V T O). (p.place.table_id ≡ z) × (p.number ≡ suc k) × (view_of p ≡ newly_given (record v { given = suc k }))) passes
+      × EachAt (λ k (p : Pass V T O). (p.place.table_id ≡ z) × (p.number ≡ suc k)
+      × (view_of p ≡ newly_given (record v { given = suc k }))) passes
 
   -- passes of the desk z
   abbrev pub AreOf : TableId → List (Pass V T O) → Type 0
@@ -31,7 +32,8 @@ module _ {V T O : Type 0} where
   told_of p = as_told (view_of p)
 
   -- the passes at the end of the list were joined into the seat, and these are left
-  abbrev pub HasGathered : List (Pass V T O) → List (Pass V T O) → Me (Option V) (View T O) → Me (Option V) (View T O) → Type 0
+  abbrev pub HasGathered : List (Pass V T O) → List (Pass V T O) → Me (Option V) (View T O) → Me (Option V) (View T O)
+      → Type 0
   HasGathered passes rest m m' = (done : List (Pass V T O)) × (passes ≡ rest ++ done)
       × (m' ≡ (record m.0 { joined = map told_of done ++ m.0.joined }, m.1))
 
@@ -43,7 +45,8 @@ module _ {T O : Type 0} where
     pub all : (n : ℕ) → 0 < n → n < v.given → (k : ℕ) × (e : Told T) × (get_elem? v.joined k ≡ some e) × (e.number ≡ n)
 
   -- the value that is left behind such a view
-  pub record IsLeft {V : Type 0} (items : V → List T) (origin : V → O) (by : T → ℕ) (start : V) (v : View T O) (left : V) : Type 0 where
+  pub record IsLeft {V : Type 0} (items : V → List T) (origin : V → O) (by : T → ℕ) (start : V) (v : View T O)
+      (left : V) : Type 0 where
     pub fresh : List T
     pub history : items left ≡ items start ++ fresh
     pub source : origin left ≡ origin start

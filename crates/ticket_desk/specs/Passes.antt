@@ -37,8 +37,8 @@ module _ {V T O : Type 0} where
     abbrev pub AreDealt : V → TableId → ℕ → List (Pass V T O) → Type 0
     AreDealt value z many passes = (length passes ≡ many) × AreAll z passes × EachAt (λ _ p. IsNew value p) passes
 
-    -- the value that is left has one history: it goes on from what each pass has seen, each pass's own items are those with
-    -- its number among the fresh ones, and there are no others
+    -- the value that is left has one history: it goes on from what each pass has seen, each pass's own items are
+    -- those with its number among the fresh ones, and there are no others
     pub record IsClosed (by : T → ℕ) (start left : V) (passes : List (Pass V T O)) : Type 0 where
       pub fresh : List T
       pub history : items left ≡ items start ++ fresh

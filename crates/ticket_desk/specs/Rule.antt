@@ -38,7 +38,8 @@ module _ {V T O : Type 0} (items : V → List T) (origin : V → O) where
   -- a value at home has the whole history; the slot is empty while a turn is on, and only then
   abbrev pub SlotIs : O → List T → List (maybe.Option (Option V)) → List (View T O) → Type 0
   SlotIs source log homes views =
-      ((x : V) × (homes ≡ some (Some x) ∷ []) × (items x ≡ log) × (origin x ≡ source) × EachAt (λ _ v. v.turn ≡ false) views)
+      ((x : V) × (homes ≡ some (Some x) ∷ []) × (items x ≡ log) × (origin x ≡ source)
+      × EachAt (λ _ v. v.turn ≡ false) views)
       ⊎ ((homes ≡ none ∷ []) × ((i : ℕ) × (v : View T O) × (get_elem? views i ≡ some v) × (v.turn ≡ true)))
 
   -- the history is that of the start and then the fresh items; a number's owner is 1 more than its seat, or 0 for none
@@ -53,7 +54,8 @@ module _ {V T O : Type 0} (items : V → List T) (origin : V → O) where
     pub queue_is : drawn ≡ (served + waiting s.views) % 18446744073709551616
     pub few : (numbers s.views ≤ given) × (given ≤ 4096)
     pub apart : Apart s.views
-    pub each : EachAt (ViewOk by (items start ++ fresh) fresh given owner (origin start) served (waiting s.views)) s.views
+    pub each : EachAt (ViewOk by (items start ++ fresh) fresh given owner (origin start) served (waiting s.views))
+        s.views
     pub unused : (n : ℕ) → given ≤ n → by_number by n fresh ≡ []
     pub slot_is : SlotIs (origin start) (items start ++ fresh) s.homes s.views
 

@@ -11,14 +11,16 @@ use Rattle.ticket_desk.specs.Steps.{Fits}
 abbrev pub Adds : {T : Type 0} → (T → ℕ) → ℕ → List T → List T → Type 0
 Adds {T} by n before after = (after ≡ before) ⊎ ((x : T) × (after ≡ before ++ x ∷ []) × (by x ≡ n))
 
-module _ {V T O : Type 0} (items : V → List T) (origin : V → O) {F R : Type 0} (g : Once F (MutBor V × Unit {0}) (R × (MutBor V × Unit {0}))) (f : F) (by : T → ℕ) (n : ℕ) (v : View T O) where
-  -- at each value that a turn may find, the job may be called, keeps the origin and adds at most one item of this number
+module _ {V T O : Type 0} (items : V → List T) (origin : V → O)
+    {F R : Type 0} (g : Once F (MutBor V × Unit {0}) (R × (MutBor V × Unit {0}))) (f : F)
+    (by : T → ℕ) (n : ℕ) (v : View T O) where
+  -- at each value that a turn may find, the job may be called, keeps the origin and adds one item at most, its own
   abbrev pub JobKeeps : Type 0
   JobKeeps = (x : V) → Fits items origin v x
       → FnOnceTakesAtMut g f x
       × ((r : R) (x' : V) → FnOnceReturnsAtMut g f x r x' → (origin x' ≡ origin x) × Adds by n (items x) (items x'))
 
-  -- the job ran once, on a value that goes on from what was seen; what it left is seen, and what it added is the pass's own
+  -- the job ran once, on a value that goes on from what was seen; what it left is seen, what it added is own
   pub record Turned (w : View T O) (r : R) : Type 0 where
     pub value : V
     pub left : V

@@ -15,7 +15,8 @@ fn gather<V: History>(top: &Top<V>, first: &mut Place<V>, mut rest: Vec<PassOf<V
     requires board { IsBoard top.now.table_id first.old.table_id }
     requires rest { AreOf top.now.table_id rest.items }
     ensures board { first.new.table_id ≡ first.old.table_id }
-    ensures joined { first.new.me ≡ (record first.old.me.0 { joined = map told_of rest.items ++ first.old.me.0.joined }, first.old.me.1) }
+    ensures joined { let m = first.old.me in
+        first.new.me ≡ (record m.0 { joined = map told_of rest.items ++ m.0.joined }, m.1) }
 {
     while let Some(pass) = rest.pop() {
         top.join_seat::<Gather>(first, pass.into_place());

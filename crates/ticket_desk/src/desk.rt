@@ -4,7 +4,8 @@ ghost use Rattle.std.specs.Prelude.{◌≡◌};
 use crate::history::History;
 use crate::rule::Board;
 
-/// A value at which many threads take turns. Share it by `&`, start it with `start` and end it with `close`.
+/// A value at which many threads take turns. Share it by `&`, start it with `start` and end it with
+/// `close`.
 pub struct Desk<V: History> {
     pub table: Board<V>,
     pub ghost sized: { (table.shared.table_id.words ≡ 2) × (table.shared.table_id.slots ≡ 1) },

@@ -1,6 +1,7 @@
 //! What the desk asks of a value that many threads take turns at.
 
-/// A value with a history that only grows. All three members are for clauses alone, so nothing of them is stored.
+/// A value with a history that only grows. All three members are for clauses alone, so nothing of
+/// them is stored.
 pub trait History {
     ghost use Rattle.std.specs.Prelude.{List, ℕ};
 

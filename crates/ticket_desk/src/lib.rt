@@ -1,5 +1,5 @@
-//! Turns at one value for many threads, in the order of their tickets. What each thread has seen of the value's
-//! history, and what it has added to it, is known wherever its pass is.
+//! Turns at one value for many threads, in the order of their tickets. What each thread has seen of
+//! the value's history, and what it has added to it, is known wherever its pass is.
 #![tactic(auto)]
 
 mod close;

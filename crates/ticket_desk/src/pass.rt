@@ -6,7 +6,8 @@ use crate::history::History;
 use crate::view::View;
 use atomic_table::Seat;
 
-/// A pass has a number of its own and carries what its thread has seen and made. At run time it is that number alone.
+/// A pass has a number of its own and carries what its thread has seen and made. At run time it is
+/// that number alone.
 pub struct Pass<V, T, O> {
     pub place: Seat<Option<V>, View<T, O>>,
     pub number: u32,

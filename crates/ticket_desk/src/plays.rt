@@ -1,5 +1,7 @@
 //! The kinds of atomic step, and what each tells the seat that makes it.
-ghost use Rattle.ticket_desk.specs.Steps.{Draws, Looks, HandsOn, Catches, as_told, note_of, next_given, newly_given, heard_from, joined_with, spent_view};
+ghost use Rattle.ticket_desk.specs.Steps.{Draws, Looks, HandsOn, Catches};
+ghost use Rattle.ticket_desk.specs.Steps.{note_of, heard_from};
+ghost use Rattle.ticket_desk.specs.Steps.{next_given, newly_given, joined_with, spent_view};
 
 use crate::history::History;
 use crate::view::View;

@@ -1,5 +1,6 @@
-//! The table behind the desk. Word 0 counts the tickets drawn and word 1 the turns served, both modulo 2^64.
-//! The one slot holds the value, and is empty only while the seat that has the turn works on it.
+//! The table behind the desk. Word 0 counts the tickets drawn and word 1 the turns served, both
+//! modulo 2^64. The one slot holds the value, and is empty only while the seat that has the turn
+//! works on it.
 use crate::history::History;
 use crate::view::View;
 use atomic_table::{Seat, Shared, Table, TableRule};

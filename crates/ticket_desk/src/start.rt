@@ -1,5 +1,6 @@
 //! How a desk is made, with its passes.
-ghost use Rattle.std.specs.Prelude.{◌≡◌, ◌<◌, ◌≤◌, [], ◌∷◌, Some, vec_len, vec_capacity, IfOk, IfErr};
+ghost use Rattle.std.specs.Prelude.{◌≡◌, ◌<◌, ◌≤◌, [], ◌∷◌, Some};
+ghost use Rattle.std.specs.Prelude.{vec_len, vec_capacity, IfOk, IfErr};
 ghost use Rattle.ticket_desk.specs.Rule.{IsIdle};
 ghost use Rattle.ticket_desk.specs.Steps.{next_given, newly_given};
 ghost use Rattle.ticket_desk.specs.Passes.{AreDealt, view_of};
@@ -50,7 +51,8 @@ fn lay<V: History>(
     value: V,
     from: u64,
 ) -> Result<(Board<V>, Place<V>), (V, AllocError)>
-    ensures ok { IfOk result (λ t. IsBoard t.0.shared.table_id t.1.table_id × (t.0.shared.key.value ≡ value) × IsFirst V.items V.origin value 1 t.1.me) }
+    ensures ok { IfOk result (λ t. IsBoard t.0.shared.table_id t.1.table_id
+        × (t.0.shared.key.value ≡ value) × IsFirst V.items V.origin value 1 t.1.me) }
     ensures err { IfErr result (λ e. e.0 ≡ value) }
 {
     let about = Snapshot::of(&value);
@@ -67,9 +69,12 @@ fn lay<V: History>(
 // A pass of the next number.
 fn give<V: History>(top: &Top<V>, first: &mut Place<V>, number: u32) -> PassOf<V>
     requires board { IsBoard top.now.table_id first.old.table_id }
-    requires number { (first.old.me.0.number ≡ Some 0) × (first.old.me.0.given ≡ number) × (number < 4096) }
-    ensures first { (first.new.table_id ≡ first.old.table_id) × (first.new.me ≡ (next_given first.old.me.0, first.old.me.1)) }
-    ensures given { (result.place.table_id ≡ first.old.table_id) × (result.number ≡ number) × (view_of result ≡ newly_given first.old.me.0) }
+    requires number { (first.old.me.0.number ≡ Some 0) × (first.old.me.0.given ≡ number)
+        × (number < 4096) }
+    ensures first { (first.new.table_id ≡ first.old.table_id)
+        × (first.new.me ≡ (next_given first.old.me.0, first.old.me.1)) }
+    ensures given { (result.place.table_id ≡ first.old.table_id) × (result.number ≡ number)
+        × (view_of result ≡ newly_given first.old.me.0) }
 {
     let place = top.split_seat::<Give>(first);
     Pass { place, number }
@@ -79,8 +84,10 @@ fn give<V: History>(top: &Top<V>, first: &mut Place<V>, number: u32) -> PassOf<V
 fn deal<V: History>(top: &Top<V>, first: &mut Place<V>, passes: &mut Vec<PassOf<V>>, seats: u32)
     requires board { IsBoard top.now.table_id first.old.table_id }
     requires first { (first.old.me.0.number ≡ Some 0) × (first.old.me.0.given ≡ 1) }
-    requires room { (passes.old.items ≡ []) × (0 < seats) × (seats ≤ 4096) × (seats ≤ vec_capacity passes.old) }
-    ensures first { (first.new.table_id ≡ first.old.table_id) × (first.new.me ≡ (record first.old.me.0 { given = seats }, first.old.me.1)) }
+    requires room { (passes.old.items ≡ []) × (0 < seats) × (seats ≤ 4096)
+        × (seats ≤ vec_capacity passes.old) }
+    ensures first { (first.new.table_id ≡ first.old.table_id)
+        × (first.new.me ≡ (record first.old.me.0 { given = seats }, first.old.me.1)) }
     ensures dealt { AreGiven top.now.table_id first.old.me.0 seats passes.new.items }
     ensures room { vec_capacity passes.new ≡ vec_capacity passes.old }
 {
@@ -98,7 +105,8 @@ pub(crate) fn start_at<V: History>(
     from: u64,
 ) -> Result<(Desk<V>, Vec<PassOf<V>>), (V, AllocError)>
     requires { (0 < seats) × (seats ≤ 4096) }
-    ensures ok { IfOk result (λ r. (r.0.table.shared.key.value ≡ value) × AreDealt V.items V.origin value r.0.table.shared.table_id seats r.1.items) }
+    ensures ok { IfOk result (λ r. (r.0.table.shared.key.value ≡ value)
+        × AreDealt V.items V.origin value r.0.table.shared.table_id seats r.1.items) }
     ensures err { IfErr result (λ e. e.0 ≡ value) }
 {
     let Ok(mut passes) = Vec::with_capacity(alloc, seats as usize) else {
@@ -120,7 +128,8 @@ fn with_first<V, T, O>(
 ) -> Vec<Pass<V, T, O>>
     requires room { vec_len passes < vec_capacity passes }
     requires first { (first.me.0.number ≡ Some 0) × IsIdle first.me }
-    ensures { (p : Pass V T O) × (result.items ≡ p ∷ passes.items) × (p.place ≡ first) × (p.number ≡ 0) }
+    ensures { (p : Pass V T O) × (result.items ≡ p ∷ passes.items) × (p.place ≡ first)
+        × (p.number ≡ 0) }
 {
     let Ok(()) = passes.insert(
         0,
@@ -135,14 +144,16 @@ fn with_first<V, T, O>(
 }
 
 impl<V: History> Desk<V> {
-    /// A desk for so many seats, 1 to 4,096, and a pass for each of them. The value comes back where memory runs out.
+    /// A desk for so many seats, 1 to 4,096, and a pass for each of them. The value comes back where
+    /// memory runs out.
     pub fn start(
         alloc: Global,
         value: V,
         seats: u32,
     ) -> Result<(Desk<V>, Vec<PassOf<V>>), (V, AllocError)>
         requires { (0 < seats) × (seats ≤ 4096) }
-        ensures ok { IfOk result (λ r. (r.0.table.shared.key.value ≡ value) × AreDealt V.items V.origin value r.0.table.shared.table_id seats r.1.items) }
+        ensures ok { IfOk result (λ r. (r.0.table.shared.key.value ≡ value)
+            × AreDealt V.items V.origin value r.0.table.shared.table_id seats r.1.items) }
         ensures err { IfErr result (λ e. e.0 ≡ value) }
     {
         start_at(alloc, value, seats, 0)

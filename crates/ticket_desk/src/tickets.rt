@@ -1,4 +1,5 @@
-//! The steps of a turn at the two words: a ticket is drawn, its turn is awaited, and the turn is handed on.
+//! The steps of a turn at the two words: a ticket is drawn, its turn is awaited, and the turn is
+//! handed on.
 ghost use Rattle.std.specs.Prelude.{◌≡◌, ℕ, [], ◌∷◌, false, true, Some, None};
 ghost use Rattle.ticket_desk.specs.Steps.{TakesTurn, Fits, after_turn};
 ghost use Rattle.ticket_desk.specs.Turns.{Adds};
@@ -22,9 +23,11 @@ const LOW_HALF: u64 = 0xffff_ffff;
 /// Draws a ticket.
 pub(crate) fn draw<V: History>(top: &Top<V>, place: &mut Place<V>, number: u32) -> u64
     requires board { IsBoard top.now.table_id place.old.table_id }
-    requires free { (place.old.me.0.ticket ≡ None) × (place.old.me.0.number ≡ Some number) × (place.old.me.0.turn ≡ false) }
+    requires free { (place.old.me.0.ticket ≡ None) × (place.old.me.0.number ≡ Some number)
+        × (place.old.me.0.turn ≡ false) }
     ensures board { place.new.table_id ≡ place.old.table_id }
-    ensures drawn { place.new.me ≡ (record place.old.me.0 { ticket = Some result }, place.old.me.1) }
+    ensures drawn { let m = place.old.me in
+        place.new.me ≡ (record m.0 { ticket = Some result }, m.1) }
 {
     let _ = number;
     top.fetch_add::<Draw>(place, DRAWN, 1)
@@ -60,12 +63,14 @@ pub(crate) fn await_turn<V: History, R: Wait>(
     unreachable!()
 }
 
-/// Serves the next ticket. The value is home, and its history may be longer by one item of this number.
+/// Serves the next ticket. The value is home, and its history may be longer by one item of this
+/// number.
 pub(crate) fn hand_on<V: History>(top: &Top<V>, place: &mut Place<V>, number: u32, ticket: u64)
     requires board { IsBoard top.now.table_id place.old.table_id }
     requires done { IsDone V.items V.origin V.by number ticket place.old.me }
     ensures board { place.new.table_id ≡ place.old.table_id }
-    ensures home { (x : V) × (place.old.me.1 ≡ (0, Some x) ∷ []) × (place.new.me ≡ (after_turn place.old.me.0 (V.items x), [])) }
+    ensures home { (x : V) × (place.old.me.1 ≡ (0, Some x) ∷ [])
+        × (place.new.me ≡ (after_turn place.old.me.0 (V.items x), [])) }
 {
     let _ = number;
     let next = ticket.wrapping_add(1);

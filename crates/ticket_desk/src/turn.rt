@@ -11,8 +11,8 @@ impl<V: History> Desk<V> {
     ghost use Rattle.ticket_desk.specs.Passes.{view_of, IsSamePass};
     ghost use Rattle.ticket_desk.specs.Turns.{JobKeeps, Turned};
 
-    /// Waits until all who drew a ticket before have had their turn, and runs the job on the value. The job has the value
-    /// for itself, so that it may take its time: threads that wait sleep.
+    /// Waits until all who drew a ticket before have had their turn, and runs the job on the value.
+    /// The job has the value for itself, so that it may take its time: threads that wait sleep.
     pub fn turn<R: Wait, X, J: FnOnce(&mut V) -> X>(
         &self,
         rt: &R,
@@ -20,9 +20,11 @@ impl<V: History> Desk<V> {
         job: J,
     ) -> X
         requires desk { pass.old.place.table_id ≡ self.now.table.shared.table_id }
-        requires job { JobKeeps V.items V.origin J.FnOnce job V.by pass.old.number (view_of pass.old) }
+        requires job { JobKeeps V.items V.origin J.FnOnce job V.by pass.old.number
+            (view_of pass.old) }
         ensures same { IsSamePass pass.old pass.new }
-        ensures turn { Turned V.items V.origin J.FnOnce job V.by pass.old.number (view_of pass.old) (view_of pass.new) result }
+        ensures turn { Turned V.items V.origin J.FnOnce job V.by pass.old.number
+            (view_of pass.old) (view_of pass.new) result }
     {
         let top = &self.table.shared;
         let number = pass.number;

@@ -8,7 +8,8 @@ pub struct Told<T> {
     pub mine: LinkedList<T>,
 }
 
-/// A view of the desk. A view without a number is a note: it carries what was seen, and never has a ticket.
+/// A view of the desk. A view without a number is a note: it carries what was seen, and never has a
+/// ticket.
 pub struct View<T, O> {
     pub number: Option<u32>,
     /// The ticket that was drawn, until the turn is handed on.

@@ -1,5 +1,6 @@
 //! Runs of many turns, by threads of their own.
-ghost use Rattle.std.specs.Prelude.{◌≡◌, ℕ, ◌<◌, ◌≤◌, List, [], ◌∷◌, length, All, IfSome, slice_index_or};
+ghost use Rattle.std.specs.Prelude.{◌≡◌, ℕ, ◌<◌, ◌≤◌, [], ◌∷◌, length};
+ghost use Rattle.std.specs.Prelude.{All, IfSome, slice_index_or};
 ghost use Rattle.ticket_desk.specs.declared.pass.Pass.{Pass};
 ghost use Rattle.ticket_desk.specs.Passes.{IsPass, IsSamePass, AreAll};
 
@@ -56,7 +57,8 @@ fn three(
 ) -> Option<(PassOf<Numbers>, PassOf<Numbers>, PassOf<Numbers>)>
     requires all { AreAll desk.now.table.shared.table_id passes.items }
     requires three { length passes.items ≡ 3 }
-    ensures { IfSome result (λ t. let z = desk.now.table.shared.table_id in IsPass z 3 0 t.0 × IsPass z 3 1 t.1 × IsPass z 3 2 t.2) }
+    ensures { IfSome result (λ t. let z = desk.now.table.shared.table_id in
+        IsPass z 3 0 t.0 × IsPass z 3 1 t.1 × IsPass z 3 2 t.2) }
 {
     let two = passes.pop()?;
     let one = passes.pop()?;
@@ -87,7 +89,8 @@ fn left(
     one: PassOf<Numbers>,
     two: PassOf<Numbers>,
 ) -> Option<Vec<Entry>>
-    requires { let z = desk.table.shared.table_id in IsPass z 3 0 zero × IsPass z 3 1 one × IsPass z 3 2 two }
+    requires { let z = desk.table.shared.table_id in
+        IsPass z 3 0 zero × IsPass z 3 1 one × IsPass z 3 2 two }
 {
     let passes = together(alloc, zero, one, two)?;
     Some(desk.close(passes).entries)
@@ -119,7 +122,8 @@ fn all_run<R: Threads + Wait + Sync>(
 )
     requires some { 0 < length passes.old }
     requires desk { All (λ p. p.place.table_id ≡ desk.now.table.shared.table_id) passes.old }
-    ensures { (k : ℕ) (d : Pass _ _ _) → k < length passes.old → IsSamePass (slice_index_or passes.old k d) (slice_index_or passes.new k d) }
+    ensures { (k : ℕ) (d : Pass _ _ _) → k < length passes.old
+        → IsSamePass (slice_index_or passes.old k d) (slice_index_or passes.new k d) }
 {
     let threads = passes.len();
     thread::for_each_mut(
@@ -162,7 +166,8 @@ pub fn in_order(entries: &[Entry], by: u32, turns: u32) -> bool {
     next == turns
 }
 
-/// What two passes of a desk see, of which one hears the other: the second's turn reads the list from its front.
+/// What two passes of a desk see, of which one hears the other: the second's turn reads the list
+/// from its front.
 pub fn heard<R: Wait>(rt: &R, alloc: Global) -> Option<(Option<Entry>, usize)> {
     let numbers = Numbers::new(alloc, 16).ok()?;
     let (desk, passes) = Desk::start(alloc, numbers, 3).ok()?;
