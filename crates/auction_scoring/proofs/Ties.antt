@@ -1,5 +1,5 @@
 -- The laws of the order of scores.
-use Rattle.std.proofs.Common.{◌≡◌, ◌≢◌, Bool, not, refl, sym, ap, ◌∙◌}
+use Rattle.std.proofs.Common.{◌≡◌, ◌≢◌, not, refl, ap}
 use Rattle.std.specs.Cmp.{nat_cmp_total, on_total, then_total}
 use Rattle.std.specs.FinMap.{nat_cmp-IsAntisymmetric}
 use Rattle.std.specs.Ordering.{nat_cmp, ordering_then, ordering_reverse, is_lt}

@@ -1,5 +1,5 @@
 -- Which cells may take a job.
-use Rattle.std.specs.Prelude.{ℕ, ◌≤◌, Bool, ◌&&◌, nat_eq, nat_le, nat_lt}
+use Rattle.std.specs.Prelude.{◌≤◌, Bool, ◌&&◌, nat_eq, nat_le, nat_lt}
 use Rattle.std.specs.Cmp.Lexicographic.{pointwise}
 use Rattle.std.specs.Option.{option_eq}
 use Rattle.cell_records.specs.declared.amounts.Amounts.{Amounts}

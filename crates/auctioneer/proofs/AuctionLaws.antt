@@ -1,8 +1,7 @@
 -- What holds of every auction.
-use Rattle.std.proofs.Common.{◌≡◌, ◌≢◌, ℕ, ◌+◌, ◌<◌, ◌≤◌, Bool, true, false, cond, ltb, eqb, List, [], ◌∷◌, length, map, get_or, Option, Some, None, ◌⊎◌, inl, inr, refl, sym, ap, subst, ◌∙◌, arith}
-use Rattle.std.specs.List.{All, AllPairs, Contains}
-use Rattle.std.specs.Ordering.{is_lt, nat_cmp, ordering_then}
-use Rattle.std.specs.declared.cmp.Ordering.{Ordering}
+use Rattle.std.proofs.Common.{◌≡◌, ℕ, ◌<◌, ◌≤◌, true, false, cond, eqb, List, [], ◌∷◌, length, map, get_or, Option, Some, None, inl, inr, refl, sym, ap, subst, ◌∙◌, arith}
+use Rattle.std.specs.List.{All, Contains}
+use Rattle.std.specs.Ordering.{is_lt, ordering_then}
 use Rattle.std.specs.declared.cmp.Ordering.TheVariants.{Less, Equal, Greater}
 use Rattle.std.proofs.lemmas.Bool.{cases_lt, lt-ltb}
 use Rattle.std.proofs.lemmas.List.{length-map, get_or-map}
@@ -18,8 +17,8 @@ use Rattle.auction_scoring.specs.Order.{score_order, is_better}
 use Rattle.auction_scoring.specs.declared.scores.Score.{Score}
 use Rattle.auctioneer.specs.Auction.{placement_on, stands_with, auction_from, auction}
 use Rattle.auctioneer.specs.Laws.{job_in, stands_after, AtEachTurn, TakesRoom, Spreads, NamesAnswer}
-use Rattle.auctioneer.specs.Least.{IsLeast, NoneFits, IsLeastOrNone, best}
-use Rattle.auctioneer.specs.Stands.{same_name, can_take, score_in, in_zone, with_job, placed, stand_of, stands_of}
+use Rattle.auctioneer.specs.Least.{IsLeastOrNone, best}
+use Rattle.auctioneer.specs.Stands.{same_name, score_in, in_zone, with_job, placed, stand_of, stands_of}
 use Rattle.auctioneer.specs.declared.placement.Placement.{Placement}
 use Rattle.auctioneer.specs.declared.stand.Stand.{Stand}
 use Rattle.auctioneer.proofs.Leasts.{best_in-IsLeast, same_stand}

@@ -1,7 +1,7 @@
 -- The best of the cells is the least, and only one is.
-use Rattle.std.proofs.Common.{◌≡◌, ◌≢◌, ℕ, zero, suc, ◌+◌, ◌<◌, Bool, true, false, cond, not, List, [], ◌∷◌, length, get_or, Option, Some, None, ◌⊎◌, inl, inr, refl, sym, ap, subst, ◌∙◌, arith}
+use Rattle.std.proofs.Common.{◌≡◌, zero, suc, true, false, cond, List, [], ◌∷◌, get_or, Option, Some, None, ◌⊎◌, inl, inr, refl, sym, ap, subst, ◌∙◌, arith}
 use Rattle.std.specs.Cmp.{tied_itself, upto}
-use Rattle.std.specs.List.{AllPairs, Contains}
+use Rattle.std.specs.List.{Contains}
 use Rattle.std.specs.Ordering.{is_lt, is_gt, ordering_reverse}
 use Rattle.std.specs.declared.cmp.Ordering.{Ordering}
 use Rattle.std.specs.declared.cmp.Ordering.TheVariants.{Less, Equal, Greater}
@@ -13,7 +13,7 @@ use Rattle.cell_records.specs.declared.job.Job.{Job}
 use Rattle.auction_scoring.specs.Order.{score_order, is_better}
 use Rattle.auction_scoring.specs.declared.scores.Score.{Score}
 use Rattle.auction_scoring.proofs.Ties.{IsKeyOrder-score_order}
-use Rattle.auctioneer.specs.Least.{IsLeast, NoneFits, IsLeastOrNone, better_one, best_in, best}
+use Rattle.auctioneer.specs.Least.{IsLeastOrNone, better_one, best_in, best}
 use Rattle.auctioneer.specs.Stands.{can_take, score_in}
 use Rattle.auctioneer.specs.declared.stand.Stand.{Stand}
 use Rattle.auctioneer.proofs.Placings.{below_is_other, pairs-from_rising}

@@ -4,3 +4,4 @@ pub mod Placings
 pub mod Standings
 pub mod Leasts
 pub mod AuctionLaws
+pub mod Apart

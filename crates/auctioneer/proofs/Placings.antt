@@ -1,14 +1,12 @@
 -- What placing a job leaves of the cells.
-use Rattle.std.proofs.Common.{◌≡◌, ◌≢◌, ℕ, zero, suc, ◌+◌, ◌-◌, ◌<◌, ◌≤◌, true, false, cond, List, [], ◌∷◌, ◌++◌, length, map, set, get_or, refl, sym, ap, subst, ◌∙◌, arith, eq-eqb}
+use Rattle.std.proofs.Common.{◌≡◌, ◌≢◌, ℕ, zero, suc, ◌<◌, ◌≤◌, true, false, cond, List, [], ◌∷◌, length, set, get_or, refl, sym, ap, subst, ◌∙◌, arith}
 use Rattle.std.specs.Cmp.{tied_itself}
-use Rattle.std.specs.List.{All, AllPairs, Contains}
-use Rattle.std.specs.Ordering.{is_eq}
-use Rattle.std.specs.declared.cmp.Ordering.{Ordering}
-use Rattle.std.specs.declared.cmp.Ordering.TheVariants.{Less, Equal, Greater}
+use Rattle.std.specs.List.{All, AllPairs}
+use Rattle.std.specs.declared.cmp.Ordering.TheVariants.{Less, Equal}
 use Rattle.std.proofs.lemmas.Bool.{and_parts, ltb-true, leb-true}
 use Rattle.std.proofs.lemmas.Bool.Decides.{Decides-eqb}
-use Rattle.std.proofs.lemmas.List.{length-append, length-set, get_or_read}
-use Rattle.std.proofs.lemmas.List.Elements.{All-head, All-tail, All-cons, All-set, All-get_or, All-contains}
+use Rattle.std.proofs.lemmas.List.{length-append, length-set}
+use Rattle.std.proofs.lemmas.List.Elements.{All-head, All-tail, All-set}
 use Rattle.std.proofs.lemmas.Slice.Eq.{slice_eq-Decides}
 use Rattle.row_tables.specs.Table.{IsRising}
 use Rattle.row_tables.proofs.Elements.{All-above}
@@ -17,7 +15,6 @@ use Rattle.row_tables.proofs.Tables.{IsRising-from_pairs}
 use Rattle.diego_names.specs.Order.{name_order}
 use Rattle.diego_names.proofs.Ties.{IsKeyOrder-name_order}
 use Rattle.cell_records.specs.declared.job.Job.{Job}
-use Rattle.auction_scoring.specs.Fits.{IsWithin}
 use Rattle.auctioneer.specs.Asked.{IsSound, AreStands}
 use Rattle.auctioneer.specs.Stands.{same_name, can_take, with_job, placed}
 use Rattle.auctioneer.specs.declared.stand.Stand.{Stand}

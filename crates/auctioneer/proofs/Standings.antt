@@ -1,10 +1,9 @@
 -- The cells before the first job.
-use Rattle.std.proofs.Common.{◌≡◌, ◌≢◌, ℕ, ◌+◌, ◌<◌, ◌≤◌, ◌^◌, Bool, true, false, cond, not, List, [], ◌∷◌, length, map, filter, refl, sym, ap, subst, ◌∙◌, arith}
+use Rattle.std.proofs.Common.{◌≡◌, ◌≢◌, ◌<◌, ◌≤◌, ◌^◌, Bool, true, false, cond, not, List, [], ◌∷◌, length, map, filter, refl, ap, subst, arith}
 use Rattle.std.specs.List.{All, AllPairs}
 use Rattle.std.specs.List.Sorted.{IsPermutation, IsSortedByKey}
 use Rattle.std.proofs.lemmas.List.{length-map}
 use Rattle.std.proofs.lemmas.List.Sorted.{All-permutation, length_permutation}
-use Rattle.row_tables.specs.Table.{table}
 use Rattle.row_tables.proofs.Tables.{table-from_sorted, IsRising-table}
 use Rattle.diego_names.specs.Order.{name_order}
 use Rattle.diego_names.proofs.Ties.{IsKeyOrder-name_order}
@@ -13,7 +12,6 @@ use Rattle.cell_records.specs.declared.container.Container.{Container}
 use Rattle.auctioneer.specs.Asked.{IsSoundAnswer, AreCells, IsSound, AreStands}
 use Rattle.auctioneer.specs.Stands.{is_completed, jobs_of, stand_of, stands_of}
 use Rattle.auctioneer.specs.declared.stand.Stand.{Stand}
-use Rattle.auctioneer.proofs.TurnOrder.{unlike_by}
 
 -- a filter adds nothing
 shorter : {X : Type 0} (p : X → Bool) (xs : List X) → length (filter p xs) ≤ length xs

@@ -3,7 +3,7 @@ use Rattle.std.proofs.Common.{◌≡◌, ◌≢◌, ℕ, ◌<◌, cond, eqb, Lis
 use Rattle.std.specs.Cmp.{nat_cmp_total, on_total, then_total, back_total}
 use Rattle.std.specs.FinMap.{nat_cmp-IsAntisymmetric}
 use Rattle.std.specs.List.{AllPairs}
-use Rattle.std.specs.Ordering.{nat_cmp, flip_args, ordering_then}
+use Rattle.std.specs.Ordering.{nat_cmp, ordering_then}
 use Rattle.std.specs.declared.cmp.Ordering.{Ordering}
 use Rattle.std.specs.declared.cmp.Ordering.TheVariants.{Less, Equal, Greater}
 use Rattle.std.proofs.lemmas.List.{length-map, get_or-map}
@@ -14,7 +14,6 @@ use Rattle.cell_records.specs.declared.job.Job.{Job}
 use Rattle.cell_records.specs.declared.job_name.JobName.{JobName}
 use Rattle.cell_records.specs.declared.job_name.JobName.TheVariants.{Lrp, Task}
 use Rattle.auctioneer.specs.Order.{class_of, name_of, index_of, turn_of, turn_order}
-use Rattle.auctioneer.specs.declared.turns.Turn.{Turn}
 
 -- where one order and then another tie, both do
 both_tie : (a b : Ordering) → ordering_then a b ≡ Equal → (a ≡ Equal) × (b ≡ Equal)

@@ -1,5 +1,5 @@
 -- What an auction asks of its jobs and its cells.
-use Rattle.std.specs.Prelude.{◌≡◌, ◌≢◌, ℕ, ◌+◌, ◌^◌, ◌<◌, ◌≤◌, List, length, map}
+use Rattle.std.specs.Prelude.{◌≢◌, ◌+◌, ◌^◌, ◌<◌, ◌≤◌, List, length, map}
 use Rattle.std.specs.List.{All, AllPairs}
 use Rattle.diego_names.specs.Order.{name_order}
 use Rattle.row_tables.specs.Table.{IsRising}

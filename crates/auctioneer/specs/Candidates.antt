@@ -1,5 +1,5 @@
 -- A cell that fits, by its place, with its score.
-use Rattle.std.specs.Prelude.{◌≡◌, ℕ, ◌<◌, true, if◌then◌else◌, List, length, Option, Some, None, MatchOption, slice_index_or}
+use Rattle.std.specs.Prelude.{◌≡◌, ◌<◌, true, if◌then◌else◌, List, length, Option, Some, None, MatchOption, slice_index_or}
 use Rattle.cell_records.specs.declared.job.Job.{Job}
 use Rattle.auction_scoring.specs.Order.{is_better}
 use Rattle.auctioneer.specs.Least.{best_in}

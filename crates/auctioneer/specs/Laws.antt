@@ -1,5 +1,5 @@
 -- What holds of every auction, without a word on how the best cell is found.
-use Rattle.std.specs.Prelude.{◌≡◌, ℕ, ◌≤◌, true, false, List, [], ◌∷◌, map}
+use Rattle.std.specs.Prelude.{◌≡◌, ◌≤◌, true, false, List, [], ◌∷◌, map}
 use Rattle.std.specs.List.{Contains}
 use Rattle.cell_records.specs.declared.answer.Answer.{Answer}
 use Rattle.cell_records.specs.declared.job.Job.{Job}

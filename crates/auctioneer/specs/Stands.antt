@@ -1,5 +1,5 @@
 -- The cells as they stand in an auction.
-use Rattle.std.specs.Prelude.{ℕ, ◌+◌, ◌-◌, Bool, true, false, not, if◌then◌else◌, List, [], ◌∷◌, ◌++◌, map, filter, count_by, sum_by, nat_eq}
+use Rattle.std.specs.Prelude.{ℕ, ◌-◌, Bool, true, false, not, if◌then◌else◌, List, [], ◌∷◌, ◌++◌, map, filter, count_by, sum_by, nat_eq}
 use Rattle.std.specs.Cmp.Lexicographic.{pointwise}
 use Rattle.diego_names.specs.Order.{name_order}
 use Rattle.row_tables.specs.Table.{table}

@@ -1,6 +1,7 @@
 //! The auction: jobs in order, each to the best cell that fits it.
 #![tactic(auto)]
 
+mod asked;
 mod auction;
 mod counting;
 mod laws;
@@ -11,6 +12,7 @@ mod stand;
 mod standing;
 mod turns;
 
+pub use asked::{are_cells, are_jobs};
 pub use auction::run_auction;
 pub use laws::{
     each_job_has_one_placement, placements_name_answers, placements_spread_over_zones,

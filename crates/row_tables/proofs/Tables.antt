@@ -1,5 +1,5 @@
 -- The table of some rows: what is found in it, and that the rows in rising order are it.
-use Rattle.std.proofs.Common.{◌≡◌, ◌≢◌, ℕ, zero, suc, ◌+◌, ◌<◌, true, false, cond, T, Decides, Option, List, [], ◌∷◌, length, map, get_or, Some, None, refl, sym, ap, subst, ◌∙◌, arith}
+use Rattle.std.proofs.Common.{◌≡◌, ◌≢◌, ℕ, zero, suc, ◌<◌, true, false, cond, T, Decides, Option, List, [], ◌∷◌, length, map, get_or, Some, None, refl, sym, ap, subst, ◌∙◌, arith}
 use Rattle.std.specs.declared.cmp.Ordering.{Ordering}
 use Rattle.std.specs.declared.cmp.Ordering.TheVariants.{Less, Equal, Greater}
 use Rattle.std.specs.Cmp.{eq_by_cmp_equiv}
@@ -11,7 +11,7 @@ use Rattle.std.proofs.lemmas.List.{length-map, get_or-map}
 use Rattle.std.proofs.lemmas.List.Sorted.{IsPermutation-sym, IsPermutation-map, Contains-permutation, sorted_far, ranks_by}
 use Rattle.std.proofs.lemmas.Map.Keys.{IsDistinct-IsPermutation}
 use Rattle.std.proofs.lemmas.Map.Made.{AllPairs-from_IsDistinct, IsDistinct-from_AllPairs}
-use Rattle.row_tables.specs.Table.{IsKeyOrder, find_row, put_row, keyed, IsRising, table}
+use Rattle.row_tables.specs.Table.{IsKeyOrder, find_row, keyed, IsRising, table}
 use Rattle.row_tables.proofs.Keyed.{ties_itself, same_from_tie}
 use Rattle.row_tables.proofs.Rising.{IsRising-put_row}
 use Rattle.row_tables.proofs.Lookups.{find_row-put_row, key-find_row, same_rows}

@@ -4,6 +4,87 @@ use super::*;
 
 // The next of a row of numbers that look like chance.
 fn next(seed: &mut u64) -> u32 {
-    *seed = seed.wrapping_mul(6_364_136_223_846_793_005).wrapping_add(1);
+    *seed = seed
+        .wrapping_mul(6_364_136_223_846_793_005)
+        .wrapping_add(1_442_695_040_888_963_407);
     (*seed >> 33) as u32
+}
+
+fn pick(seed: &mut u64, names: &[&[u8]; 4]) -> Result<Name, Fail> {
+    Ok(Name::read(names[(next(seed) % 4) as usize])?)
+}
+
+fn tag(seed: &mut u64) -> Result<Option<Name>, Fail> {
+    if next(seed) % 4 == 0 {
+        Ok(Some(Name::read(b"gpu")?))
+    } else {
+        Ok(None)
+    }
+}
+
+const LETTERS: &[u8; 16] = b"abcdefghijklmnop";
+
+// Some jobs of three processes and some tasks.
+fn jobs(alloc: Global, seed: &mut u64) -> Result<Vec<Job>, Fail> {
+    let mut jobs = Vec::new(alloc);
+    for index in 0..16u32 {
+        let letter = LETTERS[(index % 16) as usize];
+        let job = match next(seed) % 4 {
+            0 => JobName::Task(Name::read(&[letter])?),
+            _ => JobName::Lrp(Key {
+                process: pick(seed, &[b"p", b"q", b"r", b"r"])?,
+                index,
+            }),
+        };
+        jobs.push(Job {
+            job,
+            memory: 1 + next(seed) % 3,
+            disk: 1,
+            tag: tag(seed)?,
+        })?;
+    }
+    Ok(jobs)
+}
+
+// A few cells, some of them full or of another size.
+fn cells(alloc: Global, seed: &mut u64) -> Result<Vec<Answer>, Fail> {
+    let mut cells = Vec::new(alloc);
+    for at in 0..6u32 {
+        let letter = LETTERS[(15 - at % 6) as usize];
+        let totals = Amounts {
+            memory: 4 + next(seed) % 6,
+            disk: 8,
+            containers: 1 + next(seed) % 4,
+        };
+        let mut made = cell(alloc, &[letter], b"z", totals)?;
+        made.zone = pick(seed, &[b"z1", b"z2", b"z3", b"z2"])?;
+        made.tag = tag(seed)?;
+        if next(seed) % 4 == 0 {
+            made.free.containers = 0;
+        }
+        let process = pick(seed, &[b"p", b"q", b"r", b"s"])?;
+        let job = JobName::Lrp(Key { process, index: 99 });
+        made.containers
+            .push(container(job, ContainerState::Running))?;
+        cells.push(made)?;
+    }
+    Ok(cells)
+}
+
+#[test]
+fn the_auction_agrees_with_the_scan(rt: HostRuntime) -> Result<(), Fail> {
+    let alloc = rt.alloc();
+    let mut seed = 7;
+    let mut placed = 0u64;
+    for _ in 0..200u32 {
+        let jobs = jobs(alloc, &mut seed)?;
+        let cells = cells(alloc, &mut seed)?;
+        for placement in auction_of(&rt, alloc, &jobs, &cells)?.items() {
+            if let Placement::On { .. } = placement {
+                placed = placed.wrapping_add(1);
+            }
+        }
+    }
+    assert!(rt; placed > 1000 && placed < 3000);
+    Ok(())
 }

@@ -1,4 +1,3 @@
-use Rattle.auctioneer.specs.Stands.{stands_of}
 use Rattle.auctioneer.proofs.AuctionLaws.{spreads}
 use Rattle.auctioneer.proofs.laws.placements_spread_over_zones.Goals as goal
 

@@ -1,7 +1,6 @@
-use Rattle.std.proofs.Common.{◌≡◌, List, Option, true, Some, set, get_or, sym, ap, subst, ◌∙◌}
+use Rattle.std.proofs.Common.{◌≡◌, Option, true, Some, set, get_or, sym, ap, subst, ◌∙◌}
 use Rattle.auctioneer.specs.Asked.{AreStands}
 use Rattle.auctioneer.specs.Auction.{stands_with}
-use Rattle.auctioneer.specs.Least.{best}
 use Rattle.auctioneer.specs.Stands.{can_take, with_job}
 use Rattle.auctioneer.specs.declared.stand.Stand.{Stand}
 use Rattle.std.proofs.lemmas.List.{get_or_read}

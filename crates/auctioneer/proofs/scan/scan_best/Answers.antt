@@ -3,7 +3,7 @@ use Rattle.auction_scoring.specs.Fits.{fits}
 use Rattle.auction_scoring.specs.Score.{score_of}
 use Rattle.auction_scoring.specs.declared.scores.Score.{Score}
 use Rattle.auctioneer.specs.Candidates.{better_candidate, IsCandidate}
-use Rattle.auctioneer.specs.Stands.{view_in, score_in, can_take}
+use Rattle.auctioneer.specs.Stands.{score_in, can_take}
 use Rattle.auctioneer.proofs.Bests.{IsCandidate-next}
 use Rattle.auctioneer.proofs.scan.scan_best.Goals as goal
 

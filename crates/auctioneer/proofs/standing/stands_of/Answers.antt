@@ -1,10 +1,9 @@
-use Rattle.std.proofs.Common.{◌≡◌, ◌≤◌, ◌++◌, ◌∷◌, [], List, length, map, take, get_or, sym, ap, subst, ◌∙◌, arith, rules, take_all}
+use Rattle.std.proofs.Common.{◌≡◌, ◌++◌, ◌∷◌, [], List, map, take, get_or, sym, ap, subst, ◌∙◌, rules, take_all}
 use Rattle.std.specs.List.{All}
-use Rattle.std.specs.List.Sorted.{IsPermutation, IsSortedByKey}
+use Rattle.std.specs.List.Sorted.{IsPermutation}
 use Rattle.std.proofs.lemmas.List.{map-append, take_more}
 use Rattle.std.proofs.lemmas.List.Elements.{All-push, All-get_or}
 use Rattle.std.proofs.lemmas.List.Sorted.{answers_always}
-use Rattle.diego_names.specs.Order.{name_order}
 use Rattle.auctioneer.specs.Asked.{IsSound, IsSoundAnswer}
 use Rattle.auctioneer.specs.Stands.{stand_of}
 use Rattle.auctioneer.specs.declared.stand.Stand.{Stand}
