@@ -20,9 +20,9 @@ same_or_not (a ∷ x) [] = inr (λ e. cc)
 same_or_not (a ∷ x) (b ∷ y) =
     elim (eqb_tells a b) [
       | inl one ↦ elim (same_or_not x y) [
-          | inl rest ↦ let first : a ≡ b = one.1 in inl (cc)
-          | inr other ↦ inr (λ e. other (cc (e)))
-        ]
+        | inl rest ↦ let first : a ≡ b = one.1 in inl (cc)
+        | inr other ↦ inr (λ e. other (cc (e)))
+      ]
       | inr two ↦ let other : a ≢ b = two.1 in inr (λ e. other (cc (e)))
     ]
 
@@ -45,15 +45,15 @@ module _ (behind : List ℕ) where
       elim (leb_tells 1 len) [
         | inr past ↦ let few = past.1 in inr (λ h. let low = h.low in omega (arith, few, low))
         | inl low ↦ elim (leb_tells len 512) [
-            | inr past ↦ let many = past.1 in inr (λ h. let high = h.high in omega (arith, many, high))
-            | inl high ↦ elim (leb_tells (2 + len) (length behind)) [
-                | inr past ↦ let short = past.1 in inr (λ h. let within = h.within in omega (arith, short, within))
-                | inl within ↦ elim (same_or_not (field_number w16 len) (take 2 behind)) [
-                    | inr other ↦ inr (λ h. other h.number)
-                    | inl number ↦ inl (record { low = low.1; high = high.1; within = within.1; number = number })
-                  ]
-              ]
+          | inr past ↦ let many = past.1 in inr (λ h. let high = h.high in omega (arith, many, high))
+          | inl high ↦ elim (leb_tells (2 + len) (length behind)) [
+            | inr past ↦ let short = past.1 in inr (λ h. let within = h.within in omega (arith, short, within))
+            | inl within ↦ elim (same_or_not (field_number w16 len) (take 2 behind)) [
+              | inr other ↦ inr (λ h. other h.number)
+              | inl number ↦ inl (record { low = low.1; high = high.1; within = within.1; number = number })
+            ]
           ]
+        ]
       ]
 
   -- and then they are a frame

@@ -1,6 +1,7 @@
 ghost use Rattle.std.specs.Prelude.{◌≡◌, false, IfOk};
 
 mod failing;
+mod generations;
 mod preparing;
 mod stops;
 

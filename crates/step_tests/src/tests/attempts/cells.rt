@@ -74,6 +74,8 @@ fn a_cell_renews_its_lease_by_its_own_epoch(rt: HostRuntime) -> Result<(), Fail>
     let unknown = refuse(BoardRefusal::UnknownCell);
     let stale = refuse(BoardRefusal::StaleEpoch { now: 9 });
     let longer = CellRow { until: 501, ..row };
+    // A cell that is being emptied stays so.
+    let leaving = put(Row::Cell(drained(&longer)));
     each_comes_to(
         &rt,
         &[
@@ -81,6 +83,8 @@ fn a_cell_renews_its_lease_by_its_own_epoch(rt: HostRuntime) -> Result<(), Fail>
             (with(&row), renew(&row, 3, 100), stale),
             (with(&row), renew(&row, 9, 100), Attempt::Keep),
             (with(&row), renew(&row, 9, 101), put(Row::Cell(longer))),
+            (with(&drained(&row)), renew(&row, 9, 101), leaving),
+            (with(&drained(&row)), renew(&row, 9, 100), Attempt::Keep),
         ],
     );
     Ok(())
