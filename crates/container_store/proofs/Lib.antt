@@ -1,0 +1,5 @@
+pub mod Rising
+pub mod Alone
+pub mod Keeps
+pub mod Stands
+pub mod Turns

@@ -1,0 +1,5 @@
+pub mod Store
+pub mod Changes
+pub mod Jobs
+pub mod Places
+pub mod Inside
