@@ -17,11 +17,15 @@ use Rattle.container_store.specs.declared.refusal.StoreRefusal.TheVariants.{NoMe
 abbrev pub next_of : StoreView → Instance
 next_of s = record { epoch = s.epoch; number = s.last + 1 }
 
--- the store with a new container behind the others
+-- that container, with this in MB
+abbrev pub next_container : StoreView → JobName → ℕ → ℕ → Container
+next_container s job memory disk =
+    record { instance = next_of s; job = job; memory = memory; disk = disk; state = Reserved }
+
+-- the store with it behind the others
 abbrev pub reserved : StoreView → JobName → ℕ → ℕ → StoreView
 reserved s job memory disk =
-    let new : Container = record { instance = next_of s; job = job; memory = memory; disk = disk; state = Reserved } in
-    record s { containers = s.containers ++ new ∷ []; last = s.last + 1 }
+    record s { containers = s.containers ++ next_container s job memory disk ∷ []; last = s.last + 1 }
 
 -- a reservation, or what there is too little of, looked for in this order
 abbrev pub reserving : StoreView → JobName → ℕ → ℕ → Result StoreView StoreRefusal

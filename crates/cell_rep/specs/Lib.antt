@@ -1,0 +1,9 @@
+pub mod Wires
+pub mod NewWire
+pub mod Reps
+pub mod Claims
+pub mod Acts
+pub mod Ends
+pub mod Kinds
+pub mod Deliveries
+pub mod Follows
