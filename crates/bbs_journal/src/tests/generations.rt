@@ -8,6 +8,13 @@ fn area(alloc: Global, generation: u8, len: u8) -> Result<Vec<u8>, Fail> {
     Ok(bytes)
 }
 
+// One of the second generation, cut to so many bytes.
+fn cut_to(alloc: Global, len: usize) -> Result<Vec<u8>, Fail> {
+    let mut bytes = area(alloc, 2, 24)?;
+    bytes.truncate(len);
+    Ok(bytes)
+}
+
 #[test]
 fn a_generation_that_is_too_high_is_told_in_front_of_the_head(rt: HostRuntime) -> Result<(), Fail> {
     let alloc = rt.alloc();
@@ -26,12 +33,13 @@ fn a_generation_that_is_too_high_is_told_in_front_of_the_head(rt: HostRuntime) -
         );
     }
     // The bytes that it is compared with have to be there, and no more.
-    let whole = area(alloc, 2, 24)?;
+    let enough = cut_to(alloc, 31)?;
+    let fewer = cut_to(alloc, 30)?;
     let short = LoadFault::Damaged {
         area: Area::A,
         at: 30,
     };
-    assert_eq!(rt; opened(alloc, &whole[..31], &[])?, Err(high));
-    assert_eq!(rt; opened(alloc, &whole[..30], &[])?, Err(short));
+    assert_eq!(rt; opened(alloc, &enough, &[])?, Err(high));
+    assert_eq!(rt; opened(alloc, &fewer, &[])?, Err(short));
     Ok(())
 }
