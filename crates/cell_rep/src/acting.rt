@@ -22,7 +22,22 @@ fn answer_to(todo: &Todo, end: CallEnd) -> Called
     Called { command, end }
 }
 
-// An answer comes behind the others, for which there is room.
+/// An answer comes behind the others, for which there is room.
+pub fn add_answer(out: &mut Vec<Called>, answer: &Called)
+    requires { vec_len out.old < vec_capacity out.old }
+    ensures { out.new.items ≡ out.old.items ++ answer.now ∷ [] }
+{
+    let command = match answer.command {
+        None => None,
+        Some(command) => Some(command),
+    };
+    out.push_reserved(Called {
+        command,
+        end: answer.end,
+    });
+}
+
+// The answer to what was to be done comes behind the others.
 fn add(out: &mut Vec<Called>, todo: &Todo, end: CallEnd)
     requires { vec_len out.old < vec_capacity out.old }
     ensures items { out.new.items ≡ out.old.items ++ answer_to todo.now end ∷ [] }

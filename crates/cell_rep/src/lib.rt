@@ -18,6 +18,7 @@ mod rep;
 mod todo;
 mod wire;
 
+pub use acting::add_answer;
 pub use call_end::{CallEnd, Called, RepRefusal};
 pub use calling::called;
 pub use cell_act::CellAct;
