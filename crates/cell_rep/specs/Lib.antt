@@ -7,3 +7,4 @@ pub mod Ends
 pub mod Kinds
 pub mod Deliveries
 pub mod Follows
+pub mod Laws

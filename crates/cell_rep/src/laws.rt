@@ -1,0 +1,21 @@
+//! What stays of a cell, whatever comes. A law does nothing: it is there for what it ensures.
+ghost use Rattle.cell_rep.specs.Laws.{HasStore, KeepCells};
+
+use crate::rep::CellRep;
+
+/// A stop and the start of a job leave all of a cell but its containers, also where a call is lost.
+pub fn stops_and_starts_keep_the_cell()
+    ensures { KeepCells }
+{}
+
+impl CellRep {
+    /// The store of a cell that has joined is one: so the numbers of its containers differ, and
+    /// what is free is within the totals.
+    pub fn holds(&self)
+        ensures { HasStore self.now.joined }
+    {
+        if let Some(joined) = &self.joined {
+            joined.store.holds();
+        }
+    }
+}
