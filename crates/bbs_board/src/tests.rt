@@ -1,5 +1,5 @@
-//! What no clause says: that boards over a disk in memory and over files are loaded, stored to and found
-//! again, and with which answers.
+//! What no clause says: that boards over a disk in memory are loaded, stored to and found again, and with
+//! which answers. The program's own stored run does it over files.
 mod bytes;
 mod calls;
 mod defects;
@@ -12,7 +12,7 @@ use bbs_model::{BoardRefusal, CallFault, Command, Item, Op, Reply, Rows};
 use bytes::{EMPTY, STORED};
 use crash_backoff::Moment;
 use diego_names::Name;
-use disk_trait::{Area, Disk, FileDisk, MemoryDisk};
+use disk_trait::{Area, Disk, MemoryDisk};
 use lrp_records::Desired;
 use std::alloc::Global;
 use std::process::Abort;
@@ -156,26 +156,4 @@ fn the_next_load_finds_what_was_stored(rt: HostRuntime) -> Result<(), Fail> {
     let disk = begin(&rt, alloc, disk_of(alloc, b"", b"", &[])?)?;
     assert_eq!(rt; disk.bytes(Area::A), STORED.as_slice());
     find(&rt, alloc, disk)
-}
-
-#[test]
-fn a_board_over_two_files_is_found_there(rt: HostRuntime) -> Result<(), Fail> {
-    let alloc = rt.alloc();
-    let folder = std::env::temp_dir(&rt)?;
-    let id = std::process::id(rt.process());
-    let a = format!(in alloc; "{}/bbs_board_{id}_a", folder.as_str())?;
-    let b = format!(in alloc; "{}/bbs_board_{id}_b", folder.as_str())?;
-    let _disk = begin(
-        &rt,
-        alloc,
-        FileDisk::new(rt.clone()?, a.clone()?, b.clone()?),
-    )?;
-    find(
-        &rt,
-        alloc,
-        FileDisk::new(rt.clone()?, a.clone()?, b.clone()?),
-    )?;
-    std::fs::remove_file(&rt, a.as_str())?;
-    std::fs::remove_file(&rt, b.as_str())?;
-    Ok(())
 }

@@ -7,9 +7,6 @@ use diego_names::Name;
 use disk_trait::{Area, Disk};
 use std::test::Fail;
 
-// The load of a board with one frame reads that too.
-const BEGUN: u64 = CALLS + 1;
-
 fn update(instances: u32) -> Result<Command, Fail> {
     Ok(Command {
         now: Moment(5),
@@ -39,7 +36,7 @@ fn a_refusal_and_a_same_touch_no_device(rt: HostRuntime) -> Result<(), Fail> {
     let (disk, log, marks) = play(&rt, alloc, disk, &[exists, same])?;
     assert!(rt; log.is_empty());
     assert!(rt; marks.is_empty());
-    assert_eq!(rt; disk.clock(), BEGUN);
+    assert_eq!(rt; disk.clock(), CALLS);
     assert_eq!(rt; disk.bytes(Area::A), STORED.as_slice());
     Ok(())
 }
@@ -65,7 +62,7 @@ fn a_transition_is_answered_with_its_place_and_stamp(rt: HostRuntime) -> Result<
     let (_disk, log, marks) = play(&rt, alloc, disk, &[fewer, two, again])?;
     let items = [Item::Done(3, fewer.command), Item::Done(4, two.command)];
     assert_eq!(rt; log.as_slice(), items.as_slice());
-    assert_eq!(rt; marks.as_slice(), [BEGUN + 4, BEGUN + 8].as_slice());
+    assert_eq!(rt; marks.as_slice(), [CALLS + 4, CALLS + 8].as_slice());
     Ok(())
 }
 

@@ -36,7 +36,7 @@ fn the_same_run_once_more_is_refused_and_writes_nothing(rt: HostRuntime) -> Resu
     ends(&rt, &left, 0, REFUSED);
     assert_eq!(rt; left.disk.bytes(Area::A), STORED.as_slice());
     assert!(rt; left.disk.bytes(Area::B).is_empty());
-    assert_eq!(rt; left.disk.clock(), 8);
+    assert_eq!(rt; left.disk.clock(), 7);
     assert!(rt; left.log.is_empty());
     assert!(rt; left.marks.is_empty());
     let why = BoardRefusal::Exists;
