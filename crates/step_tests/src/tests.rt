@@ -1,4 +1,3 @@
 mod alike;
 mod attempts;
 mod plain;
-mod stepping;
