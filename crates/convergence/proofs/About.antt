@@ -1,0 +1,85 @@
+-- What is asked of a subject is about it.
+use Rattle.std.proofs.Common.{◌≡◌, Bool, true, false, cond, not, nat_le, Option, Some, None, refl, subst}
+use Rattle.cell_records.specs.declared.cell_row.CellRow.{CellRow}
+use Rattle.crash_backoff.specs.declared.moment.Moment.{Moment}
+use Rattle.diego_names.specs.declared.key.Key.{Key}
+use Rattle.lrp_records.specs.States.{holder_of}
+use Rattle.lrp_records.specs.declared.actual.Actual.{Actual}
+use Rattle.lrp_records.specs.declared.presence.Presence.{Presence}
+use Rattle.lrp_records.specs.declared.presence.Presence.TheVariants.{Ordinary, Evacuating}
+use Rattle.lrp_records.specs.declared.state.LrpState.{LrpState}
+use Rattle.lrp_records.specs.declared.state.LrpState.TheVariants as lrp
+use Rattle.task_records.specs.declared.state.TaskState.{TaskState}
+use Rattle.task_records.specs.declared.state.TaskState.TheVariants as task
+use Rattle.task_records.specs.declared.task.Task.{Task}
+use Rattle.bbs_model.specs.Tables.{find_actual}
+use Rattle.bbs_model.specs.Work as told
+use Rattle.bbs_model.specs.declared.command.Op.{Op}
+use Rattle.bbs_model.specs.declared.command.Op.TheVariants as op
+use Rattle.bbs_model.specs.declared.rows.Rows.{Rows}
+use Rattle.convergence.specs.Subjects.{Subject, OfCell, OfPlace, OfTask, subject_of}
+
+-- the command, if there is one, is about the subject
+abbrev pub IsAbout : Subject → Option Op → Type 0
+IsAbout s None = Unit {0}
+IsAbout s (Some o) = subject_of o ≡ s
+
+pub about_is : (s : Subject) (asked : Option Op) (o : Op) → IsAbout s asked → asked ≡ Some o → subject_of o ≡ s
+about_is s asked o h e = subst (IsAbout s) e h
+
+about_if : (s : Subject) (b : Bool) (x y : Option Op) → IsAbout s x → IsAbout s y → IsAbout s (cond b x y)
+about_if s true x y f g = f
+about_if s false x y f g = g
+
+pub about_cell : (c : CellRow) (now : Moment) → IsAbout (OfCell c.cell) (told.cell_work c now)
+about_cell c now = about_if (OfCell c.cell) (nat_le c.until now.0) (Some (op.Vanish c.cell)) None refl tt
+
+about_unclaim : (key : Key) (state : LrpState) → IsAbout (OfPlace (key, Ordinary)) (told.unclaim key state)
+about_unclaim key lrp.Unclaimed = tt
+about_unclaim key (lrp.Claimed instance cell) = refl
+about_unclaim key (lrp.Running instance cell) = refl
+about_unclaim key lrp.Crashed = tt
+
+about_drop : (key : Key) (state : LrpState) → IsAbout (OfPlace (key, Evacuating)) (told.drop_row_of key state)
+about_drop key lrp.Unclaimed = tt
+about_drop key (lrp.Claimed instance cell) = refl
+about_drop key (lrp.Running instance cell) = refl
+about_drop key lrp.Crashed = tt
+
+about_restart : (key : Key) (a : Actual) (now : Moment) (state : LrpState) → IsAbout (OfPlace (key, Ordinary)) (told.restart_if_due key a now state)
+about_restart key a now lrp.Unclaimed = tt
+about_restart key a now (lrp.Claimed instance cell) = tt
+about_restart key a now (lrp.Running instance cell) = tt
+about_restart key a now lrp.Crashed = about_if (OfPlace (key, Ordinary)) (told.is_due a now) (Some (op.Restart key)) None refl tt
+
+about_ordinary : (rows : Rows) (now : Moment) (key : Key) (row : Option Actual) → IsAbout (OfPlace (key, Ordinary)) (told.ordinary_work rows now key row)
+about_ordinary rows now key None = about_if (OfPlace (key, Ordinary)) (told.wants rows key) (Some (op.Make key)) None refl tt
+about_ordinary rows now key (Some a) =
+    let s = OfPlace (key, Ordinary) in
+    let lost = told.is_lost rows now a.state in
+    let given = told.unclaim key a.state in
+    let again = told.restart_if_due key a now a.state in
+    about_if s (not (told.wants rows key)) (Some (op.Remove key (holder_of a.state))) (cond lost given again) refl
+    (about_if s lost given again (about_unclaim key a.state) (about_restart key a now a.state))
+
+about_evacuating : (rows : Rows) (now : Moment) (key : Key) (row : Option Actual) → IsAbout (OfPlace (key, Evacuating)) (told.evacuating_work rows now key row)
+about_evacuating rows now key None = tt
+about_evacuating rows now key (Some a) =
+    about_if (OfPlace (key, Evacuating)) (told.is_spent rows now key a) (told.drop_row_of key a.state) None (about_drop key a.state) tt
+
+pub about_place : (rows : Rows) (now : Moment) (place : Key × Presence) → IsAbout (OfPlace place) (told.place_work rows now place)
+about_place rows now (key, Ordinary) = about_ordinary rows now key (find_actual rows key Ordinary)
+about_place rows now (key, Evacuating) = about_evacuating rows now key (find_actual rows key Evacuating)
+
+about_state : (rows : Rows) (now : Moment) (t : Task) (state : TaskState) → IsAbout (OfTask t.name) (told.asked_of_task rows now t state)
+about_state rows now t task.Pending =
+    about_if (OfTask t.name) (told.has_passed 1800 t.since now) (Some (op.CancelTask t.name)) None refl tt
+about_state rows now t (task.Running instance cell) =
+    about_if (OfTask t.name) (not (told.is_there rows now cell instance.epoch)) (Some (op.CancelTask t.name)) None refl tt
+about_state rows now t (task.Completed failed) =
+    about_if (OfTask t.name) (told.has_passed 120 t.since now) (Some (op.ExpireTask t.name)) None refl tt
+about_state rows now t (task.Resolving failed) =
+    about_if (OfTask t.name) (told.has_passed 30 t.since now) (Some (op.KickTask t.name)) None refl tt
+
+pub about_task : (rows : Rows) (now : Moment) (t : Task) → IsAbout (OfTask t.name) (told.task_work rows now t)
+about_task rows now t = about_state rows now t t.state

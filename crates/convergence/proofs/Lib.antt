@@ -1,0 +1,7 @@
+pub mod Lists
+pub mod Searches
+pub mod Members
+pub mod Orders
+pub mod Gathers
+pub mod About
+pub mod WorkLaws
