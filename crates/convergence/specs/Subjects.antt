@@ -89,6 +89,11 @@ work_on rows now (OfProcess process) = None
 abbrev pub RiseBySubject : List Command → Type 0
 RiseBySubject list = IsRising subject_order subject_in list
 
+-- two lists of commands whose subjects rise are one where each command of one is in the other
+abbrev pub SameWork : Type 0
+SameWork = (xs ys : List Command) → RiseBySubject xs → RiseBySubject ys →
+    ((c : Command) → Contains xs c → Contains ys c) → ((c : Command) → Contains ys c → Contains xs c) → xs ≡ ys
+
 -- the subjects of what convergence asks rise
 abbrev pub WorkRises : Type 0
 WorkRises = (rows : Rows) (now : Moment) → IsValid rows → RiseBySubject (work rows now)

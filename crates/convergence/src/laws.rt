@@ -1,5 +1,11 @@
 //! The laws of what convergence asks. These functions do nothing: they are there for what they ensure.
-ghost use Rattle.convergence.specs.Subjects.{WorkIsBySubject, WorkRises};
+ghost use Rattle.row_tables.specs.Table.{IsKeyOrder};
+ghost use Rattle.convergence.specs.Subjects.{subject_order, SameWork, WorkIsBySubject, WorkRises};
+
+/// Subjects stand in a total order, and only equal ones tie.
+pub fn subjects_are_ordered()
+    ensures { IsKeyOrder subject_order }
+{}
 
 /// Each cell, place and task is asked for what its own rows say, and for at most one command.
 pub fn work_is_by_subject()
@@ -9,4 +15,9 @@ pub fn work_is_by_subject()
 /// What is asked stands in the order of its subjects, which differ.
 pub fn work_rises()
     ensures { WorkRises }
+{}
+
+/// Work that is gathered in any way and then sorted by subject is one list.
+pub fn same_work()
+    ensures { SameWork }
 {}

@@ -7,7 +7,7 @@ mod placing;
 mod sorted;
 mod working;
 
-pub use laws::{work_is_by_subject, work_rises};
+pub use laws::{same_work, subjects_are_ordered, work_is_by_subject, work_rises};
 pub use sorted::find_sorted;
 pub use working::work_of;
 
