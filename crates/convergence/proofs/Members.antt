@@ -1,5 +1,5 @@
 -- Tables of the same rows.
-use Rattle.std.proofs.Common.{◌≡◌, ℕ, zero, suc, true, false, cond, Option, List, [], ◌∷◌, Some, None, refl, sym, ap, subst, ◌∙◌, arith}
+use Rattle.std.proofs.Common.{◌≡◌, zero, suc, true, false, cond, Option, List, [], ◌∷◌, Some, None, refl, sym, ap, subst, ◌∙◌, arith}
 use Rattle.std.specs.declared.cmp.Ordering.{Ordering}
 use Rattle.std.specs.List.{Contains}
 use Rattle.std.specs.Ordering.{eq_by_cmp}

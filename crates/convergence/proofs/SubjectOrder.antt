@@ -1,10 +1,8 @@
 -- Subjects stand in an order that tells them apart.
 use Rattle.std.proofs.Common.{◌≡◌, ap}
-use Rattle.std.specs.Cmp.{IsTotalOrder}
 use Rattle.std.specs.FinMap.{IsAntisymmetric}
 use Rattle.std.specs.Ordering.{ordering_reverse}
-use Rattle.std.specs.declared.cmp.Ordering.{Ordering}
-use Rattle.std.specs.declared.cmp.Ordering.TheVariants.{Less, Equal, Greater}
+use Rattle.std.specs.declared.cmp.Ordering.TheVariants.{Less, Equal}
 use Rattle.diego_names.proofs.Ties.{IsKeyOrder-name_order}
 use Rattle.lrp_records.proofs.Ties.{IsKeyOrder-place_order}
 use Rattle.row_tables.specs.Table.{IsKeyOrder}
