@@ -4,6 +4,3 @@
 mod subscription;
 
 pub use subscription::Subscription;
-
-#[cfg(test)]
-mod tests;
