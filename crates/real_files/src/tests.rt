@@ -111,6 +111,21 @@ fn a_link_to_nothing_makes_its_file(rt: HostRuntime) -> Result<(), Fail> {
 }
 
 #[test]
+fn a_folder_that_was_removed_fails_a_sync(rt: HostRuntime) -> Result<(), Fail> {
+    let alloc = rt.alloc();
+    let folder = folder(&rt, "gone")?;
+    std::fs::create_dir(&rt, folder.as_str())?;
+    let a = format!(in alloc; "{}/a", folder.as_str())?;
+    let b = format!(in alloc; "{}/b", folder.as_str())?;
+    let mut disk = disk(&rt, a.as_str(), b.as_str())?;
+    assert!(rt; disk.write_at(Area::A, 0, b"x").is_ok());
+    std::fs::remove_dir_all(&rt, folder.as_str())?;
+    assert_eq!(rt; disk.sync(Area::A), Err(Failed));
+    assert_eq!(rt; disk.faults(), 1);
+    Ok(())
+}
+
+#[test]
 fn a_full_device_refuses_a_write(rt: HostRuntime) -> Result<(), Fail> {
     let full = OpenOptions::new().write(true).open(&rt, "/dev/full")?;
     assert!(rt; write_to(&full, 0, b"x").is_err());
