@@ -7,11 +7,11 @@ use Rattle.std.proofs.lemmas.Bool.Decides.{nat_tests}
 use Rattle.std.proofs.lemmas.List.{take-take, drop-take, drop-drop, length-take, take-append-le}
 use Rattle.std.proofs.lemmas.List.Sums.{sum_by-cons}
 use Rattle.wire_fields.specs.Field.{field_number}
-use Rattle.wire_fields.proofs.Lengths.{length-field_number}
+use Rattle.wire_fields.proofs.Public.{length-field_number}
 use Rattle.disk_trait.specs.Past.{Image, other}
 use Rattle.disk_trait.specs.declared.area.Area.{Area}
 use Rattle.disk_trait.specs.declared.area.Area.TheVariants.{A, B}
-use Rattle.bbs_journal.specs.Frames.{spelled, Whole}
+use Rattle.bbs_journal.specs.Frames.{frame_spelled, Whole}
 use Rattle.bbs_journal.specs.Header.{mark, front, header_of, behind_gate}
 use Rattle.bbs_journal.specs.Other.{Yields}
 use Rattle.bbs_journal.specs.Opening.{active_of, newer, size_of, size_in, is_ahead, AreFrames}
@@ -45,7 +45,7 @@ whole_frames (payload ∷ payloads) frames rest end at is (behind, frame, whole)
     gate = frame.gate;
     is_open = frame.is_open;
     fits = frame.fits;
-    parts = ap (λ (l : List ℕ). l ++ 0 ∷ rest) frame.parts ∙ ap (λ (l : List ℕ). frame.gate ∷ l) (append_assoc (spelled payload) behind (0 ∷ rest));
+    parts = ap (λ (l : List ℕ). l ++ 0 ∷ rest) frame.parts ∙ ap (λ (l : List ℕ). frame.gate ∷ l) (append_assoc (frame_spelled payload) behind (0 ∷ rest));
   },
   whole_frames payloads behind rest end (at + 3 + length payload) (omega (arith, is, bytes_cons payload payloads)) whole,
 )

@@ -3,7 +3,7 @@ use Rattle.std.proofs.Common.{◌≡◌, ℕ, suc, ◌+◌, ◌<◌, ◌≤◌, 
 use Rattle.std.proofs.lemmas.List.{take-take}
 use Rattle.disk_trait.specs.Held.{Range}
 use Rattle.disk_trait.specs.Steps.{overwritten}
-use Rattle.disk_trait.proofs.Steps.{Bears}
+use Rattle.disk_trait.proofs.Public.{Bears}
 use Rattle.bbs_journal.specs.Areas.{Begins, Staged}
 
 begins_front : (front bytes : List ℕ) → take (length front) bytes ≡ front → Begins front bytes

@@ -6,7 +6,7 @@ use Rattle.disk_trait.specs.declared.area.Area.TheVariants.{A, B}
 use Rattle.bbs_journal.specs.Header.{front, header_of, gate_of}
 use Rattle.bbs_journal.specs.Opening.{active_of, size_of, AreFrames}
 use Rattle.bbs_journal.specs.Reading.{payloads_of}
-use Rattle.bbs_journal.specs.Found.{IsChosen, IsSized, IsFound}
+use Rattle.bbs_journal.specs.Found.{IsChosen, IsSized, IsFoundIn}
 use Rattle.bbs_journal.specs.declared.active.Active.{Active}
 use Rattle.bbs_journal.specs.declared.find.Chosen.{Chosen}
 use Rattle.bbs_journal.specs.declared.find.Found.{Found}
@@ -32,7 +32,7 @@ size_is c chosen bytes len r is bytes_are len_is r_is =
     sym (r_is ∙ ap (λ (l : List ℕ). size_of chosen.active l len) (bytes_are ∙ is.front_is) ∙ ap (λ (n : ℕ). size_of chosen.active (front (c chosen.active.area)) n) len_is)
 
 pub found_is : (c : Image) (chosen : Chosen) (found : Found) (len size : ℕ) → IsChosen c chosen → IsSized c chosen.active len size → found.place.area ≡ chosen.active.area → found.place.generation ≡ chosen.active.generation → found.place.gate ≡ chosen.gate
-    → found.head.items ≡ take size (drop 23 (c chosen.active.area)) → length found.head.items ≡ size → AreFrames (payloads_of found.payloads.items) found.broken found.place.end (23 + size) (drop (23 + size) (c chosen.active.area)) → IsFound c found
+    → found.head.items ≡ take size (drop 23 (c chosen.active.area)) → length found.head.items ≡ size → AreFrames (payloads_of found.payloads.items) found.broken found.place.end (23 + size) (drop (23 + size) (c chosen.active.area)) → IsFoundIn c found
 found_is c chosen found len size is sized area_is generation_is gate_is head_is head_len frames = record {
   opening = record {
     head_is = headed_ok c chosen.active size is.active sized.size_is ∙ cc (area_is, generation_is, head_is);

@@ -5,8 +5,8 @@ use Rattle.std.proofs.lemmas.List.{take_all, length-take-le, get_or_past, get_or
 use Rattle.std.proofs.lemmas.Bool.Decides.{leb_tells, nat_tests}
 use Rattle.std.proofs.lemmas.Nat.{from_be_bytes-to_be_bytes_2, be_bytes_2}
 use Rattle.wire_fields.specs.Field.{field_number}
-use Rattle.wire_fields.proofs.Lengths.{length-field_number}
-use Rattle.bbs_journal.specs.Frames.{IsPayload, spelled, IsFrame}
+use Rattle.wire_fields.proofs.Public.{length-field_number}
+use Rattle.bbs_journal.specs.Frames.{IsPayload, frame_spelled, IsFrame}
 use Rattle.bbs_journal.specs.Opening.{IsBroken}
 use Rattle.bbs_journal.specs.Reading.{len_in}
 
@@ -22,15 +22,15 @@ unfolding len_in
 none_len bytes is two some few = grind (arith, nat_tests)
 
 -- a spelled payload begins with its length
-pub spelled_number : (payload rest : List ℕ) → IsPayload payload → from_be_bytes w16 (take 2 (spelled payload ++ rest)) ≡ length payload
+pub spelled_number : (payload rest : List ℕ) → IsPayload payload → from_be_bytes w16 (take 2 (frame_spelled payload ++ rest)) ≡ length payload
 unfolding field_number
 spelled_number payload rest fits =
     let n = field_number w16 (length payload) in
-    let front : take 2 (spelled payload ++ rest) ≡ n = ap (take 2) (append_assoc n payload rest) ∙ take_at n (payload ++ rest) 2 (length-field_number w16 (length payload)) in
+    let front : take 2 (frame_spelled payload ++ rest) ≡ n = ap (take 2) (append_assoc n payload rest) ∙ take_at n (payload ++ rest) 2 (length-field_number w16 (length payload)) in
     ap (from_be_bytes w16) front ∙ from_be_bytes-to_be_bytes_2 (length payload) (omega (arith, fits.1))
 
-pub length-spelled_on : (payload rest : List ℕ) → length (spelled payload ++ rest) ≡ 2 + length payload + length rest
-length-spelled_on payload rest = omega (arith, length-append (spelled payload) rest, length-append (field_number w16 (length payload)) payload, length-field_number w16 (length payload))
+pub length-spelled_on : (payload rest : List ℕ) → length (frame_spelled payload ++ rest) ≡ 2 + length payload + length rest
+length-spelled_on payload rest = omega (arith, length-append (frame_spelled payload) rest, length-append (field_number w16 (length payload)) payload, length-field_number w16 (length payload))
 
 behind_is : (gate other : ℕ) (a b : List ℕ) → gate ∷ a ≡ other ∷ b → (gate ≡ other) × (a ≡ b)
 behind_is gate other a b e = (cc, cc)
@@ -40,7 +40,7 @@ pub broken_at : (gate : ℕ) (behind : List ℕ) → 0 < gate → len_in behind 
 broken_at gate behind is_open none = record {
   no_gate = λ b. let same = behind_is gate 0 behind b.rest b.parts in omega (arith, same.0, is_open);
   no_frame = λ payload rest frame.
-      let same = behind_is gate frame.gate behind (spelled payload ++ rest) frame.parts in
+      let same = behind_is gate frame.gate behind (frame_spelled payload ++ rest) frame.parts in
       let number : from_be_bytes w16 (take 2 behind) ≡ length payload = ap (λ (l : List ℕ). from_be_bytes w16 (take 2 l)) same.1 ∙ spelled_number payload rest frame.fits in
       let long : length behind ≡ 2 + length payload + length rest = ap length same.1 ∙ length-spelled_on payload rest in
       let fits = frame.fits in

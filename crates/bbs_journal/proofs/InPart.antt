@@ -3,14 +3,12 @@ use Rattle.std.proofs.Common.{◌≡◌, ◌⊎◌, inl, inr, ℕ, ◌≤◌, Bo
 use Rattle.std.specs.Option.{ForSome}
 use Rattle.disk_trait.specs.Held.{Held, Has}
 use Rattle.disk_trait.specs.Past.{Past, now, content}
-use Rattle.disk_trait.specs.Steps.{Goes, Looks, Changes, Wrote, Synced, range_of}
-use Rattle.disk_trait.proofs.Ranges.{length_overwritten}
-use Rattle.disk_trait.proofs.Steps.{Bears, wrote_has, sync_has, looks_has, runs_then, runs_change, runs_look, synced_content}
-use Rattle.disk_trait.proofs.Told.{goes_then, goes_weaker}
+use Rattle.disk_trait.specs.Steps.{Goes, ChangesNothing, Changes, Wrote, Synced, range_of}
+use Rattle.disk_trait.proofs.Public.{length_overwritten, Bears, wrote_has, sync_has, looks_has, runs_then, runs_change, runs_look, synced_content, goes_then, goes_weaker}
 use Rattle.disk_trait.specs.declared.area.Area.{Area}
 use Rattle.disk_trait.specs.declared.area.Area.TheVariants.{A, B}
 use Rattle.bbs_journal.specs.Preparing.{IsShort, PreparesInPart}
-use Rattle.bbs_journal.specs.Shows.{Peeks}
+use Rattle.disk_trait.specs.Shows.{Peeks}
 use Rattle.bbs_journal.proofs.Peeking.{each_area}
 
 -- what a stop could leave before is short
@@ -44,7 +42,7 @@ part_has p q part = record {
 }
 
 -- nothing but looks so far
-part_looks : (p q r : Past) → content p A ≡ [] → content p B ≡ [] → Looks p q → Looks q r → PreparesInPart p r
+part_looks : (p q r : Past) → content p A ≡ [] → content p B ≡ [] → ChangesNothing p q → ChangesNothing q r → PreparesInPart p r
 part_looks p q r a b first second =
     let has = short_before p in
     record {
@@ -64,7 +62,7 @@ part_change p q r Step part changes has short = record {
   b = ap (λ (h : Held). h.reads) changes.there ∙ part.b;
 }
 
-part_look : (p q r : Past) → PreparesInPart p q → Looks q r → PreparesInPart p r
+part_look : (p q r : Past) → PreparesInPart p q → ChangesNothing q r → PreparesInPart p r
 part_look p q r part looks = record {
   a_was = part.a_was;
   b_was = part.b_was;
@@ -86,7 +84,7 @@ part_synced ok p q r part synced =
     (let short = part.a in omega (arith, short, ap length (synced_content ok A q r synced)))
 
 -- a sync that failed changes nothing
-unsynced_looks : (q r : Past) → Changes B (Synced false) q r → Looks q r
+unsynced_looks : (q r : Past) → Changes B (Synced false) q r → ChangesNothing q r
 unsynced_looks q r synced = record { time = synced.time; same = each_area B (λ (x : Area). now r x ≡ now q x) synced.here synced.there }
 
 empty_of : (bytes : List ℕ) (n : ℕ) → n ≡ length bytes → n ≡ 0 → bytes ≡ []
@@ -100,10 +98,10 @@ record Empty (p q : Past) : Type 0 where
 
 -- ---- the same, where the disk may tell nothing
 
-module _ (t0 t1 t2 t3 : Option Past) (a b : ℕ) (bytes : List ℕ) (first : Goes t0 t1 Looks) (second : Goes t1 t2 Looks) (a_is : ForSome t1 (λ p. a ≡ length (content p A))) (b_is : ForSome t2 (λ p. b ≡ length (content p B)))
+module _ (t0 t1 t2 t3 : Option Past) (a b : ℕ) (bytes : List ℕ) (first : Goes t0 t1 ChangesNothing) (second : Goes t1 t2 ChangesNothing) (a_is : ForSome t1 (λ p. a ≡ length (content p A))) (b_is : ForSome t2 (λ p. b ≡ length (content p B)))
     (a_none : a ≡ 0) (b_none : b ≡ 0) (size : length bytes ≡ 48) where
   empty : Goes t0 t2 Empty
-  empty = goes_then t0 t1 t2 Looks Looks Empty (λ p q r i j k f s.
+  empty = goes_then t0 t1 t2 ChangesNothing ChangesNothing Empty (λ p q r i j k f s.
       let a_here : content q A ≡ [] = empty_of (content q A) a (a_is q j) a_none in
       let a_was : content p A ≡ [] = sym (ap (λ (h : Held). h.reads) (f.same A)) ∙ a_here in
       let b_here : content r B ≡ [] = empty_of (content r B) b (b_is r k) b_none in

@@ -6,12 +6,10 @@ use Rattle.std.specs.Option.{ForSome}
 use Rattle.disk_trait.specs.Held.{Held, Has}
 use Rattle.disk_trait.specs.Past.{Past, now, content, other}
 use Rattle.disk_trait.specs.Steps.{Goes, Ticks}
-use Rattle.disk_trait.proofs.Told.{goes_back}
-use Rattle.disk_trait.proofs.Ranges.{length_overwritten}
-use Rattle.disk_trait.proofs.Steps.{wrote_content, synced_content, runs_there}
+use Rattle.disk_trait.proofs.Public.{goes_back, length_overwritten, wrote_content, synced_content, runs_there}
 use Rattle.disk_trait.specs.declared.area.Area.{Area}
 use Rattle.bbs_journal.specs.Areas.{Ready, Stands, BeforeOrAfter, body_of}
-use Rattle.bbs_journal.specs.Calls.{WritesSynced, Adds, Closes, Takes}
+use Rattle.bbs_journal.specs.Calls.{WritesSynced, AddsFrame, Closes, TakesCalls}
 use Rattle.bbs_journal.specs.View.{View, HoldsFrames, IsKept}
 use Rattle.bbs_journal.specs.Other.{Yields}
 use Rattle.bbs_journal.specs.declared.other_gate.OtherGate.{OtherGate}
@@ -55,7 +53,7 @@ room_on t0 t1 area end body goes holds =
         omega (arith, is, length_overwritten (end + 1) body (content p area) within)
 
 -- an append, by how it ends
-added_done : (area : Area) (payload : List ℕ) (end frames : ℕ) (p q : Past) → HoldsFrames area end frames false p → Adds area true false payload end p q → HoldsFrames area (end + 3 + length payload) (frames + 1) false q
+added_done : (area : Area) (payload : List ℕ) (end frames : ℕ) (p q : Past) → HoldsFrames area end frames false p → AddsFrame area true false payload end p q → HoldsFrames area (end + 3 + length payload) (frames + 1) false q
 added_done area payload end frames p q holds adds = record {
   head = holds.head;
   payloads = holds.payloads ++ payload ∷ [];
@@ -65,7 +63,7 @@ added_done area payload end frames p q holds adds = record {
   stands = (adds holds.head holds.payloads (ready_of area end frames p holds)).leaves;
 }
 
-added_refused : (area : Area) (payload : List ℕ) (end frames : ℕ) (p q : Past) → HoldsFrames area end frames false p → Adds area false false payload end p q → HoldsFrames area end frames false q
+added_refused : (area : Area) (payload : List ℕ) (end frames : ℕ) (p q : Past) → HoldsFrames area end frames false p → AddsFrame area false false payload end p q → HoldsFrames area end frames false q
 added_refused area payload end frames p q holds adds = record {
   head = holds.head;
   payloads = holds.payloads;
@@ -75,7 +73,7 @@ added_refused area payload end frames p q holds adds = record {
   stands = (adds holds.head holds.payloads (ready_of area end frames p holds)).leaves;
 }
 
-added_in_doubt : (area : Area) (payload : List ℕ) (end frames : ℕ) (p q : Past) → HoldsFrames area end frames false p → Adds area false true payload end p q → HoldsFrames area end frames true q
+added_in_doubt : (area : Area) (payload : List ℕ) (end frames : ℕ) (p q : Past) → HoldsFrames area end frames false p → AddsFrame area false true payload end p q → HoldsFrames area end frames true q
 added_in_doubt area payload end frames p q holds adds = record {
   head = holds.head;
   payloads = holds.payloads;
@@ -86,27 +84,27 @@ added_in_doubt area payload end frames p q holds adds = record {
 }
 
 -- an append leaves the other area as it was
-added_there : (area : Area) (ok waits : Bool) (payload : List ℕ) (end frames : ℕ) (p q : Past) → HoldsFrames area end frames false p → Adds area ok waits payload end p q → now q (other area) ≡ now p (other area)
+added_there : (area : Area) (ok waits : Bool) (payload : List ℕ) (end frames : ℕ) (p q : Past) → HoldsFrames area end frames false p → AddsFrame area ok waits payload end p q → now q (other area) ≡ now p (other area)
 added_there area ok waits payload end frames p q holds adds =
     runs_there (BeforeOrAfter holds.head holds.payloads payload) area p q (adds holds.head holds.payloads (ready_of area end frames p holds)).runs
 
 module _ (t0 t1 : Option Past) (area : Area) (payload : List ℕ) (generation end frames : ℕ) (broken : Bool) (gate : OtherGate) (whole : broken ≡ false) where
-  kept_added : (ok waits : Bool) (end' frames' : ℕ) → ((p q : Past) → HoldsFrames area end frames false p → Adds area ok waits payload end p q → HoldsFrames area end' frames' waits q)
-      → Goes t0 t1 (Adds area ok waits payload end) → ForSome t0 (IsKept area generation end frames false broken gate) → ForSome t1 (IsKept area generation end' frames' waits broken gate)
+  kept_added : (ok waits : Bool) (end' frames' : ℕ) → ((p q : Past) → HoldsFrames area end frames false p → AddsFrame area ok waits payload end p q → HoldsFrames area end' frames' waits q)
+      → Goes t0 t1 (AddsFrame area ok waits payload end) → ForSome t0 (IsKept area generation end frames false broken gate) → ForSome t1 (IsKept area generation end' frames' waits broken gate)
   kept_added ok waits end' frames' step goes kept =
-      tells_on t0 t1 (Adds area ok waits payload end) (IsKept area generation end frames false broken gate) (IsKept area generation end' frames' waits broken gate)
+      tells_on t0 t1 (AddsFrame area ok waits payload end) (IsKept area generation end frames false broken gate) (IsKept area generation end' frames' waits broken gate)
       (λ p q adds kept. record {
         holds = λ _. step p q (kept.holds whole) adds;
         yields = subst (Has (Yields gate generation)) (sym (added_there area ok waits payload end frames p q (kept.holds whole) adds)) kept.yields;
       }) goes kept
 
-  pub kept_done : Goes t0 t1 (Adds area true false payload end) → ForSome t0 (IsKept area generation end frames false broken gate) → ForSome t1 (IsKept area generation (end + 3 + length payload) (frames + 1) false broken gate)
+  pub kept_done : Goes t0 t1 (AddsFrame area true false payload end) → ForSome t0 (IsKept area generation end frames false broken gate) → ForSome t1 (IsKept area generation (end + 3 + length payload) (frames + 1) false broken gate)
   kept_done goes kept = kept_added true false (end + 3 + length payload) (frames + 1) (added_done area payload end frames) goes kept
 
-  pub kept_refused : Goes t0 t1 (Adds area false false payload end) → ForSome t0 (IsKept area generation end frames false broken gate) → ForSome t1 (IsKept area generation end frames false broken gate)
+  pub kept_refused : Goes t0 t1 (AddsFrame area false false payload end) → ForSome t0 (IsKept area generation end frames false broken gate) → ForSome t1 (IsKept area generation end frames false broken gate)
   kept_refused goes kept = kept_added false false end frames (added_refused area payload end frames) goes kept
 
-  pub kept_in_doubt : Goes t0 t1 (Adds area false true payload end) → ForSome t0 (IsKept area generation end frames false broken gate) → ForSome t1 (IsKept area generation end frames true broken gate)
+  pub kept_in_doubt : Goes t0 t1 (AddsFrame area false true payload end) → ForSome t0 (IsKept area generation end frames false broken gate) → ForSome t1 (IsKept area generation end frames true broken gate)
   kept_in_doubt goes kept = kept_added false true end frames (added_in_doubt area payload end frames) goes kept
 
 -- a mend, by how it ends
@@ -164,7 +162,7 @@ ticks_most ok a b ticks = elim (leb_tells (2 ^ 64 - 1) a) [
 ]
 
 -- and how many moments they take at most
-pub takes_two : (ok : Bool) (a b c : ℕ) → Ticks true a b → Ticks ok b c → Takes ok 2 a c
+pub takes_two : (ok : Bool) (a b c : ℕ) → Ticks true a b → Ticks ok b c → TakesCalls ok 2 a c
 takes_two ok a b c first second = record {
   done = two_calls ok a b c first second;
   most = omega (arith, ticks_most true a b first, ticks_most ok b c second);

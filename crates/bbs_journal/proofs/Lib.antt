@@ -16,6 +16,7 @@ mod Choosing
 mod Loads
 pub mod Once
 pub mod Accepted
+pub mod Public
 pub mod Recovered
 pub mod Newer
 pub mod Outcomes

@@ -5,18 +5,17 @@ use Rattle.std.specs.Option.{ForSome}
 use Rattle.disk_trait.specs.Held.{Held, Has, IsSettledArea}
 use Rattle.disk_trait.specs.Past.{Past, Image, now, content, other, IsSettled}
 use Rattle.disk_trait.specs.Steps.{Goes}
-use Rattle.disk_trait.proofs.Steps.{settled_has}
-use Rattle.disk_trait.proofs.Told.{goes_back, goes_then}
+use Rattle.disk_trait.proofs.Public.{settled_has, goes_back, goes_then}
 use Rattle.disk_trait.specs.declared.area.Area.{Area}
-use Rattle.bbs_journal.specs.Frames.{spelled, Whole}
+use Rattle.bbs_journal.specs.Frames.{frame_spelled, Whole}
 use Rattle.bbs_journal.specs.Areas.{Begins, Ready}
 use Rattle.bbs_journal.specs.Header.{front, header_of, gate_of}
 use Rattle.bbs_journal.specs.Other.{Yields}
 use Rattle.bbs_journal.specs.View.{IsKept}
 use Rattle.bbs_journal.specs.Opening.{AreFrames, IsOpening}
-use Rattle.bbs_journal.specs.Shows.{Shows, Keeps, Peeks, Secures}
+use Rattle.disk_trait.specs.Shows.{Shows, KeepsContent, Peeks, Secures}
 use Rattle.bbs_journal.specs.Reading.{payloads_of}
-use Rattle.bbs_journal.specs.Found.{IsFound, IsCounted}
+use Rattle.bbs_journal.specs.Found.{IsFoundIn, IsCounted}
 use Rattle.bbs_journal.specs.declared.find.Found.{Found}
 use Rattle.bbs_journal.specs.declared.other_gate.OtherGate.{OtherGate}
 use Rattle.bbs_journal.proofs.FrameAt.{length-spelled_on}
@@ -34,15 +33,15 @@ pub are_whole : (payloads : List (List ℕ)) (end at : ℕ) (bytes : List ℕ) �
 are_whole [] end at bytes (place, gate) = record { frames = []; whole = refl; place = omega (arith, place); begins = gate }
 are_whole (payload ∷ payloads) end at bytes (rest, frame, more) =
     let others = are_whole payloads end (at + 3 + length payload) rest more in
-    let text = spelled payload ++ others.frames in
+    let text = frame_spelled payload ++ others.frames in
     record {
       frames = frame.gate ∷ text;
       whole = (others.frames, record { gate = frame.gate; is_open = frame.is_open; fits = frame.fits; parts = refl }, others.whole);
       place = omega (arith, others.place, length-spelled_on payload others.frames);
       begins = record {
         rest = others.begins.rest;
-        parts = frame.parts ∙ ap (λ (l : List ℕ). frame.gate ∷ (spelled payload ++ l)) others.begins.parts
-            ∙ ap (λ (l : List ℕ). frame.gate ∷ l) (sym (append_assoc (spelled payload) (others.frames ++ 0 ∷ []) others.begins.rest) ∙ ap (λ (l : List ℕ). l ++ others.begins.rest) (sym (append_assoc (spelled payload) others.frames (0 ∷ []))));
+        parts = frame.parts ∙ ap (λ (l : List ℕ). frame.gate ∷ (frame_spelled payload ++ l)) others.begins.parts
+            ∙ ap (λ (l : List ℕ). frame.gate ∷ l) (sym (append_assoc (frame_spelled payload) (others.frames ++ 0 ∷ []) others.begins.rest) ∙ ap (λ (l : List ℕ). l ++ others.begins.rest) (sym (append_assoc (frame_spelled payload) others.frames (0 ∷ []))));
       };
     }
 
@@ -74,7 +73,7 @@ opened_ready c area generation head payloads end held opening settled reads =
     }
 
 -- the other area gives way, whatever a stop leaves of it
-found_yields : (c : Image) (found : Found) (held : Held) → IsFound c found → IsSettledArea held → held.reads ≡ c (other found.place.area) → Has (Yields found.place.gate found.place.generation) held
+found_yields : (c : Image) (found : Found) (held : Held) → IsFoundIn c found → IsSettledArea held → held.reads ≡ c (other found.place.area) → Has (Yields found.place.gate found.place.generation) held
 found_yields c found held is settled reads =
     let t = tested c _ is.opening.head_is in
     let gives = other_gives c t.active t.chosen in
@@ -90,7 +89,7 @@ undamaged : (broken : Option ℕ) → is_some broken ≡ false → broken ≡ No
 undamaged None is = refl
 undamaged (Some at) is = absurd (cc)
 
-found_kept : (found : Found) (p : Past) → IsCounted found → IsSettled p → IsFound (content p) found → IsKept found.place.area found.place.generation found.place.end found.place.frames false found.place.broken found.place.gate p
+found_kept : (found : Found) (p : Past) → IsCounted found → IsSettled p → IsFoundIn (content p) found → IsKept found.place.area found.place.generation found.place.end found.place.frames false found.place.broken found.place.gate p
 found_kept found p counts settled is = record {
   holds = λ whole. record {
     head = take (23 + length found.head.items) (content p found.place.area);
@@ -107,7 +106,7 @@ found_kept found p counts settled is = record {
 
 -- ---- the same, where the disk may tell nothing
 
-pub kept_found : (t0 t1 t2 : Option Past) (found : Found) → Goes t0 t1 Secures → Goes t1 t2 Peeks → IsCounted found → ((c : Image) → Shows t2 c → IsFound c found)
+pub kept_found : (t0 t1 t2 : Option Past) (found : Found) → Goes t0 t1 Secures → Goes t1 t2 Peeks → IsCounted found → ((c : Image) → Shows t2 c → IsFoundIn c found)
     → ForSome t2 (IsKept found.place.area found.place.generation found.place.end found.place.frames false found.place.broken found.place.gate)
 kept_found t0 t1 t2 found synced peeked counts shows q is =
     let back = goes_back t1 t2 Peeks peeked q is in
@@ -120,5 +119,5 @@ pub secured : (t0 t1 t2 : Option Past) → Goes t0 t1 Secures → Goes t1 t2 Pee
 secured t0 t1 t2 first second =
     goes_then t0 t1 t2 Secures Peeks Secures (λ p q r i j k s peeks. record { keeps = keeps_then p q r s.keeps peeks.keeps; settled = λ area. subst IsSettledArea (sym (peeks.still area)) (s.settled area) }) first second
 
-pub kept_on : (t0 t1 t2 : Option Past) → Goes t0 t1 Secures → Goes t1 t2 Peeks → Goes t0 t2 Keeps
-kept_on t0 t1 t2 first second = goes_then t0 t1 t2 Secures Peeks Keeps (λ p q r i j k s peeks. keeps_then p q r s.keeps peeks.keeps) first second
+pub kept_on : (t0 t1 t2 : Option Past) → Goes t0 t1 Secures → Goes t1 t2 Peeks → Goes t0 t2 KeepsContent
+kept_on t0 t1 t2 first second = goes_then t0 t1 t2 Secures Peeks KeepsContent (λ p q r i j k s peeks. keeps_then p q r s.keeps peeks.keeps) first second

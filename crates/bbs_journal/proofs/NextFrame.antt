@@ -2,10 +2,10 @@
 use Rattle.std.proofs.Common.{◌≡◌, ℕ, suc, ◌+◌, ◌-◌, ◌≤◌, min, Option, List, [], ◌∷◌, ◌++◌, length, take, drop, refl, sym, ap, ◌∙◌, subst, arith, Global, Vec, append_assoc, append-nil, take-append-drop, drop_at}
 use Rattle.std.proofs.lemmas.List.{drop-drop, map_push}
 use Rattle.std.proofs.lemmas.List.Sums.{sum_by_push}
-use Rattle.bbs_journal.specs.Frames.{spelled, IsFrame}
+use Rattle.bbs_journal.specs.Frames.{frame_spelled, IsFrame}
 use Rattle.bbs_journal.specs.Areas.{Begins}
 use Rattle.bbs_journal.specs.Opening.{IsBroken, AreFrames, Stops}
-use Rattle.bbs_journal.specs.Reading.{IsAt, IsWithin, payloads_of, bytes_of}
+use Rattle.bbs_journal.specs.Reading.{IsAt, IsFrameWithin, payloads_of, bytes_of}
 use Rattle.bbs_journal.specs.declared.frame.Next.{Next}
 use Rattle.bbs_journal.specs.declared.frame.Next.TheVariants.{Frame, Gate, Defect}
 use Rattle.bbs_journal.proofs.FrameAt.{length-spelled_on}
@@ -25,7 +25,7 @@ frame_more payload part more rest frame = record {
   gate = frame.gate;
   is_open = frame.is_open;
   fits = frame.fits;
-  parts = ap (λ (l : List ℕ). l ++ more) frame.parts ∙ ap (λ (l : List ℕ). frame.gate ∷ l) (append_assoc (spelled payload) rest more);
+  parts = ap (λ (l : List ℕ). l ++ more) frame.parts ∙ ap (λ (l : List ℕ). frame.gate ∷ l) (append_assoc (frame_spelled payload) rest more);
 }
 
 -- a frame lies within the first 515 bytes
@@ -34,8 +34,8 @@ frame_less n payload bytes rest is frame =
     let long = frame_length payload bytes rest frame in
     let fits = frame.fits in
     let k : ℕ = n - 3 - length payload in
-    let text = frame.gate ∷ spelled payload in
-    let size : length text ≡ 3 + length payload = omega (arith, length-spelled_on payload [], ap length (append-nil (spelled payload))) in
+    let text = frame.gate ∷ frame_spelled payload in
+    let size : length text ≡ 3 + length payload = omega (arith, length-spelled_on payload [], ap length (append-nil (frame_spelled payload))) in
     record {
       gate = frame.gate;
       is_open = frame.is_open;
@@ -66,7 +66,7 @@ at_whole n bytes (Frame payload) is (rest, frame) = (rest ++ drop n bytes, subst
 at_whole n bytes Gate is b = subst (Begins (0 ∷ [])) (take-append-drop n bytes) (begins_more (0 ∷ []) (take n bytes) (drop n bytes) b)
 at_whole n bytes Defect is broken = broken_whole n bytes is broken
 
-pub within_at : (next : Next) (bytes : List ℕ) (n : ℕ) → length bytes ≤ n → IsAt next bytes → IsWithin next n
+pub within_at : (next : Next) (bytes : List ℕ) (n : ℕ) → length bytes ≤ n → IsAt next bytes → IsFrameWithin next n
 within_at (Frame payload) bytes n fits (rest, frame) = (frame.fits.1, omega (arith, fits, frame_length payload.items bytes rest frame))
 within_at Gate bytes n fits b = omega (arith, fits, ap length b.parts)
 within_at Defect bytes n fits broken = tt
@@ -80,8 +80,8 @@ bytes_push frames frame = ap bytes_of (payloads_push frames frame) ∙ sum_by_pu
 
 drop_frame : (payload bytes rest : List ℕ) → IsFrame payload bytes rest → drop (3 + length payload) bytes ≡ rest
 drop_frame payload bytes rest frame =
-    let size : length (frame.gate ∷ spelled payload) ≡ 3 + length payload = omega (arith, length-spelled_on payload [], ap length (append-nil (spelled payload))) in
-    ap (drop (3 + length payload)) frame.parts ∙ drop_at (frame.gate ∷ spelled payload) rest (3 + length payload) size
+    let size : length (frame.gate ∷ frame_spelled payload) ≡ 3 + length payload = omega (arith, length-spelled_on payload [], ap length (append-nil (frame_spelled payload))) in
+    ap (drop (3 + length payload)) frame.parts ∙ drop_at (frame.gate ∷ frame_spelled payload) rest (3 + length payload) size
 
 module _ (bytes : List ℕ) (frames : List (Vec ℕ Global)) (start at : ℕ) where
   -- whatever frames follow, those so far stand before them

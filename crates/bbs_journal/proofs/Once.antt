@@ -1,7 +1,7 @@
 -- An image is opened in one way.
 use Rattle.std.proofs.Common.{◌≡◌, ℕ, ◌+◌, Option, Some, None, List, [], ◌∷◌, ◌++◌, length, drop, refl, sym, ap, ◌∙◌, subst, arith}
 use Rattle.disk_trait.specs.declared.area.Area.{Area}
-use Rattle.bbs_journal.specs.Frames.{spelled, IsFrame}
+use Rattle.bbs_journal.specs.Frames.{frame_spelled, IsFrame}
 use Rattle.bbs_journal.specs.Areas.{Begins}
 use Rattle.bbs_journal.specs.Opening.{Stops, AreFrames, Headed, headed}
 use Rattle.bbs_journal.specs.Grammar.{OpensOnce}
@@ -14,13 +14,13 @@ behind x y a b e = (cc, cc)
 -- bytes begin with one frame at most
 frame_one : (a b bytes r s : List ℕ) → IsFrame a bytes r → IsFrame b bytes s → (a ≡ b) × (r ≡ s)
 frame_one a b bytes r s first second =
-    let both = behind first.gate second.gate (spelled a ++ r) (spelled b ++ s) (sym first.parts ∙ second.parts) in
+    let both = behind first.gate second.gate (frame_spelled a ++ r) (frame_spelled b ++ s) (sym first.parts ∙ second.parts) in
     spelled_one a b r s first.fits second.fits both.1
 
 -- and with none where they begin with a closed gate
 no_both : (payload bytes rest : List ℕ) → Begins (0 ∷ []) bytes → IsFrame payload bytes rest → ⊥
 no_both payload bytes rest b frame =
-    let both = behind 0 frame.gate b.rest (spelled payload ++ rest) (sym b.parts ∙ frame.parts) in omega (arith, both.0, frame.is_open)
+    let both = behind 0 frame.gate b.rest (frame_spelled payload ++ rest) (sym b.parts ∙ frame.parts) in omega (arith, both.0, frame.is_open)
 
 pub record Same (a b : List (List ℕ)) (broken broken' : Option ℕ) (end end' : ℕ) : Type 0 where
   pub payloads_are : a ≡ b

@@ -8,7 +8,7 @@ use Rattle.disk_trait.specs.declared.area.Area.TheVariants.{A, B}
 use Rattle.bbs_journal.specs.Header.{front, header_of, behind_gate, gate_of}
 use Rattle.bbs_journal.specs.Other.{Yields}
 use Rattle.bbs_journal.specs.Opening.{active_of, newer, size_of, Headed, headed, ◌>>=◌}
-use Rattle.bbs_journal.specs.Shows.{IsFree, Fails}
+use Rattle.bbs_journal.specs.LoadFaults.{IsFree, Fails}
 use Rattle.bbs_journal.specs.declared.active.Active.{Active}
 use Rattle.bbs_journal.specs.declared.header.Header.{Header}
 use Rattle.bbs_journal.specs.declared.header.Header.TheVariants.{Closed, Foreign, Cut, Open}

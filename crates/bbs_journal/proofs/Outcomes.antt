@@ -5,8 +5,8 @@ use Rattle.std.proofs.lemmas.List.{length-take-le}
 use Rattle.std.proofs.lemmas.Bool.Decides.{eqb_tells, leb_tells}
 use Rattle.disk_trait.specs.Past.{Image}
 use Rattle.wire_fields.specs.Field.{field_number}
-use Rattle.wire_fields.proofs.Lengths.{length-field_number}
-use Rattle.bbs_journal.specs.Frames.{spelled, IsFrame}
+use Rattle.wire_fields.proofs.Public.{length-field_number}
+use Rattle.bbs_journal.specs.Frames.{frame_spelled, IsFrame}
 use Rattle.bbs_journal.specs.Opening.{IsBroken, AreFrames, Headed, headed}
 use Rattle.bbs_journal.specs.Outcomes.{IsHeadless, IsOpened, OpensOrHasNoHead}
 use Rattle.bbs_journal.specs.declared.load_fault.LoadFault.{LoadFault}
@@ -77,7 +77,7 @@ module _ (behind : List ℕ) where
   -- and no frame stands there else
   frame_holds : (gate : ℕ) (payload rest : List ℕ) → IsFrame payload (gate ∷ behind) rest → HoldsFrame
   frame_holds gate payload rest frame =
-      let same = behind_is gate frame.gate behind (spelled payload ++ rest) frame.parts in
+      let same = behind_is gate frame.gate behind (frame_spelled payload ++ rest) frame.parts in
       let number : len ≡ length payload = ap (λ (l : List ℕ). from_be_bytes w16 (take 2 l)) same.1 ∙ spelled_number payload rest frame.fits in
       let long : length behind ≡ 2 + length payload + length rest = ap length same.1 ∙ length-spelled_on payload rest in
       let size = field_number w16 (length payload) in

@@ -4,12 +4,11 @@ use Rattle.std.proofs.lemmas.Bool.Decides.{leb_tells}
 use Rattle.disk_trait.specs.Held.{Held, Leaves, Has, IsSettledArea}
 use Rattle.disk_trait.specs.Past.{Past, Image, now, content, other}
 use Rattle.disk_trait.specs.Runs.{Runs}
-use Rattle.disk_trait.specs.Steps.{Goes, Looks, Changes, Synced}
-use Rattle.disk_trait.proofs.Steps.{extends_same, extends_then, was_held, runs_look, runs_change, synced_content, synced_has, sync_has}
-use Rattle.disk_trait.proofs.Told.{goes_then, goes_weaker, goes_same}
+use Rattle.disk_trait.specs.Steps.{Goes, ChangesNothing, Changes, Synced}
+use Rattle.disk_trait.proofs.Public.{extends_same, extends_then, was_held, runs_look, runs_change, synced_content, synced_has, sync_has, goes_then, goes_weaker, goes_same}
 use Rattle.disk_trait.specs.declared.area.Area.{Area}
 use Rattle.disk_trait.specs.declared.area.Area.TheVariants.{A, B}
-use Rattle.bbs_journal.specs.Shows.{Shows, Keeps, Peeks, Secures, Syncs}
+use Rattle.disk_trait.specs.Shows.{Shows, KeepsContent, Peeks, Secures, Syncs}
 
 -- each area is this one or the other
 pub each_area : (area : Area) (P : Area → Type 0) → P area → P (other area) → (x : Area) → P x
@@ -22,7 +21,7 @@ each_area B P here there B = here
 may_leave : (p : Past) (area : Area) → Has (Leaves (now p area)) (now p area)
 may_leave p area = record { reads = p.possible p.clock area; leaves = λ left leaves. leaves }
 
-pub keeps_then : (p q r : Past) → Keeps p q → Keeps q r → Keeps p r
+pub keeps_then : (p q r : Past) → KeepsContent p q → KeepsContent q r → KeepsContent p r
 keeps_then p q r first second = record {
   extends = extends_then p q r first.extends second.extends;
   same = λ area. second.same area ∙ first.same area;
@@ -43,7 +42,7 @@ peeks_same p = record {
   still = λ area. refl;
 }
 
-pub look_peeks : (p q : Past) → Looks p q → Peeks p q
+pub look_peeks : (p q : Past) → ChangesNothing p q → Peeks p q
 look_peeks p q looks = record {
   keeps = record {
     extends = (runs_look (Leaves (now p A)) A p q looks (may_leave p A)).extends;
@@ -53,7 +52,7 @@ look_peeks p q looks = record {
   still = looks.same;
 }
 
-sync_keeps : (ok : Bool) (area : Area) (p q : Past) → Changes area (Synced ok) p q → Keeps p q
+sync_keeps : (ok : Bool) (area : Area) (p q : Past) → Changes area (Synced ok) p q → KeepsContent p q
 sync_keeps ok area p q changes =
     let runs : Runs area (Leaves (now p area)) p q =
     runs_change (Leaves (now p area)) area (Synced ok) p q changes (may_leave p area) (sync_has (Leaves (now p area)) ok area p q changes (may_leave p area)) in
@@ -84,17 +83,17 @@ peeks_after p q r first second = record {
 
 -- ---- the same, where the disk may tell nothing
 
-pub first_sync_fails : (t0 t1 : Option Past) → Goes t0 t1 (Changes A (Synced false)) → Goes t0 t1 Keeps
-first_sync_fails t0 t1 goes = goes_weaker t0 t1 (Changes A (Synced false)) Keeps (λ p q i j changes. sync_keeps false A p q changes) goes
+pub first_sync_fails : (t0 t1 : Option Past) → Goes t0 t1 (Changes A (Synced false)) → Goes t0 t1 KeepsContent
+first_sync_fails t0 t1 goes = goes_weaker t0 t1 (Changes A (Synced false)) KeepsContent (λ p q i j changes. sync_keeps false A p q changes) goes
 
 pub syncs : (ok : Bool) (t0 t1 t2 : Option Past) → Goes t0 t1 (Changes A (Synced true)) → Goes t1 t2 (Changes B (Synced ok)) → Goes t0 t2 (Syncs ok)
 syncs true t0 t1 t2 first second =
     goes_then t0 t1 t2 (Changes A (Synced true)) (Changes B (Synced true)) Secures (λ p q r i j k f s. both_synced p q r f s) first second
 syncs false t0 t1 t2 first second =
-    goes_then t0 t1 t2 (Changes A (Synced true)) (Changes B (Synced false)) Keeps (λ p q r i j k f s. keeps_then p q r (sync_keeps true A p q f) (sync_keeps false B q r s)) first second
+    goes_then t0 t1 t2 (Changes A (Synced true)) (Changes B (Synced false)) KeepsContent (λ p q r i j k f s. keeps_then p q r (sync_keeps true A p q f) (sync_keeps false B q r s)) first second
 
-pub looked : (t0 t1 : Option Past) → Goes t0 t1 Looks → Goes t0 t1 Peeks
-looked t0 t1 goes = goes_weaker t0 t1 Looks Peeks (λ p q i j looks. look_peeks p q looks) goes
+pub looked : (t0 t1 : Option Past) → Goes t0 t1 ChangesNothing → Goes t0 t1 Peeks
+looked t0 t1 goes = goes_weaker t0 t1 ChangesNothing Peeks (λ p q i j looks. look_peeks p q looks) goes
 
 pub peeks_none : (t : Option Past) → Goes t t Peeks
 peeks_none t = goes_same t Peeks (λ p is. peeks_same p)

@@ -2,7 +2,7 @@
 use Rattle.std.proofs.Common.{◌≡◌, ℕ, ◌+◌, ◌-◌, ◌≤◌, min, List, length, take, drop, sym, ap, ◌∙◌, subst, arith, length-drop}
 use Rattle.std.proofs.lemmas.List.{take-take, drop-drop, drop-take, length-take}
 use Rattle.bbs_journal.specs.Pieces.{Covers, Reaches, IsPieceOf, part_of}
-use Rattle.bbs_journal.specs.Reading.{IsAt, IsWithin}
+use Rattle.bbs_journal.specs.Reading.{IsAt, IsFrameWithin}
 use Rattle.bbs_journal.specs.declared.frame.Next.{Next}
 use Rattle.bbs_journal.specs.declared.piece.Piece.{Piece}
 use Rattle.bbs_journal.proofs.NextFrame.{at_whole, within_at}
@@ -25,7 +25,7 @@ at_piece piece bytes at len next covers within reaches len_is is here =
     let size : m ≡ min 515 (length (drop at bytes)) = omega (arith, length-drop at bytes) in
     at_whole m (drop at bytes) next size (subst (IsAt next) (part_taken piece.room.items bytes piece.from piece.count k m at is.taken there at_is) here)
 
-pub within_piece : (piece : Piece) (at len : ℕ) (next : Next) → IsAt next (part_of piece at len) → IsWithin next (len - at)
+pub within_piece : (piece : Piece) (at len : ℕ) (next : Next) → IsAt next (part_of piece at len) → IsFrameWithin next (len - at)
 within_piece piece at len next here =
     let k : ℕ = at - piece.from in
     within_at next (part_of piece at len) (len - at) (omega (arith, length-take (min (min (piece.count - k) 515) (len - at)) (drop k piece.room.items))) here

@@ -6,7 +6,7 @@ use Rattle.disk_trait.specs.Past.{Past, Image, content}
 use Rattle.disk_trait.specs.Steps.{Filled}
 use Rattle.disk_trait.specs.declared.area.Area.{Area}
 use Rattle.bbs_journal.specs.Header.{front}
-use Rattle.bbs_journal.specs.Shows.{Shows}
+use Rattle.disk_trait.specs.Shows.{Shows}
 
 filled_front : (bytes : List ℕ) (n : ℕ) (before after : List ℕ) → length before ≡ 31 → Filled bytes 0 n before after → take n after ≡ take 31 bytes
 filled_front bytes n before after len filled =

@@ -9,7 +9,7 @@ use Rattle.std.proofs.lemmas.List.Elements.{All-take, All-drop, All-get_or}
 use Rattle.std.proofs.lemmas.List.{take-take, drop-take, drop-drop, length-take, length-take-le, get_or_past}
 use Rattle.std.proofs.lemmas.Slice.Eq.{starts_is}
 use Rattle.wire_fields.specs.Field.{field_number}
-use Rattle.disk_trait.proofs.Steps.{settled_has}
+use Rattle.disk_trait.proofs.Public.{settled_has}
 use Rattle.disk_trait.specs.Held.{AreBytes}
 use Rattle.disk_trait.specs.Past.{Image, other}
 use Rattle.disk_trait.specs.declared.area.Area.{Area}

@@ -3,7 +3,7 @@ use Rattle.std.proofs.Common.{inl, inr, ⊎_elim, ℕ, ◌<◌, List, [], ◌∷
 use Rattle.disk_trait.specs.Held.{Held, Leaves}
 use Rattle.disk_trait.specs.Past.{Image, other}
 use Rattle.disk_trait.specs.declared.area.Area.{Area}
-use Rattle.disk_trait.proofs.Steps.{runs_there}
+use Rattle.disk_trait.proofs.Public.{runs_there}
 use Rattle.bbs_journal.specs.Areas.{IsArea, BeforeOrAfter}
 use Rattle.bbs_journal.specs.Other.{Yields}
 use Rattle.bbs_journal.specs.Grammar.{heading, GoesWith}

@@ -5,12 +5,11 @@ use Rattle.disk_trait.specs.Held.{Has}
 use Rattle.disk_trait.specs.Past.{Past, now, content}
 use Rattle.disk_trait.specs.Runs.{Runs, Turns}
 use Rattle.disk_trait.specs.Steps.{Goes, Changes, Wrote, Synced, range_of, overwritten}
-use Rattle.disk_trait.proofs.Steps.{Bears, write_fails, write_syncs, runs_then, runs_weaker, has_weaker}
-use Rattle.disk_trait.proofs.Told.{goes_then, goes_weaker}
+use Rattle.disk_trait.proofs.Public.{Bears, write_fails, write_syncs, runs_then, runs_weaker, has_weaker, goes_then, goes_weaker}
 use Rattle.disk_trait.specs.declared.area.Area.{Area}
-use Rattle.bbs_journal.specs.Frames.{IsPayload, spelled, Whole}
+use Rattle.bbs_journal.specs.Frames.{IsPayload, frame_spelled, Whole}
 use Rattle.bbs_journal.specs.Areas.{Begins, Staged, BeforeOrAfter, Ready, Waits, body_of}
-use Rattle.bbs_journal.specs.Calls.{WritesSynced, Appends, Adds, Mends, Closes}
+use Rattle.bbs_journal.specs.Calls.{WritesSynced, Appends, AddsFrame, Mends, Closes}
 use Rattle.bbs_journal.proofs.Bytes.{begins_length, bears_begins, staged_length, staged_of, bears_staged, body_written, gate_written}
 use Rattle.bbs_journal.proofs.Frames.{whole_more, framed, closed, before_or_after, place_more}
 
@@ -70,10 +69,10 @@ module _ (area : Area) (head : List ℕ) (payloads : List (List ℕ)) (payload :
       ends true r frames whole place turn runs = record {
         runs = runs;
         leaves = record {
-          frames = frames ++ 1 ∷ spelled payload;
+          frames = frames ++ 1 ∷ frame_spelled payload;
           whole = whole_more payloads frames payload 1 (omega arith) fits whole;
           place = place_more head frames payload end 1 place;
-          has = has_weaker (Begins ((head ++ frames) ++ 1 ∷ body_of payload)) (Begins (head ++ (frames ++ 1 ∷ spelled payload) ++ 0 ∷ [])) (now r area) (framed head frames payload 1) (turn.done refl);
+          has = has_weaker (Begins ((head ++ frames) ++ 1 ∷ body_of payload)) (Begins (head ++ (frames ++ 1 ∷ frame_spelled payload) ++ 0 ∷ [])) (now r area) (framed head frames payload 1) (turn.done refl);
         };
       }
       ends false r frames whole place turn runs = record {
@@ -104,15 +103,15 @@ module _ (area : Area) (head : List ℕ) (payloads : List (List ℕ)) (payload :
 
 -- ---- the same, where the disk may tell nothing
 
-pub refused : (t0 t1 : Option Past) (area : Area) (end : ℕ) (payload body : List ℕ) → body ≡ body_of payload → IsPayload payload → Goes t0 t1 (WritesSynced false area (end + 1) body) → Goes t0 t1 (Adds area false false payload end)
+pub refused : (t0 t1 : Option Past) (area : Area) (end : ℕ) (payload body : List ℕ) → body ≡ body_of payload → IsPayload payload → Goes t0 t1 (WritesSynced false area (end + 1) body) → Goes t0 t1 (AddsFrame area false false payload end)
 refused t0 t1 area end payload body body_is fits writes =
-    goes_weaker t0 t1 (WritesSynced false area (end + 1) body) (Adds area false false payload end)
+    goes_weaker t0 t1 (WritesSynced false area (end + 1) body) (AddsFrame area false false payload end)
     (λ p q i j w head payloads ready. body_fails area head payloads payload end fits p q (subst (λ (b : List ℕ). WritesSynced false area (end + 1) b p q) body_is w) ready) writes
 
 pub opened : (t0 t1 t2 : Option Past) (area : Area) (ok : Bool) (end : ℕ) (payload body : List ℕ) → body ≡ body_of payload → IsPayload payload
-    → Goes t0 t1 (WritesSynced true area (end + 1) body) → Goes t1 t2 (WritesSynced ok area end (1 ∷ [])) → Goes t0 t2 (Adds area ok (not ok) payload end)
+    → Goes t0 t1 (WritesSynced true area (end + 1) body) → Goes t1 t2 (WritesSynced ok area end (1 ∷ [])) → Goes t0 t2 (AddsFrame area ok (not ok) payload end)
 opened t0 t1 t2 area ok end payload body body_is fits writes opens =
-    goes_then t0 t1 t2 (WritesSynced true area (end + 1) body) (WritesSynced ok area end (1 ∷ [])) (Adds area ok (not ok) payload end)
+    goes_then t0 t1 t2 (WritesSynced true area (end + 1) body) (WritesSynced ok area end (1 ∷ [])) (AddsFrame area ok (not ok) payload end)
     (λ p q r i j k w o head payloads ready. gate_opens area head payloads payload end fits ok p q r (subst (λ (b : List ℕ). WritesSynced true area (end + 1) b p q) body_is w) o ready) writes opens
 
 pub mended : (t0 t1 : Option Past) (area : Area) (ok : Bool) (end : ℕ) → Goes t0 t1 (WritesSynced ok area end (0 ∷ [])) → Goes t0 t1 (Closes area ok end)

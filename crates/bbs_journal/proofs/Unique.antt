@@ -3,8 +3,8 @@ use Rattle.std.proofs.Common.{◌≡◌, ℕ, ◌<◌, ◌^◌, List, [], ◌∷
 use Rattle.std.specs.Int.{w16, from_be_bytes}
 use Rattle.std.proofs.lemmas.Nat.{from_be_bytes-to_be_bytes_2}
 use Rattle.wire_fields.specs.Field.{field_number}
-use Rattle.wire_fields.proofs.Lengths.{length-field_number}
-use Rattle.bbs_journal.specs.Frames.{IsPayload, spelled, Whole}
+use Rattle.wire_fields.proofs.Public.{length-field_number}
+use Rattle.bbs_journal.specs.Frames.{IsPayload, frame_spelled, Whole}
 use Rattle.bbs_journal.specs.Areas.{Begins, AreOne}
 
 -- two lists that begin with parts of one length
@@ -19,7 +19,7 @@ unfolding field_number
 number_one m n m_fits n_fits e = sym (from_be_bytes-to_be_bytes_2 m m_fits) ∙ ap (from_be_bytes w16) e ∙ from_be_bytes-to_be_bytes_2 n n_fits
 
 -- a spelled payload says where it ends
-pub spelled_one : (a b r s : List ℕ) → IsPayload a → IsPayload b → spelled a ++ r ≡ spelled b ++ s → (a ≡ b) × (r ≡ s)
+pub spelled_one : (a b r s : List ℕ) → IsPayload a → IsPayload b → frame_spelled a ++ r ≡ frame_spelled b ++ s → (a ≡ b) × (r ≡ s)
 spelled_one a b r s a_fits b_fits e =
     let m = field_number w16 (length a) in
     let n = field_number w16 (length b) in
@@ -35,18 +35,18 @@ behind x y a b e = (cc, cc)
 whole_one : (a b : List (List ℕ)) (f g r s : List ℕ) → Whole a f → Whole b g → f ++ 0 ∷ r ≡ g ++ 0 ∷ s → a ≡ b
 whole_one [] [] f g r s whole other e = refl
 whole_one [] (y ∷ ys) f g r s whole (rest, frame, more) e =
-    let shut : 0 ∷ r ≡ frame.gate ∷ ((spelled y ++ rest) ++ 0 ∷ s) = sym (ap (λ (l : List ℕ). l ++ 0 ∷ r) whole) ∙ e ∙ ap (λ (l : List ℕ). l ++ 0 ∷ s) frame.parts in
-    let same = behind 0 frame.gate r ((spelled y ++ rest) ++ 0 ∷ s) shut in
+    let shut : 0 ∷ r ≡ frame.gate ∷ ((frame_spelled y ++ rest) ++ 0 ∷ s) = sym (ap (λ (l : List ℕ). l ++ 0 ∷ r) whole) ∙ e ∙ ap (λ (l : List ℕ). l ++ 0 ∷ s) frame.parts in
+    let same = behind 0 frame.gate r ((frame_spelled y ++ rest) ++ 0 ∷ s) shut in
     absurd (omega (arith, same.0, frame.is_open))
 whole_one (x ∷ xs) [] f g r s (rest, frame, more) whole e =
-    let shut : 0 ∷ s ≡ frame.gate ∷ ((spelled x ++ rest) ++ 0 ∷ r) = sym (ap (λ (l : List ℕ). l ++ 0 ∷ s) whole) ∙ sym e ∙ ap (λ (l : List ℕ). l ++ 0 ∷ r) frame.parts in
-    let same = behind 0 frame.gate s ((spelled x ++ rest) ++ 0 ∷ r) shut in
+    let shut : 0 ∷ s ≡ frame.gate ∷ ((frame_spelled x ++ rest) ++ 0 ∷ r) = sym (ap (λ (l : List ℕ). l ++ 0 ∷ s) whole) ∙ sym e ∙ ap (λ (l : List ℕ). l ++ 0 ∷ r) frame.parts in
+    let same = behind 0 frame.gate s ((frame_spelled x ++ rest) ++ 0 ∷ r) shut in
     absurd (omega (arith, same.0, frame.is_open))
 whole_one (x ∷ xs) (y ∷ ys) f g r s (rest, frame, more) (rest', frame', more') e =
-    let both : frame.gate ∷ ((spelled x ++ rest) ++ 0 ∷ r) ≡ frame'.gate ∷ ((spelled y ++ rest') ++ 0 ∷ s) =
+    let both : frame.gate ∷ ((frame_spelled x ++ rest) ++ 0 ∷ r) ≡ frame'.gate ∷ ((frame_spelled y ++ rest') ++ 0 ∷ s) =
     sym (ap (λ (l : List ℕ). l ++ 0 ∷ r) frame.parts) ∙ e ∙ ap (λ (l : List ℕ). l ++ 0 ∷ s) frame'.parts in
-    let tails = behind frame.gate frame'.gate ((spelled x ++ rest) ++ 0 ∷ r) ((spelled y ++ rest') ++ 0 ∷ s) both in
-    let apart = sym (append_assoc (spelled x) rest (0 ∷ r)) ∙ tails.1 ∙ append_assoc (spelled y) rest' (0 ∷ s) in
+    let tails = behind frame.gate frame'.gate ((frame_spelled x ++ rest) ++ 0 ∷ r) ((frame_spelled y ++ rest') ++ 0 ∷ s) both in
+    let apart = sym (append_assoc (frame_spelled x) rest (0 ∷ r)) ∙ tails.1 ∙ append_assoc (frame_spelled y) rest' (0 ∷ s) in
     let parts = spelled_one x y (rest ++ 0 ∷ r) (rest' ++ 0 ∷ s) frame.fits frame'.fits apart in
     let others : xs ≡ ys = whole_one xs ys rest rest' r s more more' parts.1 in
     ap (λ (p : List ℕ). p ∷ xs) parts.0 ∙ ap (λ (l : List (List ℕ)). y ∷ l) others

@@ -4,9 +4,7 @@ use Rattle.std.specs.Option.{ForSome}
 use Rattle.std.proofs.lemmas.List.{take-take, length-take-le}
 use Rattle.disk_trait.specs.Past.{Past, content}
 use Rattle.disk_trait.specs.Steps.{Goes, overwritten}
-use Rattle.disk_trait.proofs.Ranges.{take_overwritten}
-use Rattle.disk_trait.proofs.Steps.{wrote_content, synced_content}
-use Rattle.disk_trait.proofs.Told.{goes_then}
+use Rattle.disk_trait.proofs.Public.{take_overwritten, wrote_content, synced_content, goes_then}
 use Rattle.disk_trait.specs.declared.area.Area.{Area}
 use Rattle.bbs_journal.specs.Areas.{body_of}
 use Rattle.bbs_journal.specs.Calls.{WritesSynced, WritesFrame}

@@ -2,7 +2,7 @@
 -- may leave. The head is all bytes in front of the frames.
 use Rattle.std.specs.Prelude.{◌≡◌, ◌⊎◌, ℕ, Option, Some, None, List, [], ◌∷◌, ◌++◌, length}
 use Rattle.disk_trait.specs.Held.{Held, Has}
-use Rattle.bbs_journal.specs.Frames.{IsPayload, spelled, Whole}
+use Rattle.bbs_journal.specs.Frames.{IsPayload, frame_spelled, Whole}
 
 -- the bytes begin with this front
 pub record Begins (front bytes : List ℕ) : Type 0 where
@@ -17,7 +17,7 @@ pub record Staged (front body bytes : List ℕ) : Type 0 where
 
 -- what is written behind the gate of a new frame: the payload, and the next closed gate
 abbrev pub body_of : List ℕ → List ℕ
-body_of payload = spelled payload ++ 0 ∷ []
+body_of payload = frame_spelled payload ++ 0 ∷ []
 
 -- the bytes are the head, a frame for each payload, a closed gate, and anything behind it
 pub record IsArea (head : List ℕ) (payloads : List (List ℕ)) (bytes : List ℕ) : Type 0 where

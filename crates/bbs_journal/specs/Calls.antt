@@ -17,7 +17,7 @@ pub record Fits {D : Type 0} (bytes : List ℕ) (journal : View D) : Type 0 wher
   pub frames : journal.frames < 2 ^ 48
 
 -- a step of so many device calls: it makes all of them where it succeeds, and no more where it fails
-pub record Takes (ok : Bool) (calls before after : ℕ) : Type 0 where
+pub record TakesCalls (ok : Bool) (calls before after : ℕ) : Type 0 where
   pub done : ok ≡ true → after ≡ before + calls
   pub most : after ≤ before + calls
 
@@ -39,13 +39,14 @@ Appended false false head payloads payload end held = Ready head payloads end he
 Appended false true head payloads payload end held = Waits head payloads payload end held
 
 -- an append to an area that holds these payloads, and what a stop leaves during it and after it
-pub record Appends (area : Area) (ok waits : Bool) (head : List ℕ) (payloads : List (List ℕ)) (payload : List ℕ) (end : ℕ) (p q : Past) : Type 0 where
+pub record Appends (area : Area) (ok waits : Bool) (head : List ℕ) (payloads : List (List ℕ)) (payload : List ℕ)
+    (end : ℕ) (p q : Past) : Type 0 where
   pub runs : Runs area (BeforeOrAfter head payloads payload) p q
   pub leaves : Appended ok waits head payloads payload end (now q area)
 
 -- whatever the area holds, this payload is appended to it
-abbrev pub Adds : Area → Bool → Bool → List ℕ → ℕ → Past → Past → Type 0
-Adds area ok waits payload end p q =
+abbrev pub AddsFrame : Area → Bool → Bool → List ℕ → ℕ → Past → Past → Type 0
+AddsFrame area ok waits payload end p q =
     (head : List ℕ) (payloads : List (List ℕ)) → Ready head payloads end (now p area) → Appends area ok waits head payloads payload end p q
 
 -- what a read gives is what it gave, with a gate of 1, the payload and a closed gate over it from this place on
@@ -57,14 +58,16 @@ abbrev pub left_of : Bool → List ℕ → Option (List ℕ)
 left_of ok payload = if ok then None else Some payload
 
 -- closing a gate in doubt, and what a stop leaves during it and after it
-pub record Mends (area : Area) (ok : Bool) (head : List ℕ) (payloads : List (List ℕ)) (payload : List ℕ) (end : ℕ) (p q : Past) : Type 0 where
+pub record Mends (area : Area) (ok : Bool) (head : List ℕ) (payloads : List (List ℕ)) (payload : List ℕ) (end : ℕ)
+    (p q : Past) : Type 0 where
   pub runs : Runs area (BeforeOrAfter head payloads payload) p q
   pub leaves : Stands head payloads (left_of ok payload) end (now q area)
 
 -- whatever payload is in doubt, its gate is closed
 abbrev pub Closes : Area → Bool → ℕ → Past → Past → Type 0
 Closes area ok end p q =
-    (head : List ℕ) (payloads : List (List ℕ)) (payload : List ℕ) → Waits head payloads payload end (now p area) → Mends area ok head payloads payload end p q
+    (head : List ℕ) (payloads : List (List ℕ)) (payload : List ℕ) → Waits head payloads payload end (now p area)
+    → Mends area ok head payloads payload end p q
 
 -- what no append and no mend changes: the area, its generation, that it has no defect, and the other gate
 pub record Stays {D : Type 0} (old new : View D) : Type 0 where
@@ -75,7 +78,7 @@ pub record Stays {D : Type 0} (old new : View D) : Type 0 where
 
 -- what a journal knows by itself after a payload of this length: where its area ends, and that only
 -- a failed append leaves something to mend
-pub record Grows {D : Type 0} (ok : Bool) (len : ℕ) (old new : View D) : Type 0 where
+pub record GrowsBy {D : Type 0} (ok : Bool) (len : ℕ) (old new : View D) : Type 0 where
   pub stays : Stays old new
   pub end : new.end ≡ (if ok then old.end + 3 + len else old.end)
   pub frames : new.frames ≡ (if ok then old.frames + 1 else old.frames)

@@ -22,8 +22,9 @@ pub record IsSized (c : Image) (active : Active) (len size : ℕ) : Type 0 where
   pub size_is : size_of active (front (c active.area)) (length (c active.area)) ≡ Ok size
 
 -- what an image is opened as, and what the front of the other area tells of its gate
-pub record IsFound (c : Image) (found : Found) : Type 0 where
-  pub opening : IsOpening c found.place.area found.place.generation found.head.items (payloads_of found.payloads.items) found.broken found.place.end
+pub record IsFoundIn (c : Image) (found : Found) : Type 0 where
+  pub opening : IsOpening c found.place.area found.place.generation found.head.items
+      (payloads_of found.payloads.items) found.broken found.place.end
   pub gate : found.place.gate ≡ gate_of (header_of (front (c (other found.place.area))))
 
 -- what is so whatever the disk has shown
@@ -35,7 +36,7 @@ pub record IsCounted (found : Found) : Type 0 where
   pub broken : found.place.broken ≡ is_some found.broken
 
 -- a journal that was just loaded: it counts the frames that were read, and nothing is in doubt
-pub record IsFresh {D : Type 0} (journal : View D) (frames : ℕ) (defect : Option ℕ) : Type 0 where
+pub record IsJustLoaded {D : Type 0} (journal : View D) (frames : ℕ) (defect : Option ℕ) : Type 0 where
   pub count : journal.frames ≡ frames
   pub mended : journal.waits ≡ false
   pub broken : journal.broken ≡ is_some defect

@@ -8,15 +8,15 @@ abbrev pub IsPayload : List ℕ → Type 0
 IsPayload payload = (1 ≤ length payload) × (length payload ≤ 512)
 
 -- what a frame holds behind its gate: the payload's length in two bytes, and its bytes
-abbrev pub spelled : List ℕ → List ℕ
-spelled payload = field_number w16 (length payload) ++ payload
+abbrev pub frame_spelled : List ℕ → List ℕ
+frame_spelled payload = field_number w16 (length payload) ++ payload
 
 -- the bytes begin with an open gate and this payload, and go on with the rest
 pub record IsFrame (payload bytes rest : List ℕ) : Type 0 where
   pub gate : ℕ
   pub is_open : 0 < gate
   pub fits : IsPayload payload
-  pub parts : bytes ≡ gate ∷ (spelled payload ++ rest)
+  pub parts : bytes ≡ gate ∷ (frame_spelled payload ++ rest)
 
 -- the bytes are a frame for each of these payloads, and nothing else
 abbrev pub Whole : List (List ℕ) → List ℕ → Type 0

@@ -39,7 +39,8 @@ AreOpened =
     → IsOpening c area generation head payloads None (23 + length head + bytes_of payloads)
 
 -- two openings are one
-pub record AreSame (area area' : Area) (generation generation' : ℕ) (head head' : List ℕ) (payloads payloads' : List (List ℕ)) (broken broken' : Option ℕ) (end end' : ℕ) : Type 0 where
+pub record AreSame (area area' : Area) (generation generation' : ℕ) (head head' : List ℕ)
+    (payloads payloads' : List (List ℕ)) (broken broken' : Option ℕ) (end end' : ℕ) : Type 0 where
   pub area_is : area ≡ area'
   pub generation_is : generation ≡ generation'
   pub head_is : head ≡ head'
@@ -50,17 +51,20 @@ pub record AreSame (area area' : Area) (generation generation' : ℕ) (head head
 -- an image is opened in one way
 abbrev pub OpensOnce : Type 0
 OpensOnce =
-    (c : Image) (area area' : Area) (generation generation' : ℕ) (head head' : List ℕ) (payloads payloads' : List (List ℕ)) (broken broken' : Option ℕ) (end end' : ℕ)
+    (c : Image) (area area' : Area) (generation generation' : ℕ) (head head' : List ℕ)
+    (payloads payloads' : List (List ℕ)) (broken broken' : Option ℕ) (end end' : ℕ)
     → IsOpening c area generation head payloads broken end → IsOpening c area' generation' head' payloads' broken' end'
     → AreSame area area' generation generation' head head' payloads payloads' broken broken' end end'
 
 -- and what is opened without a defect is what the grammar describes
 abbrev pub AreRecovered : Type 0
 AreRecovered =
-    (c : Image) (area : Area) (generation : ℕ) (head : List ℕ) (payloads : List (List ℕ)) (end : ℕ) → AreBytes (c area) → IsOpening c area generation head payloads None end
+    (c : Image) (area : Area) (generation : ℕ) (head : List ℕ) (payloads : List (List ℕ)) (end : ℕ)
+    → AreBytes (c area) → IsOpening c area generation head payloads None end
     → Recovers c area generation head payloads
 
 -- an append finds an area that was recovered, and is settled, ready: the gates of both stand at one place
 abbrev pub AreReady : Type 0
 AreReady =
-    (head : List ℕ) (payloads : List (List ℕ)) (held : Held) → IsArea head payloads held.reads → IsSettledArea held → Ready head payloads (length head + bytes_of payloads) held
+    (head : List ℕ) (payloads : List (List ℕ)) (held : Held) → IsArea head payloads held.reads → IsSettledArea held
+    → Ready head payloads (length head + bytes_of payloads) held

@@ -5,7 +5,7 @@ pub mod Other
 pub mod View
 pub mod Calls
 pub mod Opening
-pub mod Shows
+pub mod LoadFaults
 pub mod Reading
 pub mod Found
 pub mod Pieces

@@ -47,7 +47,8 @@ abbrev pub NewerIsRecovered : Type 0
 NewerIsRecovered = (c : Image) (a b : ℕ) → AreOpen c a b → HoldsTheNewer c a b
 
 -- two journals that the grammar finds in one image are one
-pub record AreOneJournal (area area' : Area) (generation generation' : ℕ) (head head' : List ℕ) (payloads payloads' : List (List ℕ)) : Type 0 where
+pub record AreOneJournal (area area' : Area) (generation generation' : ℕ) (head head' : List ℕ)
+    (payloads payloads' : List (List ℕ)) : Type 0 where
   pub area_is : area ≡ area'
   pub generation_is : generation ≡ generation'
   pub head_is : head ≡ head'

@@ -84,6 +84,7 @@ AreFrames (payload ∷ payloads) broken end at bytes =
     (rest : List ℕ) × IsFrame payload bytes rest × AreFrames payloads broken end (at + 3 + length payload) rest
 
 -- what an image is opened as
-pub record IsOpening (c : Image) (area : Area) (generation : ℕ) (head : List ℕ) (payloads : List (List ℕ)) (broken : Option ℕ) (end : ℕ) : Type 0 where
+pub record IsOpening (c : Image) (area : Area) (generation : ℕ) (head : List ℕ) (payloads : List (List ℕ))
+    (broken : Option ℕ) (end : ℕ) : Type 0 where
   pub head_is : headed c ≡ Ok (record { area = area; generation = generation; head = head })
   pub frames : AreFrames payloads broken end (23 + length head) (drop (23 + length head) (c area))

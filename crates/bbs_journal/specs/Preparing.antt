@@ -5,7 +5,7 @@ use Rattle.disk_trait.specs.Past.{Past, now, content, IsSettled}
 use Rattle.disk_trait.specs.Runs.{Extends, Runs}
 use Rattle.disk_trait.specs.declared.area.Area.TheVariants.{A, B}
 use Rattle.bbs_journal.specs.Opening.{IsOpening}
-use Rattle.bbs_journal.specs.Shows.{Peeks}
+use Rattle.disk_trait.specs.Shows.{Peeks}
 use Rattle.bbs_journal.specs.declared.preparing.PrepareFault.{PrepareFault}
 use Rattle.bbs_journal.specs.declared.preparing.PrepareFault.TheVariants.{Disk, NotEmpty}
 
@@ -51,15 +51,15 @@ PreparesBy (Err NotEmpty) p q = FindsBytes p q
 PreparesBy (Err Disk) p q = Peeks p q ⊎ PreparesInPart p q
 
 -- the disk failed
-abbrev pub is_disk_fault : Result (Unit {0}) PrepareFault → Bool
-is_disk_fault (Ok x) = false
-is_disk_fault (Err NotEmpty) = false
-is_disk_fault (Err Disk) = true
+abbrev pub is_prepare_disk_fault : Result (Unit {0}) PrepareFault → Bool
+is_prepare_disk_fault (Ok x) = false
+is_prepare_disk_fault (Err NotEmpty) = false
+is_prepare_disk_fault (Err Disk) = true
 
 -- a head without rows
-abbrev pub no_rows : List ℕ
-no_rows = 0 ∷ 0 ∷ 0 ∷ 0 ∷ 0 ∷ 0 ∷ 0 ∷ 0 ∷ 0 ∷ 0 ∷ 0 ∷ 0 ∷ 0 ∷ 0 ∷ 0 ∷ 0 ∷ 0 ∷ 0 ∷ 0 ∷ 0 ∷ 0 ∷ 0 ∷ 0 ∷ 0 ∷ []
+abbrev pub empty_head : List ℕ
+empty_head = 0 ∷ 0 ∷ 0 ∷ 0 ∷ 0 ∷ 0 ∷ 0 ∷ 0 ∷ 0 ∷ 0 ∷ 0 ∷ 0 ∷ 0 ∷ 0 ∷ 0 ∷ 0 ∷ 0 ∷ 0 ∷ 0 ∷ 0 ∷ 0 ∷ 0 ∷ 0 ∷ 0 ∷ []
 
 -- what was prepared is opened as a journal of generation 1 without frames, whose first gate is at place 47
 abbrev pub OpensEmpty : Type 0
-OpensEmpty = (p q : Past) → Prepares p q → IsOpening (content q) A 1 no_rows [] None 47
+OpensEmpty = (p q : Past) → Prepares p q → IsOpening (content q) A 1 empty_head [] None 47

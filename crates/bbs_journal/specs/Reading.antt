@@ -13,7 +13,8 @@ use Rattle.bbs_journal.specs.declared.frame.Next.TheVariants.{Frame, Gate, Defec
 unfoldable pub len_in : List ℕ → Option ℕ
 len_in bytes =
     if nat_lt (length bytes) 2 then None
-    else (let len = from_be_bytes w16 (take 2 bytes) in if len == 0 || nat_lt 512 len || nat_lt (length bytes) (2 + len) then None else Some len)
+    else (let len = from_be_bytes w16 (take 2 bytes) in
+    if len == 0 || nat_lt 512 len || nat_lt (length bytes) (2 + len) then None else Some len)
 
 -- this is what the bytes begin with
 abbrev pub IsAt : Next → List ℕ → Type 0
@@ -22,10 +23,10 @@ IsAt Gate bytes = Begins (0 ∷ []) bytes
 IsAt Defect bytes = IsBroken bytes
 
 -- a frame that was met has one of the lengths of a frame, and so many bytes hold it
-abbrev pub IsWithin : Next → ℕ → Type 0
-IsWithin (Frame payload) len = (length payload.items ≤ 512) × (3 + length payload.items ≤ len)
-IsWithin Gate len = 1 ≤ len
-IsWithin Defect len = Unit {0}
+abbrev pub IsFrameWithin : Next → ℕ → Type 0
+IsFrameWithin (Frame payload) len = (length payload.items ≤ 512) × (3 + length payload.items ≤ len)
+IsFrameWithin Gate len = 1 ≤ len
+IsFrameWithin Defect len = Unit {0}
 
 -- the lists that these hold
 abbrev pub payloads_of : {Z : Type 0} → List (Vec ℕ Z) → List (List ℕ)

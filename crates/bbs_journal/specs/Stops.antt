@@ -22,13 +22,17 @@ OpensEither image area generation head payloads payload =
 -- a stop during an append or right after it, made or failed, leaves what is opened as before or with the new payload
 abbrev pub StopsAreOpened : Type 0
 StopsAreOpened =
-    (p q : Past) (area : Area) (gate generation : ℕ) (head : List ℕ) (payloads : List (List ℕ)) (payload : List ℕ) (beside : OtherGate) (ok waits : Bool) (end : ℕ)
-    → 0 < gate → GoesWith generation head → Has (Yields beside generation) (now p (other area)) → Appends area ok waits (gate ∷ heading generation head) payloads payload end p q
+    (p q : Past) (area : Area) (gate generation : ℕ) (head : List ℕ) (payloads : List (List ℕ)) (payload : List ℕ)
+    (beside : OtherGate) (ok waits : Bool) (end : ℕ)
+    → 0 < gate → GoesWith generation head → Has (Yields beside generation) (now p (other area))
+    → Appends area ok waits (gate ∷ heading generation head) payloads payload end p q
     → (image : Image) → ImagesSince q p.clock image → OpensEither image area generation head payloads payload
 
 -- a stop after an append that was made leaves what is opened with the new payload
 abbrev pub AcknowledgedAreOpened : Type 0
 AcknowledgedAreOpened =
-    (p q : Past) (area : Area) (gate generation : ℕ) (head : List ℕ) (payloads : List (List ℕ)) (payload : List ℕ) (beside : OtherGate) (waits : Bool) (end : ℕ)
-    → 0 < gate → GoesWith generation head → Has (Yields beside generation) (now p (other area)) → Appends area true waits (gate ∷ heading generation head) payloads payload end p q
+    (p q : Past) (area : Area) (gate generation : ℕ) (head : List ℕ) (payloads : List (List ℕ)) (payload : List ℕ)
+    (beside : OtherGate) (waits : Bool) (end : ℕ)
+    → 0 < gate → GoesWith generation head → Has (Yields beside generation) (now p (other area))
+    → Appends area true waits (gate ∷ heading generation head) payloads payload end p q
     → (image : Image) → Images q image → OpensAs image area generation head (payloads ++ payload ∷ [])

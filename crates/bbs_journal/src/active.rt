@@ -2,7 +2,7 @@
 ghost use Rattle.std.specs.Prelude.{◌≡◌, false, IfErr};
 ghost use Rattle.bbs_journal.specs.Opening.{active_of, newer};
 ghost use Rattle.bbs_journal.specs.Header.{gate_of};
-ghost use Rattle.bbs_journal.specs.Shows.{is_disk_fault};
+ghost use Rattle.bbs_journal.specs.LoadFaults.{is_load_disk_fault};
 
 use crate::header::Header;
 use crate::{LoadFault, OtherGate};
@@ -21,7 +21,7 @@ pub(crate) struct Active {
 /// Both areas are open, with these generations.
 fn choose_newer(a: u64, b: u64) -> Result<Active, LoadFault>
     ensures value { result ≡ newer a b }
-    ensures told { IfErr result (λ e. is_disk_fault e ≡ false) }
+    ensures told { IfErr result (λ e. is_load_disk_fault e ≡ false) }
 {
     if a == b {
         return Err(LoadFault::Damaged {
@@ -44,7 +44,7 @@ fn choose_newer(a: u64, b: u64) -> Result<Active, LoadFault>
 /// These are the headers of both areas.
 pub(crate) fn choose(a: Header, b: Header) -> Result<Active, LoadFault>
     ensures value { result ≡ active_of a b }
-    ensures told { IfErr result (λ e. is_disk_fault e ≡ false) }
+    ensures told { IfErr result (λ e. is_load_disk_fault e ≡ false) }
 {
     match a {
         Header::Foreign => Err(LoadFault::NotABoard { area: Area::A }),

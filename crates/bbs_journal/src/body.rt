@@ -1,6 +1,6 @@
 //! The bytes of a new frame behind its gate.
 ghost use Rattle.std.specs.Prelude.{◌≡◌, ◌+◌, ◌≤◌, length, take};
-ghost use Rattle.wire_fields.specs.Field.{Puts};
+ghost use Rattle.wire_fields.specs.Field.{PutsText};
 ghost use Rattle.bbs_journal.specs.Frames.{IsPayload};
 ghost use Rattle.bbs_journal.specs.Areas.{body_of};
 
@@ -16,7 +16,7 @@ const CLOSED: u8 = 0;
 /// Writes the payload's bytes, and gives the place after them.
 fn put_payload(out: &mut [u8], at: usize, payload: &[u8]) -> usize
     requires { at + length payload.now ≤ length out.old }
-    ensures { Puts out.old at payload.now out.new result }
+    ensures { PutsText out.old at payload.now out.new result }
 {
     let after = at + payload.len();
     out[at..after].copy_from_slice(payload);

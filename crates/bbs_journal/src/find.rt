@@ -4,8 +4,9 @@ ghost use Rattle.byte_ports.specs.Cause.{HasCause};
 ghost use Rattle.disk_trait.specs.Past.{Image};
 ghost use Rattle.disk_trait.specs.Steps.{Goes};
 ghost use Rattle.bbs_journal.specs.Opening.{headed};
-ghost use Rattle.bbs_journal.specs.Shows.{Shows, Peeks, is_disk_fault, IsFree, Fails, failed};
-ghost use Rattle.bbs_journal.specs.Found.{IsChosen, IsSized, IsFound, IsCounted};
+ghost use Rattle.bbs_journal.specs.LoadFaults.{is_load_disk_fault, IsFree, Fails, failed};
+ghost use Rattle.disk_trait.specs.Shows.{Shows, Peeks};
+ghost use Rattle.bbs_journal.specs.Found.{IsChosen, IsSized, IsFoundIn, IsCounted};
 
 use crate::active::{Active, choose, gate_in};
 use crate::frame_list::read_frames;
@@ -39,7 +40,7 @@ fn choose_area<D: Disk>(disk: &mut D) -> Result<Chosen, LoadFault>
     ensures fault { IfErr result (λ e. (c : Image) → Shows (D.told disk.new) c →
         Fails e (headed c)) }
     ensures does { Goes (D.told disk.old) (D.told disk.new) Peeks }
-    ensures cause { HasCause (failed is_disk_fault result)
+    ensures cause { HasCause (failed is_load_disk_fault result)
         (D.fault_count disk.old) (D.fault_count disk.new) }
 {
     let a = look(disk, Area::A)?;
@@ -74,7 +75,7 @@ fn read_head<D: Disk>(
         23 + size ≤ length (c area) → v.items ≡ take size (drop 23 (c area))) }
     ensures free { IfErr result IsFree }
     ensures does { Goes (D.told disk.old) (D.told disk.new) Peeks }
-    ensures cause { HasCause (failed is_disk_fault result)
+    ensures cause { HasCause (failed is_load_disk_fault result)
         (D.fault_count disk.old) (D.fault_count disk.new) }
 {
     let mut head = Vec::from_elem(alloc, 0u8, size as usize)?;
@@ -92,11 +93,11 @@ fn read_sized<D: Disk>(
 ) -> Result<Found, LoadFault>
     requires { 23 + size ≤ len }
     ensures shows { IfOk result (λ f. (c : Image) → Shows (D.told disk.new) c →
-        IsChosen c chosen → IsSized c chosen.active len size → IsFound c f) }
+        IsChosen c chosen → IsSized c chosen.active len size → IsFoundIn c f) }
     ensures counts { IfOk result IsCounted }
     ensures free { IfErr result IsFree }
     ensures does { Goes (D.told disk.old) (D.told disk.new) Peeks }
-    ensures cause { HasCause (failed is_disk_fault result)
+    ensures cause { HasCause (failed is_load_disk_fault result)
         (D.fault_count disk.old) (D.fault_count disk.new) }
 {
     let area = chosen.active.area;
@@ -120,12 +121,12 @@ fn read_sized<D: Disk>(
 
 fn read_area<D: Disk>(alloc: Global, disk: &mut D, chosen: Chosen) -> Result<Found, LoadFault>
     ensures shows { IfOk result (λ f. (c : Image) → Shows (D.told disk.new) c →
-        IsChosen c chosen → IsFound c f) }
+        IsChosen c chosen → IsFoundIn c f) }
     ensures counts { IfOk result IsCounted }
     ensures fault { IfErr result (λ e. (c : Image) → Shows (D.told disk.new) c →
         IsChosen c chosen → Fails e (headed c)) }
     ensures does { Goes (D.told disk.old) (D.told disk.new) Peeks }
-    ensures cause { HasCause (failed is_disk_fault result)
+    ensures cause { HasCause (failed is_load_disk_fault result)
         (D.fault_count disk.old) (D.fault_count disk.new) }
 {
     let len = measure(disk, chosen.active.area)?;
@@ -137,12 +138,12 @@ fn read_area<D: Disk>(alloc: Global, disk: &mut D, chosen: Chosen) -> Result<Fou
 
 /// Both areas' first bytes tell which of them is read; then come its head and all its frames.
 pub(crate) fn find<D: Disk>(alloc: Global, disk: &mut D) -> Result<Found, LoadFault>
-    ensures shows { IfOk result (λ f. (c : Image) → Shows (D.told disk.new) c → IsFound c f) }
+    ensures shows { IfOk result (λ f. (c : Image) → Shows (D.told disk.new) c → IsFoundIn c f) }
     ensures counts { IfOk result IsCounted }
     ensures fault { IfErr result (λ e. (c : Image) → Shows (D.told disk.new) c →
         Fails e (headed c)) }
     ensures does { Goes (D.told disk.old) (D.told disk.new) Peeks }
-    ensures cause { HasCause (failed is_disk_fault result)
+    ensures cause { HasCause (failed is_load_disk_fault result)
         (D.fault_count disk.old) (D.fault_count disk.new) }
 {
     let chosen = choose_area(disk)?;

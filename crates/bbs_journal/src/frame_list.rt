@@ -3,10 +3,11 @@ ghost use Rattle.std.specs.Prelude.{◌≡◌, ◌+◌, ◌-◌, ◌*◌, ◌≤
 ghost use Rattle.byte_ports.specs.Cause.{HasCause};
 ghost use Rattle.disk_trait.specs.Past.{Image};
 ghost use Rattle.disk_trait.specs.Steps.{Goes};
-ghost use Rattle.bbs_journal.specs.Shows.{Shows, Peeks, is_disk_fault, IsFree, failed};
+ghost use Rattle.bbs_journal.specs.LoadFaults.{is_load_disk_fault, IsFree, failed};
+ghost use Rattle.disk_trait.specs.Shows.{Shows, Peeks};
 ghost use Rattle.bbs_journal.specs.Opening.{AreFrames};
 ghost use Rattle.bbs_journal.specs.Pieces.{StartsBy, IsPieceOf};
-ghost use Rattle.bbs_journal.specs.Reading.{IsAt, IsWithin, payloads_of, bytes_of};
+ghost use Rattle.bbs_journal.specs.Reading.{IsAt, IsFrameWithin, payloads_of, bytes_of};
 
 use crate::LoadFault;
 use crate::frame::{Next, next_frame};
@@ -38,10 +39,10 @@ fn read_next<D: Disk>(
     ensures shows { IfOk result (λ next. (c : Image) → Shows (D.told disk.new) c →
         len ≡ length (c area) → IsPieceOf piece.old (c area) →
         IsPieceOf piece.new (c area) × IsAt next (drop at (c area))) }
-    ensures within { IfOk result (λ next. IsWithin next (len - at)) }
+    ensures within { IfOk result (λ next. IsFrameWithin next (len - at)) }
     ensures free { IfErr result IsFree }
     ensures does { Goes (D.told disk.old) (D.told disk.new) Peeks }
-    ensures cause { HasCause (failed is_disk_fault result)
+    ensures cause { HasCause (failed is_load_disk_fault result)
         (D.fault_count disk.old) (D.fault_count disk.new) }
 {
     piece.reach(disk, area, at, len)?;
@@ -66,7 +67,7 @@ pub(crate) fn read_frames<D: Disk>(
     ensures few { IfOk result (λ f. f.end ≤ start + 515 * length f.payloads.items) }
     ensures free { IfErr result IsFree }
     ensures does { Goes (D.told disk.old) (D.told disk.new) Peeks }
-    ensures cause { HasCause (failed is_disk_fault result)
+    ensures cause { HasCause (failed is_load_disk_fault result)
         (D.fault_count disk.old) (D.fault_count disk.new) }
 {
     let mut payloads = Vec::new(alloc);

@@ -1,6 +1,6 @@
 //! Whether the head of the area that is read fits in it, and goes with its generation.
 ghost use Rattle.std.specs.Prelude.{◌≡◌, ◌+◌, ◌<◌, ◌≤◌, false, length, IfOk, IfErr};
-ghost use Rattle.bbs_journal.specs.Shows.{is_disk_fault};
+ghost use Rattle.bbs_journal.specs.LoadFaults.{is_load_disk_fault};
 ghost use Rattle.bbs_journal.specs.Opening.{size_in, is_ahead, size_of};
 
 use crate::LoadFault;
@@ -26,7 +26,7 @@ fn runs_ahead(generation: u64, front: &[u8]) -> bool
 pub(crate) fn check_head(active: Active, front: &[u8], len: u64) -> Result<u32, LoadFault>
     ensures value { result ≡ size_of active front.now len }
     ensures fits { IfOk result (λ size. 23 + size ≤ len) }
-    ensures told { IfErr result (λ e. is_disk_fault e ≡ false) }
+    ensures told { IfErr result (λ e. is_load_disk_fault e ≡ false) }
 {
     let area = active.area;
     if active.generation == 0 {

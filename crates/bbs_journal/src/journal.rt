@@ -6,7 +6,7 @@ ghost use Rattle.byte_ports.specs.Cause.{HasCause};
 ghost use Rattle.disk_trait.specs.Steps.{Goes};
 ghost use Rattle.bbs_journal.specs.Frames.{IsPayload};
 ghost use Rattle.bbs_journal.specs.View.{IsKept};
-ghost use Rattle.bbs_journal.specs.Calls.{Adds, WritesFrame, Closes, Grows, Settles, Fits, Takes, mend_calls};
+ghost use Rattle.bbs_journal.specs.Calls.{AddsFrame, WritesFrame, Closes, GrowsBy, Settles, Fits, TakesCalls, mend_calls};
 
 use crate::body::{LONGEST, put_body};
 use crate::place::Place;
@@ -93,14 +93,14 @@ impl<D: Disk> Journal<D> {
     pub fn append(&mut self, payload: &[u8]) -> Result<(), DiskFault>
         requires { Fits payload.now self.old }
         ensures does { Goes (D.told self.old.disk) (D.told self.new.disk)
-            (Adds self.old.area (is_ok result) self.new.waits payload.now self.old.end) }
+            (AddsFrame self.old.area (is_ok result) self.new.waits payload.now self.old.end) }
         ensures bytes { is_ok result ≡ true → Goes (D.told self.old.disk) (D.told self.new.disk)
             (WritesFrame self.old.area self.old.end payload.now) }
-        ensures calls { Takes (is_ok result) 4
+        ensures calls { TakesCalls (is_ok result) 4
             (D.moment self.old.disk) (D.moment self.new.disk) }
         ensures cause { HasCause (is_err result)
             (D.fault_count self.old.disk) (D.fault_count self.new.disk) }
-        ensures grows { Grows (is_ok result) (length payload.now) self.old self.new }
+        ensures grows { GrowsBy (is_ok result) (length payload.now) self.old self.new }
     {
         let mut body = [0u8; LONGEST];
         let len = put_body(&mut body, payload);
@@ -122,7 +122,7 @@ impl<D: Disk> Journal<D> {
             (Closes self.old.area (is_ok result) self.old.end) }
         ensures cause { HasCause (is_err result)
             (D.fault_count self.old.disk) (D.fault_count self.new.disk) }
-        ensures calls { Takes (is_ok result) (mend_calls self.old.waits)
+        ensures calls { TakesCalls (is_ok result) (mend_calls self.old.waits)
             (D.moment self.old.disk) (D.moment self.new.disk) }
         ensures settles { Settles (is_ok result) self.old self.new }
     {

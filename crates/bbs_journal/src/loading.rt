@@ -7,8 +7,9 @@ ghost use Rattle.disk_trait.specs.Steps.{Goes};
 ghost use Rattle.bbs_journal.specs.View.{IsKept};
 ghost use Rattle.bbs_journal.specs.Opening.{headed, IsOpening};
 ghost use Rattle.bbs_journal.specs.Reading.{payloads_of, bytes_of};
-ghost use Rattle.bbs_journal.specs.Shows.{Shows, Keeps, Secures, is_disk_fault, Fails, failed};
-ghost use Rattle.bbs_journal.specs.Found.{IsFound, IsCounted, IsFresh};
+ghost use Rattle.bbs_journal.specs.LoadFaults.{is_load_disk_fault, Fails, failed};
+ghost use Rattle.disk_trait.specs.Shows.{Shows, KeepsContent, Secures};
+ghost use Rattle.bbs_journal.specs.Found.{IsFoundIn, IsCounted, IsJustLoaded};
 
 use crate::find::{Found, find};
 use crate::look::settle;
@@ -27,15 +28,15 @@ pub struct Loaded<D: Disk> {
 }
 
 fn read_disk<D: Disk>(alloc: Global, disk: &mut D) -> Result<Found, LoadFault>
-    ensures shows { IfOk result (λ f. (c : Image) → Shows (D.told disk.new) c → IsFound c f) }
+    ensures shows { IfOk result (λ f. (c : Image) → Shows (D.told disk.new) c → IsFoundIn c f) }
     ensures counts { IfOk result IsCounted }
     ensures kept { IfOk result (λ f. ForSome (D.told disk.new) (IsKept f.place.area
         f.place.generation f.place.end f.place.frames false f.place.broken f.place.gate)) }
     ensures fault { IfErr result (λ e. (c : Image) → Shows (D.told disk.new) c →
         Fails e (headed c)) }
     ensures ok { IfOk result (λ f. Goes (D.told disk.old) (D.told disk.new) Secures) }
-    ensures err { IfErr result (λ e. Goes (D.told disk.old) (D.told disk.new) Keeps) }
-    ensures cause { HasCause (failed is_disk_fault result)
+    ensures err { IfErr result (λ e. Goes (D.told disk.old) (D.told disk.new) KeepsContent) }
+    ensures cause { HasCause (failed is_load_disk_fault result)
         (D.fault_count disk.old) (D.fault_count disk.new) }
 {
     settle(disk)?;
@@ -50,13 +51,13 @@ pub fn load<D: Disk>(alloc: Global, mut disk: D) -> Result<Loaded<D>, (D, LoadFa
         (payloads_of l.frames.items) l.broken l.journal.end) }
     ensures end { IfOk result (λ l. l.journal.end ≡
         23 + length l.head.items + bytes_of (payloads_of l.frames.items)) }
-    ensures fresh { IfOk result (λ l. IsFresh l.journal (length l.frames.items) l.broken) }
+    ensures fresh { IfOk result (λ l. IsJustLoaded l.journal (length l.frames.items) l.broken) }
     ensures fault { IfErr result (λ e. (c : Image) → Shows (D.told e.0) c →
         Fails e.1 (headed c)) }
     ensures ok { IfOk result (λ l. Goes (D.told disk) (D.told l.journal.disk) Secures) }
-    ensures err { IfErr result (λ e. Goes (D.told disk) (D.told e.0) Keeps) }
+    ensures err { IfErr result (λ e. Goes (D.told disk) (D.told e.0) KeepsContent) }
     ensures stood { IfOk result (λ l. D.fault_count l.journal.disk ≡ D.fault_count disk) }
-    ensures cause { IfErr result (λ e. HasCause (is_disk_fault e.1)
+    ensures cause { IfErr result (λ e. HasCause (is_load_disk_fault e.1)
         (D.fault_count disk) (D.fault_count e.0)) }
 {
     match read_disk(alloc, &mut disk) {

@@ -5,7 +5,7 @@ ghost use Rattle.byte_ports.specs.Cause.{HasCause};
 ghost use Rattle.disk_trait.specs.Past.{Image};
 ghost use Rattle.disk_trait.specs.Steps.{Goes};
 ghost use Rattle.bbs_journal.specs.Header.{front};
-ghost use Rattle.bbs_journal.specs.Shows.{Shows, Peeks, Syncs};
+ghost use Rattle.disk_trait.specs.Shows.{Shows, Peeks, Syncs};
 
 use crate::header::FRONT;
 use byte_ports::Failed;

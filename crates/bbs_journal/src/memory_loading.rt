@@ -4,10 +4,11 @@ ghost use Rattle.byte_ports.specs.Cause.{HasCause};
 ghost use Rattle.disk_trait.specs.Memory.{memory_past, faults_of};
 ghost use Rattle.disk_trait.specs.Past.{Image};
 ghost use Rattle.disk_trait.specs.Steps.{Goes};
-ghost use Rattle.bbs_journal.specs.Found.{IsFresh};
+ghost use Rattle.bbs_journal.specs.Found.{IsJustLoaded};
 ghost use Rattle.bbs_journal.specs.Opening.{headed, IsOpening};
 ghost use Rattle.bbs_journal.specs.Reading.{payloads_of, bytes_of};
-ghost use Rattle.bbs_journal.specs.Shows.{Shows, Keeps, Secures, is_disk_fault, Fails};
+ghost use Rattle.bbs_journal.specs.LoadFaults.{is_load_disk_fault, Fails};
+ghost use Rattle.disk_trait.specs.Shows.{Shows, KeepsContent, Secures};
 
 use crate::{LoadFault, Loaded, load};
 use disk_trait::MemoryDisk;
@@ -24,14 +25,14 @@ pub fn load_from_memory(
         (payloads_of l.frames.items) l.broken l.journal.end) }
     ensures end { IfOk result (λ l. l.journal.end ≡
         23 + length l.head.items + bytes_of (payloads_of l.frames.items)) }
-    ensures fresh { IfOk result (λ l. IsFresh l.journal (length l.frames.items) l.broken) }
+    ensures fresh { IfOk result (λ l. IsJustLoaded l.journal (length l.frames.items) l.broken) }
     ensures fault { IfErr result (λ e. (c : Image) → Shows (Some (memory_past disk)) c →
         Fails e.1 (headed c)) }
     ensures ok { IfOk result (λ l. Goes (Some (memory_past disk))
         (Some (memory_past l.journal.disk)) Secures) }
-    ensures err { IfErr result (λ e. Goes (Some (memory_past disk)) (Some (memory_past e.0)) Keeps) }
+    ensures err { IfErr result (λ e. Goes (Some (memory_past disk)) (Some (memory_past e.0)) KeepsContent) }
     ensures stood { IfOk result (λ l. faults_of l.journal.disk ≡ faults_of disk) }
-    ensures cause { IfErr result (λ e. HasCause (is_disk_fault e.1)
+    ensures cause { IfErr result (λ e. HasCause (is_load_disk_fault e.1)
         (faults_of disk) (faults_of e.0)) }
 {
     load(alloc, disk)

@@ -4,7 +4,7 @@ ghost use Rattle.byte_ports.specs.Cause.{HasCause};
 ghost use Rattle.disk_trait.specs.Past.{Image};
 ghost use Rattle.disk_trait.specs.Steps.{Goes};
 ghost use Rattle.bbs_journal.specs.Pieces.{StartsBy, Covers, Reaches, IsPieceOf, part_of};
-ghost use Rattle.bbs_journal.specs.Shows.{Shows, Peeks};
+ghost use Rattle.disk_trait.specs.Shows.{Shows, Peeks};
 
 use crate::body::LONGEST;
 use byte_ports::Failed;

@@ -2,7 +2,7 @@
 ghost use Rattle.std.specs.Prelude.{◌≡◌};
 ghost use Rattle.byte_ports.specs.Cause.{HasCause};
 ghost use Rattle.disk_trait.specs.Steps.{Goes};
-ghost use Rattle.bbs_journal.specs.Preparing.{PreparesBy, OpensEmpty, is_disk_fault};
+ghost use Rattle.bbs_journal.specs.Preparing.{PreparesBy, OpensEmpty, is_prepare_disk_fault};
 ghost use Rattle.bbs_journal.specs.declared.preparing.PrepareFault.TheVariants as faults;
 
 use byte_ports::Failed;
@@ -37,7 +37,7 @@ impl From<Failed> for PrepareFault {
 /// and takes no memory.
 pub fn prepare<D: Disk>(disk: &mut D) -> Result<(), PrepareFault>
     ensures does { Goes (D.told disk.old) (D.told disk.new) (PreparesBy result) }
-    ensures cause { HasCause (is_disk_fault result)
+    ensures cause { HasCause (is_prepare_disk_fault result)
         (D.fault_count disk.old) (D.fault_count disk.new) }
 {
     let a = disk.len(Area::A)?;

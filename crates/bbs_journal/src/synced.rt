@@ -4,7 +4,7 @@ ghost use Rattle.std.specs.Option.{ForSome};
 ghost use Rattle.byte_ports.specs.Cause.{HasCause};
 ghost use Rattle.disk_trait.specs.Past.{content};
 ghost use Rattle.disk_trait.specs.Steps.{Goes};
-ghost use Rattle.bbs_journal.specs.Calls.{WritesSynced, Takes};
+ghost use Rattle.bbs_journal.specs.Calls.{WritesSynced, TakesCalls};
 
 use byte_ports::Failed;
 use disk_trait::{Area, Disk};
@@ -19,7 +19,7 @@ pub(crate) fn write_synced<D: Disk>(
     requires { ForSome (D.told disk.old) (λ p. at ≤ length (content p area)) }
     ensures does { Goes (D.told disk.old) (D.told disk.new)
         (WritesSynced (is_ok result) area at bytes.now) }
-    ensures calls { Takes (is_ok result) 2 (D.moment disk.old) (D.moment disk.new) }
+    ensures calls { TakesCalls (is_ok result) 2 (D.moment disk.old) (D.moment disk.new) }
     ensures cause { HasCause (is_err result) (D.fault_count disk.old) (D.fault_count disk.new) }
 {
     disk.write_at(area, at, bytes)?;

@@ -6,7 +6,7 @@ use Rattle.disk_trait.specs.Held.{Held, AreBytes, Torn}
 use Rattle.disk_trait.specs.Steps.{Wrote, overwritten, pend, range_of}
 use Rattle.disk_trait.specs.declared.deed.Deed.TheVariants.{Write}
 use Rattle.disk_trait.specs.Deeds.{undone, before, range_named, Sound, held_after, held_until, settled_on, NumberedTo}
-use Rattle.disk_trait.specs.MemoryPast.{held_at, Adds}
+use Rattle.disk_trait.specs.MemoryPast.{held_at, AddsStep}
 use Rattle.disk_trait.specs.declared.deed.Entry.{Entry}
 use Rattle.disk_trait.specs.declared.memory_area.MemoryArea.{MemoryArea}
 use Rattle.disk_trait.proofs.DeedLemmas.{before_push, numbered_later, numbered_push, until_earlier, until_push, until_all, reads_all, sound_push}
@@ -17,7 +17,7 @@ reads_now clock area numbered = reads_all clock area.entries.items _ area.bytes.
 
 -- one deed more
 pub adds : (clock : ℕ) (old new : MemoryArea) (entry : Entry) (Step : Held → Held → Type 0) → NumberedTo clock old.entries.items → new.entries.items ≡ old.entries.items ++ entry ∷ [] → entry.call ≡ clock + 1
-    → undone entry.deed new.bytes.items ≡ old.bytes.items → ((held : Held) → held.reads ≡ old.bytes.items → Step held (held_after entry.deed held new.bytes.items)) → Adds clock Step old new
+    → undone entry.deed new.bytes.items ≡ old.bytes.items → ((held : Held) → held.reads ≡ old.bytes.items → Step held (held_after entry.deed held new.bytes.items)) → AddsStep clock Step old new
 adds clock old new entry Step numbered more call undoes step = record {
   earlier = λ m le.
       ap (λ (es : List Entry). held_until m es (settled_on (before es new.bytes.items)) new.bytes.items) more
@@ -42,7 +42,7 @@ adds clock old new entry Step numbered more call undoes step = record {
 
 -- no deed more
 pub rests : (clock : ℕ) (old new : MemoryArea) (Step : Held → Held → Type 0) → NumberedTo clock old.entries.items → new.entries.items ≡ old.entries.items → new.bytes.items ≡ old.bytes.items
-    → ((held : Held) → Step held held) → Adds clock Step old new
+    → ((held : Held) → Step held held) → AddsStep clock Step old new
 rests clock old new Step numbered entries bytes step = record {
   earlier = λ m le. same m;
   step = subst (Step (held_at old clock)) (sym (same (clock + 1) ∙ until_all (clock + 1) clock old.entries.items (settled_on (before old.entries.items old.bytes.items)) old.bytes.items later numbered)) (step (held_at old clock));
@@ -58,7 +58,7 @@ rests clock old new Step numbered entries bytes step = record {
 
 -- a call for which there was no memory
 pub refused : {T E : Type 0} (result : Result T E) (clock : ℕ) (old new : MemoryArea) (Step : Bool → Held → Held → Type 0) → IsErr result → NumberedTo clock old.entries.items → new.entries.items ≡ old.entries.items → new.bytes.items ≡ old.bytes.items
-    → ((held : Held) → Step false held held) → Adds clock (Step (is_ok result)) old new
+    → ((held : Held) → Step false held held) → AddsStep clock (Step (is_ok result)) old new
 refused (Ok x) clock old new Step is numbered entries bytes step = absurd (cc)
 refused (Err e) clock old new Step is numbered entries bytes step = rests clock old new (Step false) numbered entries bytes step
 

@@ -3,9 +3,9 @@ use Rattle.std.proofs.Common.{◌≡◌, inl, inr, ℕ, ◌+◌, ◌-◌, ◌<�
 use Rattle.std.proofs.lemmas.Bool.Decides.{leb_tells, nat_tests}
 use Rattle.disk_trait.specs.Held.{Held}
 use Rattle.disk_trait.specs.Past.{Past, content, other}
-use Rattle.disk_trait.specs.Steps.{Looks, Changes, Ticks}
+use Rattle.disk_trait.specs.Steps.{ChangesNothing, Changes, Ticks}
 use Rattle.disk_trait.specs.Deeds.{NumberedTo}
-use Rattle.disk_trait.specs.MemoryPast.{held_at, Adds}
+use Rattle.disk_trait.specs.MemoryPast.{held_at, AddsStep}
 use Rattle.disk_trait.specs.MemoryAreas.{part, Numbered, Same, Moves, past_of}
 use Rattle.disk_trait.specs.declared.area.Area.{Area}
 use Rattle.disk_trait.specs.declared.area.Area.TheVariants.{A, B}
@@ -13,12 +13,12 @@ use Rattle.disk_trait.specs.declared.areas.Areas.{Areas}
 use Rattle.disk_trait.proofs.DeedLemmas.{numbered_later}
 use Rattle.disk_trait.proofs.AreaLemmas.{rests, reads_now}
 
-pub moves_a : (clock : ℕ) (area : Area) (Step : Held → Held → Type 0) (old new : Areas) → area ≡ A → Numbered clock old → new.b ≡ old.b → Adds clock Step old.a new.a → Moves clock area Step old new
+pub moves_a : (clock : ℕ) (area : Area) (Step : Held → Held → Type 0) (old new : Areas) → area ≡ A → Numbered clock old → new.b ≡ old.b → AddsStep clock Step old.a new.a → Moves clock area Step old new
 moves_a clock area Step old new is numbered same here =
     subst (λ (x : Area). Moves clock x Step old new) (sym is)
     (record { here = here; there = rests clock old.b new.b Same numbered.1 (ap (λ m. m.entries.items) same) (ap (λ m. m.bytes.items) same) (λ held. refl) })
 
-pub moves_b : (clock : ℕ) (area : Area) (Step : Held → Held → Type 0) (old new : Areas) → area ≡ B → Numbered clock old → new.a ≡ old.a → Adds clock Step old.b new.b → Moves clock area Step old new
+pub moves_b : (clock : ℕ) (area : Area) (Step : Held → Held → Type 0) (old new : Areas) → area ≡ B → Numbered clock old → new.a ≡ old.a → AddsStep clock Step old.b new.b → Moves clock area Step old new
 moves_b clock area Step old new is numbered same here =
     subst (λ (x : Area). Moves clock x Step old new) (sym is)
     (record { here = here; there = rests clock old.a new.a Same numbered.0 (ap (λ m. m.entries.items) same) (ap (λ m. m.bytes.items) same) (λ held. refl) })
@@ -54,13 +54,13 @@ part_numbered clock areas A numbered = numbered.0
 part_numbered clock areas B numbered = numbered.1
 
 -- a moment more, in which nothing changes
-pub looks_on : (clock : ℕ) (areas : Areas) → Numbered clock areas → Looks (past_of areas clock) (past_of areas (clock + 1))
+pub looks_on : (clock : ℕ) (areas : Areas) → Numbered clock areas → ChangesNothing (past_of areas clock) (past_of areas (clock + 1))
 looks_on clock areas numbered = record {
   time = record { later = omega arith; by_one = omega arith; before = λ m le. refl };
   same = λ area. (rests clock (part areas area) (part areas area) Same (part_numbered clock areas area numbered) refl refl (λ held. refl)).step;
 }
 
-pub looks_still : (p : Past) → Looks p p
+pub looks_still : (p : Past) → ChangesNothing p p
 looks_still p = record {
   time = record { later = omega arith; by_one = omega arith; before = λ m le. refl };
   same = λ area. refl;
@@ -76,10 +76,10 @@ pub ticked_later : (ok : Bool) (m n : ℕ) → Ticks ok m n → m ≤ n
 ticked_later ok m n time = elim (leb_tells (2 ^ 64 - 1) m) [ inl last ↦ omega (arith, time.last last.1) | inr goes ↦ omega (arith, time.goes goes.1) ]
 
 -- a call that changes nothing, whether the clock goes on or stands at its last value
-pub ticked_looks : (ok : Bool) (m n : ℕ) (areas : Areas) → Ticks ok m n → Numbered m areas → Looks (past_of areas m) (past_of areas n)
+pub ticked_looks : (ok : Bool) (m n : ℕ) (areas : Areas) → Ticks ok m n → Numbered m areas → ChangesNothing (past_of areas m) (past_of areas n)
 ticked_looks ok m n areas time numbered = elim (leb_tells (2 ^ 64 - 1) m) [
-  | inl last ↦ subst (λ (k : ℕ). Looks (past_of areas m) (past_of areas k)) (sym (time.last last.1)) (looks_still (past_of areas m))
-  | inr goes ↦ subst (λ (k : ℕ). Looks (past_of areas m) (past_of areas k)) (sym (time.goes goes.1)) (looks_on m areas numbered)
+  | inl last ↦ subst (λ (k : ℕ). ChangesNothing (past_of areas m) (past_of areas k)) (sym (time.last last.1)) (looks_still (past_of areas m))
+  | inr goes ↦ subst (λ (k : ℕ). ChangesNothing (past_of areas m) (past_of areas k)) (sym (time.goes goes.1)) (looks_on m areas numbered)
 ]
 
 or_false : (x y : Bool) → (x || y) ≡ false → x ≡ false

@@ -5,7 +5,7 @@ use Rattle.std.proofs.lemmas.Bool.Decides.{leb_tells}
 use Rattle.disk_trait.proofs.Ranges.{torn_overwritten}
 use Rattle.disk_trait.specs.Held.{Held, Range, Torn, Leaves, Has, AreBytes, IsSettledArea}
 use Rattle.disk_trait.specs.Past.{Past, now, content, other, Image, ImagesSince, Images}
-use Rattle.disk_trait.specs.Steps.{Elapses, Looks, Changes, Wrote, Synced, pend, settle, range_of, overwritten}
+use Rattle.disk_trait.specs.Steps.{Elapses, ChangesNothing, Changes, Wrote, Synced, pend, settle, range_of, overwritten}
 use Rattle.disk_trait.specs.Runs.{Extends, Runs, Turns}
 use Rattle.disk_trait.specs.declared.area.Area.{Area}
 
@@ -81,7 +81,7 @@ pub sync_has : (P : List ℕ → Type 0) (ok : Bool) (area : Area) (p q : Past) 
 sync_has P true area p q changes has = synced_has P area p q changes has.reads
 sync_has P false area p q changes has = sync_failed_has P area p q changes has
 
-pub looks_has : (P : List ℕ → Type 0) (area : Area) (p q : Past) → Looks p q → Has P (now p area) → Has P (now q area)
+pub looks_has : (P : List ℕ → Type 0) (area : Area) (p q : Past) → ChangesNothing p q → Has P (now p area) → Has P (now q area)
 looks_has P area p q looks has = subst (Has P) (sym (looks.same area)) has
 
 -- the other area has what it had
@@ -120,7 +120,7 @@ runs_change P area Step p q changes before after = record {
 }
 
 -- a call that changes nothing
-pub runs_look : (P : List ℕ → Type 0) (area : Area) (p q : Past) → Looks p q → Has P (now p area) → Runs area P p q
+pub runs_look : (P : List ℕ → Type 0) (area : Area) (p q : Past) → ChangesNothing p q → Has P (now p area) → Runs area P p q
 runs_look P area p q looks before = record {
   extends = elapses_extends p q looks.time;
   each = two_moments p q area (λ h. (left : List ℕ) → Leaves h left → P left) looks.time before.leaves (looks_has P area p q looks before).leaves;

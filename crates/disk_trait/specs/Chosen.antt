@@ -46,4 +46,5 @@ Chooses torn deed left after next =
 -- the same over those of the deeds whose calls came up to this moment
 abbrev pub ChoosesAll : Torn → ℕ → List Entry → List ℕ → List ℕ → List ℕ → Type 0
 ChoosesAll torn moment entries bytes left last =
-    (held : Held) → held.reads ≡ before entries bytes → left ≡ left_as torn held → last ≡ left_as torn (held_until moment entries held bytes)
+    (held : Held) → held.reads ≡ before entries bytes → left ≡ left_as torn held
+    → last ≡ left_as torn (held_until moment entries held bytes)

@@ -29,7 +29,8 @@ range_named Sync = record { from = 0; len = 0 }
 abbrev pub Sound : List Entry → List ℕ → Type 0
 Sound [] after = AreBytes after
 Sound (entry ∷ entries) after =
-    AreBytes (before (entry ∷ entries) after) × Torn (range_named entry.deed) (before (entry ∷ entries) after) (before entries after) × Sound entries after
+    AreBytes (before (entry ∷ entries) after)
+    × Torn (range_named entry.deed) (before (entry ∷ entries) after) (before entries after) × Sound entries after
 
 -- what the area holds after the deed, where reads give these bytes then
 abbrev pub held_after : Deed → Held → List ℕ → Held

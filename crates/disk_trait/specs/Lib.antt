@@ -9,3 +9,4 @@ pub mod MemoryAreas
 pub mod Memory
 pub mod Picks
 pub mod Chosen
+pub mod Shows

@@ -32,7 +32,7 @@ abbrev pub fails_next : MemoryDisk → Bool
 fails_next disk = (calls_of disk == 2 ^ 64 - 1) || list_any (λ n. n == calls_of disk + 1) (failing_of disk)
 
 -- such a call fails, and any other only where there was no memory for it
-pub record FailsAsListed (failed : Bool) (old new : MemoryDisk) : Type 0 where
+pub record FailsWhereListed (failed : Bool) (old new : MemoryDisk) : Type 0 where
   pub listed : fails_next old ≡ true → failed ≡ true
   pub unlisted : HasCause (failed && not (fails_next old)) (starved_of old) (starved_of new)
   pub failing : failing_of new ≡ failing_of old

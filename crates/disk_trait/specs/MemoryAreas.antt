@@ -4,7 +4,7 @@ use Rattle.std.specs.Coded.{×_prop}
 use Rattle.disk_trait.specs.Held.{Held}
 use Rattle.disk_trait.specs.Past.{Past, other}
 use Rattle.disk_trait.specs.Deeds.{NumberedTo, NumberedTo-prop}
-use Rattle.disk_trait.specs.MemoryPast.{held_at, Adds}
+use Rattle.disk_trait.specs.MemoryPast.{held_at, AddsStep}
 use Rattle.disk_trait.specs.declared.area.Area.{Area}
 use Rattle.disk_trait.specs.declared.area.Area.TheVariants.{A, B}
 use Rattle.disk_trait.specs.declared.areas.Areas.{Areas}
@@ -29,8 +29,8 @@ Same old new = new ≡ old
 
 -- in the call behind this clock that area makes this step, and the other none
 pub record Moves (clock : ℕ) (area : Area) (Step : Held → Held → Type 0) (old new : Areas) : Type 0 where
-  pub here : Adds clock Step (part old area) (part new area)
-  pub there : Adds clock Same (part old (other area)) (part new (other area))
+  pub here : AddsStep clock Step (part old area) (part new area)
+  pub there : AddsStep clock Same (part old (other area)) (part new (other area))
 
 -- what the areas have been up to this clock
 abbrev pub past_of : Areas → ℕ → Past

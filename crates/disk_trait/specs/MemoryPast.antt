@@ -16,7 +16,7 @@ Tore true from len old new = new ≡ pend old (record { from = from; len = len }
 Tore false from len old new = new ≡ old
 
 -- in the call behind this clock the area makes this step, and what it was before stays told
-pub record Adds (clock : ℕ) (Step : Held → Held → Type 0) (old new : MemoryArea) : Type 0 where
+pub record AddsStep (clock : ℕ) (Step : Held → Held → Type 0) (old new : MemoryArea) : Type 0 where
   pub earlier : (moment : ℕ) → moment ≤ clock → held_at new moment ≡ held_at old moment
   pub step : Step (held_at old clock) (held_at new (clock + 1))
   pub numbered : NumberedTo (clock + 1) new.entries.items

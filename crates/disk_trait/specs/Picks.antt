@@ -21,11 +21,13 @@ abbrev pub Picked : ℕ → ℕ → List ℕ → List ℕ → List ℕ → Type 
 Picked from len left after next = Tears from len left next ⊎ (next ≡ after)
 
 -- from what a stop could leave before the deed to what it may leave after it
-abbrev pub Follows : Deed → List ℕ → List ℕ → List ℕ → Type 0
-Follows deed left after next =
-    (held : Held) → Leaves held left → Leaves held held.reads → held.reads ≡ undone deed after → Torn (range_named deed) (undone deed after) after → AreBytes after → Leaves (held_after deed held after) next
+abbrev pub FollowsDeed : Deed → List ℕ → List ℕ → List ℕ → Type 0
+FollowsDeed deed left after next =
+    (held : Held) → Leaves held left → Leaves held held.reads → held.reads ≡ undone deed after
+    → Torn (range_named deed) (undone deed after) after → AreBytes after → Leaves (held_after deed held after) next
 
 -- the same over those of the deeds whose calls came up to this moment
-abbrev pub Reaches : ℕ → List Entry → List ℕ → List ℕ → List ℕ → Type 0
-Reaches moment entries bytes left last =
-    (held : Held) → Leaves held left → Leaves held held.reads → held.reads ≡ before entries bytes → Sound entries bytes → Leaves (held_until moment entries held bytes) last
+abbrev pub ReachesAt : ℕ → List Entry → List ℕ → List ℕ → List ℕ → Type 0
+ReachesAt moment entries bytes left last =
+    (held : Held) → Leaves held left → Leaves held held.reads → held.reads ≡ before entries bytes
+    → Sound entries bytes → Leaves (held_until moment entries held bytes) last

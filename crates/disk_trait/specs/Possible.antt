@@ -27,21 +27,32 @@ sound_before [] after sound = sound
 sound_before (e ∷ entries) after sound = sound.0
 
 -- what is read is one of the things that a stop may leave
-pub possible_after : (deed : Deed) (held : Held) (after : List ℕ) → held.reads ≡ undone deed after → Torn (range_named deed) (undone deed after) after → AreBytes after → Leaves held held.reads
+pub possible_after : (deed : Deed) (held : Held) (after : List ℕ) → held.reads ≡ undone deed after
+    → Torn (range_named deed) (undone deed after) after → AreBytes after → Leaves held held.reads
     → Leaves (held_after deed held after) (held_after deed held after).reads
 possible_after (Write from len over) held after is torn bytes possible = record {
-  torn = (held.reads, possible.torn, possible.bytes, subst (λ (l : List ℕ). Torn (record { from = from; len = len }) l after) (sym is) torn);
+  torn = (
+    held.reads,
+    possible.torn,
+    possible.bytes,
+    subst (λ (l : List ℕ). Torn (record { from = from; len = len }) l after) (sym is) torn,
+  );
   bytes = bytes;
 }
-possible_after (Tear from len) held after is torn bytes possible = record { torn = (held.reads, possible.torn, possible.bytes, torn_same _ held.reads); bytes = possible.bytes }
+possible_after (Tear from len) held after is torn bytes possible =
+    record { torn = (held.reads, possible.torn, possible.bytes, torn_same _ held.reads); bytes = possible.bytes }
 possible_after Sync held after is torn bytes possible = record { torn = refl; bytes = possible.bytes }
 
-pub possible_until : (m : ℕ) (entries : List Entry) (held : Held) (after : List ℕ) → Sound entries after → held.reads ≡ before entries after → Leaves held held.reads
+pub possible_until : (m : ℕ) (entries : List Entry) (held : Held) (after : List ℕ) → Sound entries after
+    → held.reads ≡ before entries after → Leaves held held.reads
     → Leaves (held_until m entries held after) (held_until m entries held after).reads
 possible_until m [] held after sound is possible = possible
 possible_until m (e ∷ entries) held after sound is possible =
-    elim (nat_le e.call m) as (λ (b : Bool). let h = if b then held_until m entries (held_after e.deed held (before entries after)) after else held in Leaves h h.reads) [
-      | true ↦ possible_until m entries (held_after e.deed held (before entries after)) after sound.2 (reads_after e.deed held (before entries after) is)
+    elim (nat_le e.call m) as (λ (b : Bool).
+    let h = if b then held_until m entries (held_after e.deed held (before entries after)) after else held in
+    Leaves h h.reads) [
+      | true ↦ possible_until m entries (held_after e.deed held (before entries after)) after sound.2
+          (reads_after e.deed held (before entries after) is)
           (possible_after e.deed held (before entries after) is sound.1 (sound_before entries after sound.2) possible)
       | false ↦ possible
     ]

@@ -24,7 +24,7 @@ pub record Elapses (p q : Past) : Type 0 where
   pub before : (moment : ℕ) → moment ≤ p.clock → q.held moment ≡ p.held moment
 
 -- a call that changes nothing
-pub record Looks (p q : Past) : Type 0 where
+pub record ChangesNothing (p q : Past) : Type 0 where
   pub time : Elapses p q
   pub same : (area : Area) → now q area ≡ now p area
 

@@ -5,7 +5,7 @@ ghost use Rattle.std.specs.Prelude.{◌≡◌, ℕ, ◌≤◌, Option, Some, len
 ghost use Rattle.std.specs.Option.{ForSome};
 ghost use Rattle.byte_ports.specs.Cause.{HasCause};
 ghost use Rattle.disk_trait.specs.Past.{Past, content};
-ghost use Rattle.disk_trait.specs.Steps.{Goes, Looks, Changes, Wrote, Synced, Filled, Ticks};
+ghost use Rattle.disk_trait.specs.Steps.{Goes, ChangesNothing, Changes, Wrote, Synced, Filled, Ticks};
 
 use crate::Area;
 use byte_ports::Failed;
@@ -24,7 +24,7 @@ pub trait Disk {
     fn len(&mut self, area: Area) -> Result<u64, Failed>
         ensures len { IfOk result
             (λ n. ForSome (told self.new) (λ p. n ≡ length (content p area))) }
-        ensures does { Goes (told self.old) (told self.new) Looks }
+        ensures does { Goes (told self.old) (told self.new) ChangesNothing }
         ensures time { Ticks (is_ok result) (moment self.old) (moment self.new) }
         ensures cause { HasCause (is_err result) (fault_count self.old) (fault_count self.new) };
 
@@ -35,7 +35,7 @@ pub trait Disk {
         ensures bound { IfOk result (λ n. n ≤ length room.old) }
         ensures bytes { IfOk result
             (λ n. ForSome (told self.new) (λ p. Filled (content p area) at n room.old room.new)) }
-        ensures does { Goes (told self.old) (told self.new) Looks }
+        ensures does { Goes (told self.old) (told self.new) ChangesNothing }
         ensures time { Ticks (is_ok result) (moment self.old) (moment self.new) }
         ensures cause { HasCause (is_err result) (fault_count self.old) (fault_count self.new) };
 

@@ -5,7 +5,7 @@ ghost use Rattle.disk_trait.specs.Past.{ImagesSince};
 ghost use Rattle.disk_trait.specs.Deeds.{before, undone, held_until};
 ghost use Rattle.disk_trait.specs.MemoryPast.{held_at};
 ghost use Rattle.disk_trait.specs.Memory.{memory_past, calls_of};
-ghost use Rattle.disk_trait.specs.Picks.{image_of, Tears, Picked, Follows, Reaches};
+ghost use Rattle.disk_trait.specs.Picks.{image_of, Tears, Picked, FollowsDeed, ReachesAt};
 ghost use Rattle.disk_trait.specs.Chosen.{covered_in, left_as, picked_as, StoppedIn, Chooses, ChoosesAll};
 
 use crate::MemoryDisk;
@@ -116,7 +116,7 @@ fn left_by(
     torn: Torn,
 ) -> Result<Vec<u8>, AllocError>
     ensures reaches { IfOk result (λ last.
-        Reaches moment entries.now bytes.now left.items last.items) }
+        ReachesAt moment entries.now bytes.now left.items last.items) }
     ensures chosen { IfOk result (λ last.
         ChoosesAll torn moment entries.now bytes.now left.items last.items) }
 {
@@ -140,7 +140,7 @@ fn left_after(
     after: Vec<u8>,
     torn: Torn,
 ) -> Result<Vec<u8>, AllocError>
-    ensures follows { IfOk result (λ next. Follows deed.now left.items after.items next.items) }
+    ensures follows { IfOk result (λ next. FollowsDeed deed.now left.items after.items next.items) }
     ensures chosen { IfOk result (λ next.
         Chooses torn deed.now left.items after.items next.items) }
 {

@@ -15,7 +15,7 @@ pub(crate) struct MemoryArea {
 }
 
 impl MemoryArea {
-    ghost use Rattle.disk_trait.specs.MemoryPast.{Adds, Tore};
+    ghost use Rattle.disk_trait.specs.MemoryPast.{AddsStep, Tore};
 
     pub(crate) fn new(alloc: Global, bytes: Vec<u8>) -> MemoryArea
         ensures bytes { result.bytes.items ≡ bytes.items }
@@ -37,7 +37,7 @@ impl MemoryArea {
         requires at { at ≤ length self.old.bytes.items }
         requires clock { clock < 2 ^ 64 - 1 }
         requires numbered { NumberedTo clock self.old.entries.items }
-        ensures { Adds clock (Wrote (is_ok result) at bytes.now) self.old self.new }
+        ensures { AddsStep clock (Wrote (is_ok result) at bytes.now) self.old self.new }
     {
         let end = self.bytes.len().min(at.saturating_add(bytes.len()));
         let over = Vec::from_slice(alloc, &self.bytes[at..end])?;
@@ -59,7 +59,7 @@ impl MemoryArea {
     pub(crate) fn tear(&mut self, clock: u64, from: usize, len: usize) -> Result<(), AllocError>
         requires clock { clock < 2 ^ 64 - 1 }
         requires numbered { NumberedTo clock self.old.entries.items }
-        ensures { Adds clock (Tore (is_ok result) from len) self.old self.new }
+        ensures { AddsStep clock (Tore (is_ok result) from len) self.old self.new }
     {
         self.entries.reserve(1)?;
         self.entries.push_reserved(Entry {
@@ -72,7 +72,7 @@ impl MemoryArea {
     pub(crate) fn sync(&mut self, clock: u64) -> Result<(), AllocError>
         requires clock { clock < 2 ^ 64 - 1 }
         requires numbered { NumberedTo clock self.old.entries.items }
-        ensures { Adds clock (Synced (is_ok result)) self.old self.new }
+        ensures { AddsStep clock (Synced (is_ok result)) self.old self.new }
     {
         self.entries.reserve(1)?;
         self.entries.push_reserved(Entry {

@@ -3,7 +3,7 @@ ghost use Rattle.std.specs.Prelude.{◌≡◌, ◌-◌, ◌^◌, ◌<◌, ◌≤
 ghost use Rattle.std.specs.Option.{ForSome};
 ghost use Rattle.byte_ports.specs.Cause.{HasCause};
 ghost use Rattle.disk_trait.specs.Past.{Past, content};
-ghost use Rattle.disk_trait.specs.Steps.{Goes, Looks, Changes, Wrote, Synced, Filled, FilledOnly, Ticks};
+ghost use Rattle.disk_trait.specs.Steps.{Goes, ChangesNothing, Changes, Wrote, Synced, Filled, FilledOnly, Ticks};
 ghost use Rattle.disk_trait.specs.MemoryAreas.{Numbered, Numbered-prop};
 
 use crate::areas::Areas;
@@ -67,7 +67,7 @@ impl MemoryDisk {
     /// A call that changes nothing.
     fn pass(&mut self)
         requires { calls_of self.old < 2 ^ 64 - 1 }
-        ensures does { Looks (memory_past self.old) (memory_past self.new) }
+        ensures does { ChangesNothing (memory_past self.old) (memory_past self.new) }
         ensures calls { calls_of self.new ≡ calls_of self.old + 1 }
         ensures faults { faults_of self.new ≡ faults_of self.old }
         ensures starved { starved_of self.new ≡ starved_of self.old }
@@ -78,7 +78,7 @@ impl MemoryDisk {
 
     /// A call that changes nothing and fails.
     fn fail(&mut self) -> Failed
-        ensures does { Looks (memory_past self.old) (memory_past self.new) }
+        ensures does { ChangesNothing (memory_past self.old) (memory_past self.new) }
         ensures time { Ticks false (calls_of self.old) (calls_of self.new) }
         ensures cause { HasCause true (faults_of self.old) (faults_of self.new) }
         ensures starved { starved_of self.new ≡ starved_of self.old }
@@ -161,7 +161,7 @@ impl MemoryDisk {
 }
 
 impl Disk for MemoryDisk {
-    ghost use Rattle.disk_trait.specs.Memory.{memory_past, calls_of, faults_of, FailsAsListed};
+    ghost use Rattle.disk_trait.specs.Memory.{memory_past, calls_of, faults_of, FailsWhereListed};
 
     ghost told = { λ disk. Some (memory_past disk) };
 
@@ -177,10 +177,10 @@ impl Disk for MemoryDisk {
     fn len(&mut self, area: Area) -> Result<u64, Failed>
         ensures len { IfOk result
             (λ n. ForSome (Some (memory_past self.new)) (λ p. n ≡ length (content p area))) }
-        ensures does { Goes (Some (memory_past self.old)) (Some (memory_past self.new)) Looks }
+        ensures does { Goes (Some (memory_past self.old)) (Some (memory_past self.new)) ChangesNothing }
         ensures time { Ticks (is_ok result) (calls_of self.old) (calls_of self.new) }
         ensures cause { HasCause (is_err result) (faults_of self.old) (faults_of self.new) }
-        ensures fails { FailsAsListed (is_err result) self.old self.new }
+        ensures fails { FailsWhereListed (is_err result) self.old self.new }
     {
         if self.fails_next() {
             return Err(self.fail());
@@ -196,10 +196,10 @@ impl Disk for MemoryDisk {
             (λ p. Filled (content p area) at n room.old room.new)) }
         ensures only { IfOk result
             (λ n. FilledOnly (content (memory_past self.old) area) at n room.old room.new) }
-        ensures does { Goes (Some (memory_past self.old)) (Some (memory_past self.new)) Looks }
+        ensures does { Goes (Some (memory_past self.old)) (Some (memory_past self.new)) ChangesNothing }
         ensures time { Ticks (is_ok result) (calls_of self.old) (calls_of self.new) }
         ensures cause { HasCause (is_err result) (faults_of self.old) (faults_of self.new) }
-        ensures fails { FailsAsListed (is_err result) self.old self.new }
+        ensures fails { FailsWhereListed (is_err result) self.old self.new }
     {
         if self.fails_next() {
             return Err(self.fail());
@@ -214,7 +214,7 @@ impl Disk for MemoryDisk {
             (Changes area (Wrote (is_ok result) at bytes.now)) }
         ensures time { Ticks (is_ok result) (calls_of self.old) (calls_of self.new) }
         ensures cause { HasCause (is_err result) (faults_of self.old) (faults_of self.new) }
-        ensures fails { FailsAsListed (is_err result) self.old self.new }
+        ensures fails { FailsWhereListed (is_err result) self.old self.new }
     {
         if self.fails_next() {
             return Err(self.fail_write(area, at, bytes));
@@ -227,7 +227,7 @@ impl Disk for MemoryDisk {
             (Changes area (Synced (is_ok result))) }
         ensures time { Ticks (is_ok result) (calls_of self.old) (calls_of self.new) }
         ensures cause { HasCause (is_err result) (faults_of self.old) (faults_of self.new) }
-        ensures fails { FailsAsListed (is_err result) self.old self.new }
+        ensures fails { FailsWhereListed (is_err result) self.old self.new }
     {
         if self.fails_next() {
             return Err(self.fail());

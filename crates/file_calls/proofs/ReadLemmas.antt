@@ -13,22 +13,22 @@ use Rattle.disk_trait.specs.Steps.{Filled}
 use Rattle.disk_trait.specs.declared.area.Area.{Area}
 use Rattle.file_calls.specs.declared.call_error.CallError.{CallError}
 use Rattle.file_calls.specs.Call.{Call, began, means, measured, read, written, named, flushed}
-use Rattle.file_calls.specs.Files.{First, held_after, held_by}
+use Rattle.file_calls.specs.Files.{First, held_after_call, held_by}
 use Rattle.file_calls.specs.Honest.{gives, is_honest}
-use Rattle.file_calls.specs.Made.{Adds, measures, reads, ends_refused}
-use Rattle.file_calls.specs.Moved.{Gives}
+use Rattle.file_calls.specs.Made.{AddsCalls, measures, reads, ends_refused}
+use Rattle.file_calls.specs.Moved.{GivesBytes}
 use Rattle.file_calls.proofs.Records.{Works, and_first, and_second, area_here, adds_one}
 
 -- such calls leave what this file holds
 abbrev pub Spares : (Call → Bool) → Area → Type 0
-Spares kind area = (call : Call) → kind call ≡ true → (has_name : Bool) (held : Held) → held_after area call has_name held ≡ held
+Spares kind area = (call : Call) → kind call ≡ true → (has_name : Bool) (held : Held) → held_after_call area call has_name held ≡ held
 
 module _ (first : First) (area : Area) (kind : Call → Bool) (spares : Spares kind area) (old : List Call) where
   held_more : (calls : List Call) → list_all kind calls ≡ true → held_by first area (calls ++ old) ≡ held_by first area old
   held_more [] all = refl
   held_more (call ∷ calls) all = spares call (and_first (kind call) _ all) _ _ ∙ held_more calls (and_second (kind call) _ all)
 
-pub held_same : (first : First) (area : Area) (kind : Call → Bool) → Spares kind area → (old new : List Call) → Adds kind old new → held_by first area new ≡ held_by first area old
+pub held_same : (first : First) (area : Area) (kind : Call → Bool) → Spares kind area → (old new : List Call) → AddsCalls kind old new → held_by first area new ≡ held_by first area old
 held_same first area kind spares old new adds = ap (held_by first area) adds.1 ∙ held_more first area kind spares old adds.0 adds.2
 
 pub measures_work : (area : Area) → Works (measures area)
@@ -73,7 +73,7 @@ reads_spare area a (flushed here ok) is n held = absurd (cc)
 abbrev pub ReadNoted : Result ℕ CallError → Area → ℕ → List ℕ → List Call → List Call → Type 0
 ReadNoted result area at room old new = MatchResult result (λ n. new ≡ read area at true (take n room) ∷ old) (λ _. new ≡ read area at false [] ∷ old)
 
-pub read_adds : (result : Result ℕ CallError) (area : Area) (at : ℕ) (room : List ℕ) (old new : List Call) → ReadNoted result area at room old new → Adds (reads area) old new
+pub read_adds : (result : Result ℕ CallError) (area : Area) (at : ℕ) (room : List ℕ) (old new : List Call) → ReadNoted result area at room old new → AddsCalls (reads area) old new
 read_adds (Ok n) area at room old new noted = adds_one (reads area) old new _ (area_here area) noted
 read_adds (Err e) area at room old new noted = adds_one (reads area) old new _ (area_here area) noted
 
@@ -87,7 +87,7 @@ ends_if count len at is none = elim (or_cases (nat_lt 0 count) (nat_le len at) i
   | inr ended ↦ leb-true len at ended
 ]
 
-gives_of : (held : List ℕ) (at count : ℕ) (room : List ℕ) → count ≤ length room → gives held at (take count room) ≡ true → Gives held at count room
+gives_of : (held : List ℕ) (at count : ℕ) (room : List ℕ) → count ≤ length room → gives held at (take count room) ≡ true → GivesBytes held at count room
 gives_of held at count room few is =
     let len : length (take count room) ≡ count = omega (arith, length-take count room) in
     let same = (bytes_eq-Decides (take (length (take count room)) (drop at held)) (take count room)).0 (and_first _ _ is) in
@@ -98,8 +98,8 @@ gives_of held at count room few is =
       ends = λ none. ends_if (length (take count room)) (length held) at (and_second _ _ is) (len ∙ none);
     }
 
-pub read_gives : (result : Result ℕ CallError) (first : First) (area : Area) (at len : ℕ) (room : List ℕ) (start old new : List Call) → Adds (reads area) start old → length room ≡ len → IfOk result (λ n. (n ≤ len) × (at < 2 ^ 63))
-    → ReadNoted result area at room old new → IfOk result (λ n. is_honest first new ≡ true → Gives (held_by first area start).reads at n room)
+pub read_gives : (result : Result ℕ CallError) (first : First) (area : Area) (at len : ℕ) (room : List ℕ) (start old new : List Call) → AddsCalls (reads area) start old → length room ≡ len → IfOk result (λ n. (n ≤ len) × (at < 2 ^ 63))
+    → ReadNoted result area at room old new → IfOk result (λ n. is_honest first new ≡ true → GivesBytes (held_by first area start).reads at n room)
 read_gives (Ok n) first area at len room start old new adds long few noted = λ honest.
     let here = subst (λ (l : List Call). is_honest first l ≡ true) noted honest in
     let same = held_same first area (reads area) (reads_spare area area) start old adds in
@@ -109,7 +109,7 @@ read_gives (Err e) first area at len room start old new adds long few noted = tt
 -- Reads in a row.
 
 module _ (bytes room new : List ℕ) (at count got from : ℕ) (next : from ≡ at + count) (bound : count ≤ length room) (rest : length new ≡ length room - count) (few : got ≤ length new) (within : count ≤ length bytes - at)
-    (front : take count room ≡ take count (drop at bytes)) (given : Gives bytes from got new) where
+    (front : take count room ≡ take count (drop at bytes)) (given : GivesBytes bytes from got new) where
   pub read_within : count + got ≤ length bytes - at
   read_within = omega (arith, given.within)
 
@@ -132,5 +132,5 @@ filled bytes before room at count long bound within front done = record {
 }
 
 -- what was given after calls that changed nothing
-pub gives_same : (first : First) (area : Area) (start old : List Call) (at count : ℕ) (room : List ℕ) → Adds (reads area) start old → Gives (held_by first area old).reads at count room → Gives (held_by first area start).reads at count room
-gives_same first area start old at count room adds given = subst (λ (h : Held). Gives h.reads at count room) (held_same first area (reads area) (reads_spare area area) start old adds) given
+pub gives_same : (first : First) (area : Area) (start old : List Call) (at count : ℕ) (room : List ℕ) → AddsCalls (reads area) start old → GivesBytes (held_by first area old).reads at count room → GivesBytes (held_by first area start).reads at count room
+gives_same first area start old at count room adds given = subst (λ (h : Held). GivesBytes h.reads at count room) (held_same first area (reads area) (reads_spare area area) start old adds) given

@@ -8,8 +8,8 @@ use Rattle.disk_trait.specs.declared.area.Area.{Area}
 use Rattle.disk_trait.specs.declared.area.Area.TheVariants.{A, B}
 use Rattle.file_calls.specs.declared.call_error.CallError.{CallError}
 use Rattle.file_calls.specs.Call.{Call, began, means, measured, read, written, named, flushed}
-use Rattle.file_calls.specs.Files.{First, same_area, names, is_named, held_by}
-use Rattle.file_calls.specs.Made.{Adds, is_naming, syncs, was_synced}
+use Rattle.file_calls.specs.Files.{First, same_area, names, has_its_name, held_by}
+use Rattle.file_calls.specs.Made.{AddsCalls, is_naming, syncs, was_synced}
 use Rattle.file_calls.proofs.Records.{Works, and_first, and_second, and_both, area_here, adds_one}
 use Rattle.file_calls.proofs.ReadLemmas.{Spares, held_same}
 
@@ -60,13 +60,13 @@ all_wider : (area : Area) (calls : List Call) → list_all is_naming calls ≡ t
 all_wider area [] all = refl
 all_wider area (call ∷ calls) all = and_both (syncs area call) _ (naming_syncs area call (and_first (is_naming call) _ all)) (all_wider area calls (and_second (is_naming call) _ all))
 
-pub adds_wider : (area : Area) (old new : List Call) → Adds is_naming old new → Adds (syncs area) old new
+pub adds_wider : (area : Area) (old new : List Call) → AddsCalls is_naming old new → AddsCalls (syncs area) old new
 adds_wider area old new adds = (adds.0, adds.1, all_wider area adds.0 adds.2)
 
-pub sync_adds : (area : Area) (ok : Bool) (old new : List Call) → new ≡ flushed area ok ∷ old → Adds (syncs area) old new
+pub sync_adds : (area : Area) (ok : Bool) (old new : List Call) → new ≡ flushed area ok ∷ old → AddsCalls (syncs area) old new
 sync_adds area ok old new noted = adds_one (syncs area) old new (flushed area ok) (area_here area) noted
 
-pub name_adds : (area : Area) (ok : Bool) (old new : List Call) → new ≡ named area ok ∷ old → Adds is_naming old new
+pub name_adds : (area : Area) (ok : Bool) (old new : List Call) → new ≡ named area ok ∷ old → AddsCalls is_naming old new
 name_adds area ok old new noted = adds_one is_naming old new (named area ok) refl noted
 
 -- names that are put on the disk leave the files unsynced
@@ -83,7 +83,7 @@ unsynced_more : (area : Area) (old calls : List Call) → list_all is_naming cal
 unsynced_more area old [] all = refl
 unsynced_more area old (call ∷ calls) all = unsynced_call area call (calls ++ old) (and_first (is_naming call) _ all) ∙ unsynced_more area old calls (and_second (is_naming call) _ all)
 
-pub still_unsynced : (area : Area) (old new : List Call) → Adds is_naming old new → was_synced area old ≡ false → was_synced area new ≡ false
+pub still_unsynced : (area : Area) (old new : List Call) → AddsCalls is_naming old new → was_synced area old ≡ false → was_synced area new ≡ false
 still_unsynced area old new adds is = ap (was_synced area) adds.1 ∙ unsynced_more area old adds.0 adds.2 ∙ is
 
 -- a name that is on the disk stays
@@ -91,23 +91,23 @@ or_second : (a b : Bool) → b ≡ true → (a || b) ≡ true
 or_second true b is = refl
 or_second false b is = is
 
-named_more : (area : Area) (old calls : List Call) → is_named area old ≡ true → is_named area (calls ++ old) ≡ true
+named_more : (area : Area) (old calls : List Call) → has_its_name area old ≡ true → has_its_name area (calls ++ old) ≡ true
 named_more area old [] is = is
 named_more area old (call ∷ calls) is = or_second (names area call) _ (named_more area old calls is)
 
-pub still_named : (kind : Call → Bool) (area : Area) (old new : List Call) → Adds kind old new → is_named area old ≡ true → is_named area new ≡ true
-still_named kind area old new adds is = subst (λ (l : List Call). is_named area l ≡ true) (sym adds.1) (named_more area old adds.0 is)
+pub still_named : (kind : Call → Bool) (area : Area) (old new : List Call) → AddsCalls kind old new → has_its_name area old ≡ true → has_its_name area new ≡ true
+still_named kind area old new adds is = subst (λ (l : List Call). has_its_name area l ≡ true) (sym adds.1) (named_more area old adds.0 is)
 
 -- what a file holds whose name is on the disk, after a sync
-sync_step : (first : First) (area : Area) (ok : Bool) (old new : List Call) → is_named area old ≡ true → new ≡ flushed area ok ∷ old → Synced ok (held_by first area old) (held_by first area new)
+sync_step : (first : First) (area : Area) (ok : Bool) (old new : List Call) → has_its_name area old ≡ true → new ≡ flushed area ok ∷ old → Synced ok (held_by first area old) (held_by first area new)
 sync_step first area true old new is noted = ap (held_by first area) noted ∙ rw (area_here area, is) refl
 sync_step first area false old new is noted = ap (held_by first area) noted ∙ rw (area_here area) refl
 
-pub sync_here : (first : First) (area : Area) (ok : Bool) (start old new : List Call) → Adds is_naming start old → is_named area old ≡ true → new ≡ flushed area ok ∷ old → Synced ok (held_by first area start) (held_by first area new)
+pub sync_here : (first : First) (area : Area) (ok : Bool) (start old new : List Call) → AddsCalls is_naming start old → has_its_name area old ≡ true → new ≡ flushed area ok ∷ old → Synced ok (held_by first area start) (held_by first area new)
 sync_here first area ok start old new adds is noted =
     subst (λ (h : Held). Synced ok h (held_by first area new)) (held_same first area is_naming (naming_spares area) start old adds) (sync_step first area ok old new is noted)
 
 -- a sync that didn't come so far
-pub sync_none : (first : First) (area : Area) (result : Result (Unit {0}) CallError) (start old : List Call) → IsErr result → Adds is_naming start old → Synced (is_ok result) (held_by first area start) (held_by first area old)
+pub sync_none : (first : First) (area : Area) (result : Result (Unit {0}) CallError) (start old : List Call) → IsErr result → AddsCalls is_naming start old → Synced (is_ok result) (held_by first area start) (held_by first area old)
 sync_none first area (Ok x) start old is adds = absurd (cc)
 sync_none first area (Err e) start old is adds = held_same first area is_naming (naming_spares area) start old adds

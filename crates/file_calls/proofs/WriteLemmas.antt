@@ -11,7 +11,7 @@ use Rattle.std.proofs.Math.Seq.{take-add}
 use Rattle.disk_trait.specs.Held.{Held, Range}
 use Rattle.disk_trait.specs.Past.{other}
 use Rattle.disk_trait.specs.Steps.{Wrote, pend, range_of, overwritten}
-use Rattle.disk_trait.proofs.Ranges.{length_overwritten, torn_overwritten}
+use Rattle.disk_trait.proofs.Public.{length_overwritten, torn_overwritten}
 use Rattle.disk_trait.specs.declared.area.Area.{Area}
 use Rattle.disk_trait.specs.declared.area.Area.TheVariants.{A, B}
 use Rattle.file_calls.specs.declared.call_error.CallError.{CallError}
@@ -19,7 +19,7 @@ use Rattle.file_calls.specs.Call.{Call, began, means, measured, read, written, n
 use Rattle.file_calls.specs.Files.{First, same_area, is_announced, is_ready, held_by}
 use Rattle.file_calls.specs.Possible.{torn_within, torn_same}
 use Rattle.file_calls.specs.Honest.{is_honest}
-use Rattle.file_calls.specs.Made.{Adds, writes}
+use Rattle.file_calls.specs.Made.{AddsCalls, writes}
 use Rattle.file_calls.specs.Moved.{laid_over}
 use Rattle.file_calls.proofs.Records.{Works, and_first, and_second, and_both, area_here, adds_one, honest_before}
 use Rattle.file_calls.proofs.ReadLemmas.{Spares}
@@ -54,7 +54,7 @@ writes_spare area (flushed here ok) is n held = absurd (cc)
 abbrev pub WriteNoted : Result ℕ CallError → Area → ℕ → List ℕ → List Call → List Call → Type 0
 WriteNoted result area at bytes old new = MatchResult result (λ n. new ≡ written area at true (take n bytes) ∷ old) (λ _. new ≡ written area at false [] ∷ old)
 
-pub write_adds : (result : Result ℕ CallError) (area : Area) (at : ℕ) (bytes : List ℕ) (old new : List Call) → WriteNoted result area at bytes old new → Adds (writes area) old new
+pub write_adds : (result : Result ℕ CallError) (area : Area) (at : ℕ) (bytes : List ℕ) (old new : List Call) → WriteNoted result area at bytes old new → AddsCalls (writes area) old new
 write_adds (Ok n) area at bytes old new noted = adds_one (writes area) old new _ (area_here area) noted
 write_adds (Err e) area at bytes old new noted = adds_one (writes area) old new _ (area_here area) noted
 
@@ -147,12 +147,12 @@ half_torn old new at done bytes within few is =
     subst (Wrote false at bytes old) (sym is) (inr (record { torn = torn; pending = refl }))
 
 -- what was ready stays so while nothing changes
-pub ready_still : (first : First) (area : Area) (at : ℕ) (bytes : List ℕ) (start old : List Call) → Adds (writes area) start old → held_by first area old ≡ held_by first area start
+pub ready_still : (first : First) (area : Area) (at : ℕ) (bytes : List ℕ) (start old : List Call) → AddsCalls (writes area) start old → held_by first area old ≡ held_by first area start
     → (is_honest first start ≡ true → is_ready (held_by first area start) at bytes ≡ true) → is_honest first old ≡ true → is_ready (held_by first area old) at bytes ≡ true
 ready_still first area at bytes start old adds same ready honest =
     subst (λ (h : Held). is_ready h at bytes ≡ true) (sym same) (ready (honest_before first (writes area) start old adds honest))
 
-pub means_adds : (area : Area) (at len : ℕ) (old new : List Call) → new ≡ means area at len ∷ old → Adds (writes area) old new
+pub means_adds : (area : Area) (at len : ℕ) (old new : List Call) → new ≡ means area at len ∷ old → AddsCalls (writes area) old new
 means_adds area at len old new noted = adds_one (writes area) old new (means area at len) (area_here area) noted
 
 -- a write that broke off

@@ -4,7 +4,7 @@ use Rattle.disk_trait.specs.Past.{Past}
 use Rattle.file_calls.specs.declared.calls.Calls as calls
 use Rattle.file_calls.specs.declared.file_disk.FileDisk.{FileDisk}
 use Rattle.file_calls.specs.Call.{Call}
-use Rattle.file_calls.specs.Told.{told_of}
+use Rattle.file_calls.specs.Told.{told_past}
 
 module _ {C : Type 0} {g : calls.Ghosts C} where
   -- the system below
@@ -17,7 +17,7 @@ module _ {C : Type 0} {g : calls.Ghosts C} where
 
   -- what it tells
   abbrev pub told_by : FileDisk C g → Option Past
-  told_by disk = told_of g.first (g.history disk.calls)
+  told_by disk = told_past g.first (g.history disk.calls)
 
   -- how many device calls were made of it
   abbrev pub calls_of : FileDisk C g → ℕ

@@ -34,29 +34,31 @@ is_ready held at bytes =
 abbrev pub put : Held → ℕ → List ℕ → Held
 put held at bytes = if is_ready held at bytes then record held { reads = overwritten at bytes held.reads } else held
 
--- the file's name was put on the disk
+-- the call put the file's name on the disk
 abbrev pub names : Area → Call → Bool
 names area (named here ok) = same_area area here && ok
 names area call = false
 
-abbrev pub is_named : Area → List Call → Bool
-is_named area [] = false
-is_named area (call ∷ earlier) = names area call || is_named area earlier
+-- one of these calls put the file's name on the disk
+abbrev pub has_its_name : Area → List Call → Bool
+has_its_name area [] = false
+has_its_name area (call ∷ earlier) = names area call || has_its_name area earlier
 
 -- a call's effect. A range that was announced is pending, a write that was refused leaves what a read
 -- gives, and a sync settles a file whose name is on the disk
-abbrev pub held_after : Area → Call → Bool → Held → Held
-held_after area (means here at len) has_name held =
+abbrev pub held_after_call : Area → Call → Bool → Held → Held
+held_after_call area (means here at len) has_name held =
     if same_area area here then pend held (record { from = at; len = len }) held.reads else held
-held_after area (written here at ok bytes) has_name held = if same_area area here && ok then put held at bytes else held
-held_after area (flushed here ok) has_name held = if same_area area here && ok && has_name then settle held else held
-held_after area call has_name held = held
+held_after_call area (written here at ok bytes) has_name held = if same_area area here && ok then put held at bytes else held
+held_after_call area (flushed here ok) has_name held = if same_area area here && ok && has_name then settle held else held
+held_after_call area call has_name held = held
 
 -- what the file holds after these calls
 abbrev pub held_by : First → Area → List Call → Held
 held_by first area [] = first.held area
-held_by first area (call ∷ earlier) = held_after area call (is_named area earlier) (held_by first area earlier)
+held_by first area (call ∷ earlier) = held_after_call area call (has_its_name area earlier) (held_by first area earlier)
 
+-- a device call begins with a call of its own in the record
 abbrev pub tick : Call → ℕ
 tick began = 1
 tick call = 0

@@ -14,6 +14,7 @@ abbrev pub refuses_sync : Area → Call → Bool
 refuses_sync area (flushed here ok) = same_area area here && not ok
 refuses_sync area call = false
 
+-- a call before was of this kind
 abbrev pub any_call : (Call → Bool) → List Call → Bool
 any_call test [] = false
 any_call test (call ∷ earlier) = test call || any_call test earlier

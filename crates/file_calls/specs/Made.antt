@@ -54,12 +54,12 @@ ends_refused [] = false
 ends_refused (call ∷ earlier) = refuses call
 
 -- calls of this kind were made, and no others
-abbrev pub Adds : (Call → Bool) → List Call → List Call → Type 0
-Adds kind old new = (calls : List Call) × (new ≡ calls ++ old) × (list_all kind calls ≡ true)
+abbrev pub AddsCalls : (Call → Bool) → List Call → List Call → Type 0
+AddsCalls kind old new = (calls : List Call) × (new ≡ calls ++ old) × (list_all kind calls ≡ true)
 
 -- what a device call has done at this moment: it has begun, and made calls of this kind alone. It fails
 -- only where the newest of them was refused, or where the clock is at its last value, and no call is made
 pub record Made (kind : Call → Bool) (failed : Bool) (moment : ℕ) (old new : List Call) : Type 0 where
-  pub calls : moment < 2 ^ 64 - 1 → Adds kind (began ∷ old) new
+  pub calls : moment < 2 ^ 64 - 1 → AddsCalls kind (began ∷ old) new
   pub refused : moment < 2 ^ 64 - 1 → failed ≡ true → ends_refused new ≡ true
   pub none : 2 ^ 64 - 1 ≤ moment → new ≡ old

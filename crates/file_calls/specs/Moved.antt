@@ -4,7 +4,7 @@ use Rattle.disk_trait.specs.Held.{Held}
 use Rattle.disk_trait.specs.Steps.{overwritten}
 
 -- the first so many bytes of the room are those from here on, and none came only at the end
-pub record Gives (reads : List ℕ) (at count : ℕ) (room : List ℕ) : Type 0 where
+pub record GivesBytes (reads : List ℕ) (at count : ℕ) (room : List ℕ) : Type 0 where
   pub within : count ≤ length reads - at
   pub front : take count room ≡ take count (drop at reads)
   pub ends : count ≡ 0 → length reads ≤ at

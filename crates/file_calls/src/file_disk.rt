@@ -3,12 +3,13 @@ ghost use Rattle.std.specs.Prelude.{◌≡◌, ◌≤◌, true, [], Option, Some
 ghost use Rattle.std.specs.Option.{ForSome};
 ghost use Rattle.byte_ports.specs.Cause.{HasCause};
 ghost use Rattle.disk_trait.specs.Past.{Past, content};
-ghost use Rattle.disk_trait.specs.Steps.{Goes, Looks, Changes, Wrote, Synced, Filled, Ticks};
+ghost use Rattle.disk_trait.specs.Steps.{Goes, ChangesNothing, Changes, Wrote, Synced, Filled, Ticks};
 ghost use Rattle.disk_trait.specs.declared.area.Area.{Area};
-ghost use Rattle.file_calls.specs.Files.{ticks, is_named};
-ghost use Rattle.file_calls.specs.Told.{told_of};
+ghost use Rattle.file_calls.specs.Files.{ticks, has_its_name};
+ghost use Rattle.file_calls.specs.Told.{told_past};
 ghost use Rattle.file_calls.specs.Made.{Made, measures, reads, writes, syncs};
 
+use crate::measuring::measure;
 use crate::reading::read_whole;
 use crate::syncing::sync_whole;
 use crate::writing::write_whole;
@@ -26,7 +27,7 @@ pub struct FileDisk<C: Calls + Drop> {
     /// The names of both files are on the disk.
     in_folder: bool,
     ghost timed: { meter.clock ≡ ticks (C.Calls.history calls) },
-    ghost named: { in_folder ≡ true → (area : Area) → is_named area (C.Calls.history calls) ≡ true },
+    ghost named: { in_folder ≡ true → (area : Area) → has_its_name area (C.Calls.history calls) ≡ true },
 }
 
 impl<C: Calls + Drop> FileDisk<C> {
@@ -83,7 +84,7 @@ impl<C: Calls + Drop> Disk for FileDisk<C> {
     fn len(&mut self, area: Area) -> Result<u64, Failed>
         ensures len { IfOk result
             (λ n. ForSome (told_by self.new) (λ p. n ≡ length (content p area))) }
-        ensures does { Goes (told_by self.old) (told_by self.new) Looks }
+        ensures does { Goes (told_by self.old) (told_by self.new) ChangesNothing }
         ensures time { Ticks (is_ok result) (calls_of self.old) (calls_of self.new) }
         ensures cause { HasCause (is_err result) (faults_of self.old) (faults_of self.new) }
         ensures made { Made (measures area) (is_err result) (calls_of self.old)
@@ -93,7 +94,7 @@ impl<C: Calls + Drop> Disk for FileDisk<C> {
             return Err(self.meter.fail());
         }
         self.calls.begin();
-        let answer = self.calls.len(area);
+        let answer = measure(&mut self.calls, area);
         counted(&mut self.meter, answer)
     }
 
@@ -101,7 +102,7 @@ impl<C: Calls + Drop> Disk for FileDisk<C> {
         ensures bound { IfOk result (λ n. n ≤ length room.old) }
         ensures bytes { IfOk result
             (λ n. ForSome (told_by self.new) (λ p. Filled (content p area) at n room.old room.new)) }
-        ensures does { Goes (told_by self.old) (told_by self.new) Looks }
+        ensures does { Goes (told_by self.old) (told_by self.new) ChangesNothing }
         ensures time { Ticks (is_ok result) (calls_of self.old) (calls_of self.new) }
         ensures cause { HasCause (is_err result) (faults_of self.old) (faults_of self.new) }
         ensures made { Made (reads area) (is_err result) (calls_of self.old)

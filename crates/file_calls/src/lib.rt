@@ -6,6 +6,7 @@ mod calls;
 mod contents;
 mod file_disk;
 mod laws;
+mod measuring;
 mod memory_calls;
 mod mishap;
 mod notes;

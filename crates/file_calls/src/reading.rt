@@ -3,8 +3,8 @@ ghost use Rattle.std.specs.Prelude.{◌≡◌, ◌+◌, ◌<◌, ◌≤◌, ◌^
 ghost use Rattle.disk_trait.specs.Steps.{Filled};
 ghost use Rattle.file_calls.specs.Files.{held_by};
 ghost use Rattle.file_calls.specs.Honest.{is_honest};
-ghost use Rattle.file_calls.specs.Made.{Adds, reads, ends_refused};
-ghost use Rattle.file_calls.specs.Moved.{Gives};
+ghost use Rattle.file_calls.specs.Made.{AddsCalls, reads, ends_refused};
+ghost use Rattle.file_calls.specs.Moved.{GivesBytes};
 
 use crate::tries::TRIES;
 use crate::{CallError, Calls};
@@ -18,7 +18,7 @@ pub(crate) fn read_whole<C: Calls>(
     room: &mut [u8],
 ) -> Result<usize, CallError>
     ensures bound { IfOk result (λ n. n ≤ length room.old) }
-    ensures adds { Adds (reads area) (C.history calls.old) (C.history calls.new) }
+    ensures adds { AddsCalls (reads area) (C.history calls.old) (C.history calls.new) }
     ensures bytes { IfOk result (λ n. is_honest C.first (C.history calls.new) ≡ true
         → Filled (held_by C.first area (C.history calls.old)).reads at n room.old room.new) }
     ensures refused { OnErr result (ends_refused (C.history calls.new) ≡ true) }
@@ -43,9 +43,9 @@ fn read_again<C: Calls>(
 ) -> Result<usize, CallError>
     requires { 0 < length room.old }
     ensures count { IfOk result (λ n. (n ≤ length room.old) × (at < 2 ^ 63)) }
-    ensures adds { Adds (reads area) (C.history calls.old) (C.history calls.new) }
+    ensures adds { AddsCalls (reads area) (C.history calls.old) (C.history calls.new) }
     ensures bytes { IfOk result (λ n. is_honest C.first (C.history calls.new) ≡ true
-        → Gives (held_by C.first area (C.history calls.old)).reads at n room.new) }
+        → GivesBytes (held_by C.first area (C.history calls.old)).reads at n room.new) }
     ensures refused { OnErr result (ends_refused (C.history calls.new) ≡ true) }
 {
     for _ in 1..TRIES {

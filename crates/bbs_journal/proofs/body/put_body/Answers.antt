@@ -1,12 +1,11 @@
 use Rattle.std.proofs.Common.{◌≡◌, ◌∙◌, ℕ, ◌+◌, List, ◌++◌, length, take, drop, refl, ap, arith, take_at}
 use Rattle.std.specs.Int.{w8, w16}
-use Rattle.wire_fields.specs.Field.{field_number, written, Puts}
-use Rattle.wire_fields.proofs.Lengths.{length-field_number}
-use Rattle.wire_fields.proofs.Places.{Puts-then}
+use Rattle.wire_fields.specs.Field.{field_number, written, PutsText}
+use Rattle.wire_fields.proofs.Public.{length-field_number, Puts-then}
 use Rattle.bbs_journal.specs.Areas.{body_of}
 use Rattle.bbs_journal.proofs.body.put_body.Goals as goal
 
-take_puts : (old text new : List ℕ) (after : ℕ) → Puts old 0 text new after → take after new ≡ text
+take_puts : (old text new : List ℕ) (after : ℕ) → PutsText old 0 text new after → take after new ≡ text
 unfolding written
 take_puts old text new after puts =
     ap (take after) puts.bytes ∙ take_at text (drop (0 + length text) old) after (omega (arith, puts.place))

@@ -1,6 +1,6 @@
 use Rattle.std.proofs.Common.{◌≡◌, ◌∙◌, ◌-◌, None, Some, List, refl, subst, arith, rules, ap, length, Vec, ℕ, Global, drop}
 use Rattle.std.proofs.lemmas.List.{length_push}
-use Rattle.bbs_journal.specs.Reading.{IsAt, IsWithin, payloads_of, bytes_of}
+use Rattle.bbs_journal.specs.Reading.{IsAt, IsFrameWithin, payloads_of, bytes_of}
 use Rattle.bbs_journal.specs.declared.frame.Next.{Next}
 use Rattle.bbs_journal.specs.declared.frame.Next.TheVariants.{Frame}
 use Rattle.bbs_journal.proofs.NextFrame.{one_more, all_stop, bytes_push}
@@ -10,7 +10,7 @@ use Rattle.bbs_journal.proofs.frame_list.read_frames.Goals as goal
 pub loop-piece-preserved : goal.loop-piece-preserved
 loop-piece-preserved g c =
     let payload = c.in-Frame.payload in
-    let here : IsWithin (Frame payload) (c.args.len - c.loop-piece.at) = subst (λ (n : Next). IsWithin n (c.args.len - c.loop-piece.at)) c.in-Frame.is c.in_ok-payload.ensures.within in
+    let here : IsFrameWithin (Frame payload) (c.args.len - c.loop-piece.at) = subst (λ (n : Next). IsFrameWithin n (c.args.len - c.loop-piece.at)) c.in-Frame.is c.in_ok-payload.ensures.within in
     let size : c.len.result ≡ length payload.items = c.len.ensures ∙ payload.ok.0 in
     let items = c.in_ok-push-in-Frame.ensures.items in
     record {

@@ -1,7 +1,7 @@
 use Rattle.std.proofs.Common.{◌≡◌, ℕ, ◌+◌, ◌-◌, ◌*◌, ◌≤◌, Option, List, ◌++◌, length, drop}
 use Rattle.disk_trait.specs.Past.{Image}
 use Rattle.disk_trait.specs.Steps.{Goes}
-use Rattle.bbs_journal.specs.Shows.{Shows, Peeks}
+use Rattle.disk_trait.specs.Shows.{Shows, Peeks}
 use Rattle.bbs_journal.specs.Opening.{AreFrames}
 use Rattle.bbs_journal.specs.Pieces.{StartsBy, IsPieceOf}
 use Rattle.bbs_journal.specs.Reading.{payloads_of, bytes_of}

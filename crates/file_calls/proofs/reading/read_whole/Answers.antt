@@ -5,7 +5,7 @@ use borrow.Rule.Slice.PartMut.{put_mid}
 use Rattle.file_calls.specs.Files.{held_by}
 use Rattle.file_calls.specs.Honest.{is_honest}
 use Rattle.file_calls.specs.Made.{reads}
-use Rattle.file_calls.specs.Moved.{Gives}
+use Rattle.file_calls.specs.Moved.{GivesBytes}
 use Rattle.file_calls.proofs.Records.{adds_then, honest_before}
 use Rattle.file_calls.proofs.ReadLemmas.{read_within, read_front, filled, gives_same}
 use Rattle.file_calls.proofs.reading.read_whole.Goals as goal
@@ -27,7 +27,7 @@ loop-count-preserved g c =
     let rest : length new ≡ length c.loop-count.room - count = search (rules, places) in
     let few : got ≤ length new = search (rules, places) in
     let before : is_honest first (g.C.Calls.history c.read_again.new.calls) ≡ true → is_honest first (g.C.Calls.history c.loop-count.calls) ≡ true = λ h. honest_before first (reads area) (g.C.Calls.history c.loop-count.calls) (g.C.Calls.history c.read_again.new.calls) e.adds h in
-    let gives : is_honest first (g.C.Calls.history c.read_again.new.calls) ≡ true → Gives bytes c.saturating_add-from.result got new = λ h. gives_same first area (g.C.Calls.history c.args.calls.now) (g.C.Calls.history c.loop-count.calls) c.saturating_add-from.result got new inv.adds (e.bytes h) in
+    let gives : is_honest first (g.C.Calls.history c.read_again.new.calls) ≡ true → GivesBytes bytes c.saturating_add-from.result got new = λ h. gives_same first area (g.C.Calls.history c.args.calls.now) (g.C.Calls.history c.loop-count.calls) c.saturating_add-from.result got new inv.adds (e.bytes h) in
     record {
       bound = search (rules, places);
       adds = adds_then (reads area) _ _ _ inv.adds e.adds;

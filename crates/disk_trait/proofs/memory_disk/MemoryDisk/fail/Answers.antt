@@ -1,5 +1,5 @@
 use Rattle.std.proofs.Common.{ℕ, sym, subst, arith}
-use Rattle.disk_trait.specs.Steps.{Looks}
+use Rattle.disk_trait.specs.Steps.{ChangesNothing}
 use Rattle.disk_trait.specs.MemoryAreas.{past_of}
 use Rattle.disk_trait.proofs.MoveLemmas.{numbered_upto, ticked_later, ticked_looks}
 use Rattle.disk_trait.proofs.memory_disk.MemoryDisk.fail.Goals as goal
@@ -15,5 +15,5 @@ invariant_of-self c =
 pub returns-clause-does : goal.returns-clause-does
 returns-clause-does c =
     let disk = c.args.self.now in
-    subst (λ (k : ℕ). Looks (past_of disk.areas disk.meter.clock) (past_of disk.areas k)) (sym c.fail.ensures.clock)
+    subst (λ (k : ℕ). ChangesNothing (past_of disk.areas disk.meter.clock) (past_of disk.areas k)) (sym c.fail.ensures.clock)
     (ticked_looks c.tick-ticked.result _ _ disk.areas c.tick-ticked.ensures.time disk.numbered)
