@@ -1,2 +1,4 @@
+pub mod Bytes
+pub mod Public
 pub mod Text
 pub mod Ties

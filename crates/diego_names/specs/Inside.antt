@@ -23,5 +23,6 @@ name_inverse bytes = record { bytes = bytes ++ replicate (80 - length bytes) 0; 
 pub name_inverse-name_view : (a : Inside) → IsNameInside a → name_inverse (name_view a) ≡ a
 name_inverse-name_view a h i =
     let len : length (take a.len a.bytes) ≡ a.len = length-take-le a.len a.bytes (omega (arith, h.whole, h.len)) in
-    let bytes : take a.len a.bytes ++ replicate (80 - length (take a.len a.bytes)) 0 ≡ a.bytes = rw (len, ← h.rest) (take-append-drop a.len a.bytes) in
+    let bytes : take a.len a.bytes ++ replicate (80 - length (take a.len a.bytes)) 0 ≡ a.bytes =
+    rw (len, ← h.rest) (take-append-drop a.len a.bytes) in
     record { bytes = bytes i; len = len i }

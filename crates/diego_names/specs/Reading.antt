@@ -10,7 +10,7 @@ unless_bad bytes None = Ok bytes
 unless_bad bytes (Some at) = Err (BadByte at)
 
 -- the bytes as a name, or why they are none
-abbrev pub reading : List ℕ → Result (List ℕ) NameFault
-reading bytes =
+abbrev pub name_reading : List ℕ → Result (List ℕ) NameFault
+name_reading bytes =
     if length bytes == 0 then Err Empty
     else (if nat_lt 80 (length bytes) then Err (TooLong (length bytes)) else unless_bad bytes (first_bad_byte bytes))

@@ -1,8 +1,7 @@
 //! A name is kept in place, so that it is copied and takes no memory.
 
-ghost use Rattle.std.specs.Prelude.{◌≡◌, ◌↔◌, ◌≤◌, ◌-◌, ◌++◌, length, replicate, IfOk, IsNone, Ok, Some, nat_eq};
-ghost use Rattle.std.specs.List.{AllPass};
-ghost use Rattle.std.specs.Hash as fed;
+ghost use Rattle.std.specs.Prelude.{◌≡◌, ◌↔◌, ◌≤◌, ◌-◌, [], ◌∷◌, ◌++◌, length, replicate, IfOk, IsNone, Ok, Some, nat_eq};
+ghost use Rattle.std.specs.List.{AllPass, list_all};
 ghost use Rattle.std.specs.Ordering.{as_partial_cmp};
 ghost use Rattle.std.specs.Cmp.{partial_order_from_own_ties};
 ghost use Rattle.std.specs.Cmp.Lexicographic.{pointwise};
@@ -62,7 +61,22 @@ impl Model for Name {
 fn is_name_byte(byte: u8) -> bool
     ensures { result ≡ is_name_byte byte }
 {
-    byte.is_ascii_alphanumeric() || matches!(byte, b'.' | b'_' | b'-')
+    let is_upper = (b'A' <= byte) & (byte <= b'Z');
+    let is_lower = (b'a' <= byte) & (byte <= b'z');
+    let is_digit = (b'0' <= byte) & (byte <= b'9');
+    is_upper | is_lower | is_digit | (byte == b'.') | (byte == b'_') | (byte == b'-')
+}
+
+// Whether a name may have each of the bytes. It looks at all of them, so that many are looked at at once.
+#[tactic(auto, using(std::proofs::lemmas::List::Folds::list_all_more))]
+fn are_name_bytes(bytes: &[u8]) -> bool
+    ensures { result ≡ list_all is_name_byte bytes.now }
+{
+    let mut all = true;
+    for byte in bytes {
+        all = all & is_name_byte(*byte);
+    }
+    all
 }
 
 // The place of the first byte that no name has.
@@ -70,6 +84,9 @@ fn first_bad_byte(bytes: &[u8]) -> Option<usize>
     ensures value { result ≡ first_bad_byte bytes.now }
     ensures none { IsNone result ↔ AllPass is_name_byte bytes.now }
 {
+    if are_name_bytes(bytes) {
+        return None;
+    }
     bytes.iter().position(|byte| !is_name_byte(*byte))
 }
 
@@ -85,11 +102,11 @@ fn padded(bytes: &[u8]) -> [u8; 80]
 
 impl Name {
     ghost use Rattle.diego_names.specs.Name.{IsName};
-    ghost use Rattle.diego_names.specs.Reading.{reading};
+    ghost use Rattle.diego_names.specs.Reading.{name_reading};
 
     /// The name that these bytes are.
     pub fn read(bytes: &[u8]) -> Result<Name, NameFault>
-        ensures exact { result ≡ reading bytes.now }
+        ensures exact { result ≡ name_reading bytes.now }
         ensures name { IfOk result (λ name. IsName name × (name ≡ bytes.now)) }
         ensures whole { IsName bytes.now → result ≡ Ok bytes.now }
     {
@@ -166,12 +183,13 @@ impl PartialOrd for Name {
 }
 
 impl Hash for Name {
-    ghost hash_input = { fed.slice fed.u8 };
+    // One write of all bytes, since a hasher takes many at once.
+    ghost hash_input = { λ name. name ∷ [] };
 
     ghost respects_eq = { Prim.search (hashing, rules) };
 
     fn hash<H: Hasher>(&self, state: &mut H) {
-        self.bytes().hash(state);
+        state.write(self.bytes());
     }
 }
 

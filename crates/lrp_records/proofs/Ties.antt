@@ -7,7 +7,7 @@ use Rattle.std.specs.declared.cmp.Ordering.{Ordering}
 use Rattle.std.specs.declared.cmp.Ordering.TheVariants.{Less, Equal, Greater}
 use Rattle.diego_names.specs.Key.{key_order}
 use Rattle.row_tables.specs.Table.{IsKeyOrder}
-use Rattle.diego_names.proofs.Ties.{IsKeyOrder-key_order}
+use Rattle.diego_names.proofs.Public.{IsKeyOrder-key_order}
 use Rattle.lrp_records.specs.Place.{place_order}
 use Rattle.lrp_records.specs.Presence.{rank_of, presence_order}
 use Rattle.lrp_records.specs.declared.presence.Presence.TheVariants.{Ordinary, Evacuating}

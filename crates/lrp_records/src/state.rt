@@ -1,5 +1,5 @@
 ghost use Rattle.std.specs.Prelude.{◌≡◌};
-ghost use Rattle.lrp_records.specs.States.{name_of, holder_of};
+ghost use Rattle.lrp_records.specs.States.{name_of, holder_of, cell_of};
 
 use diego_names::{Instance, Name, StateName};
 
@@ -38,6 +38,16 @@ impl LrpState {
             LrpState::Unclaimed | LrpState::Crashed => None,
         }
     }
+
+    /// The cell on which that container is.
+    pub fn cell(&self) -> Option<Name>
+        ensures { result ≡ cell_of self.now }
+    {
+        match self {
+            LrpState::Claimed { cell, .. } | LrpState::Running { cell, .. } => Some(*cell),
+            LrpState::Unclaimed | LrpState::Crashed => None,
+        }
+    }
 }
 
 #[cfg(test)]
@@ -46,28 +56,31 @@ mod tests {
     use std::test::Fail;
 
     #[test]
-    fn a_state_tells_its_name_and_its_container(rt: HostRuntime) -> Result<(), Fail> {
+    fn a_state_tells_its_name_its_container_and_the_cell(rt: HostRuntime) -> Result<(), Fail> {
         let instance = Instance {
             epoch: 3,
             number: 2,
         };
         let cell = Name::read(b"c1")?;
-        for (state, name, holder) in [
-            (LrpState::Unclaimed, StateName::Unclaimed, None),
+        for (state, name, holder, place) in [
+            (LrpState::Unclaimed, StateName::Unclaimed, None, None),
             (
                 LrpState::Claimed { instance, cell },
                 StateName::Claimed,
                 Some(instance),
+                Some(cell),
             ),
             (
                 LrpState::Running { instance, cell },
                 StateName::Running,
                 Some(instance),
+                Some(cell),
             ),
-            (LrpState::Crashed, StateName::Crashed, None),
+            (LrpState::Crashed, StateName::Crashed, None, None),
         ] {
             assert_eq!(rt; state.name(), name);
             assert_eq!(rt; state.holder(), holder, "in {state:?}");
+            assert_eq!(rt; state.cell(), place, "in {state:?}");
         }
         Ok(())
     }

@@ -1,5 +1,6 @@
 pub mod Keyed
 pub mod Lookups
+pub mod Public
 pub mod Rising
 pub mod Lengths
 pub mod Sums

@@ -3,7 +3,7 @@ use Rattle.std.proofs.Common.{◌≡◌, ℕ, ◌≤◌, ◌↔◌, List, [], �
 use Rattle.std.proofs.lemmas.Grind.{common_steps}
 use Rattle.crash_backoff.specs.declared.moment.Moment.{Moment}
 use Rattle.task_records.specs.Laws.{IsCompletion, NeverTurnsBack}
-use Rattle.task_records.specs.Life.{is_completion, completions_from, completions}
+use Rattle.task_records.specs.Life.{is_completion, completions_from, outcomes}
 use Rattle.task_records.specs.Moves.{task_move}
 use Rattle.task_records.specs.States.{is_unfinished, is_completed}
 use Rattle.task_records.specs.declared.move_end.TaskEnd.{TaskEnd}
@@ -32,10 +32,10 @@ none_from row Gone later back e none = refl
 none_from row Same later back e none = none row e
 none_from row (Refused refusal) later back e none = none row e
 
-none_after : (moves : List (TaskMove × Moment)) (row : Task) → is_unfinished row.state ≡ false → completions row moves ≡ 0
+none_after : (moves : List (TaskMove × Moment)) (row : Task) → is_unfinished row.state ≡ false → outcomes row moves ≡ 0
 none_after [] row e = refl
 none_after (move ∷ moves) row e =
-    none_from row (task_move row move.0 move.1) (λ new. completions new moves) (NeverTurnsBack-task_move row move.0 move.1) e (none_after moves)
+    none_from row (task_move row move.0 move.1) (λ new. outcomes new moves) (NeverTurnsBack-task_move row move.0 move.1) e (none_after moves)
 
 -- a move gives an outcome only where what comes after it gives none
 once_from : (row : Task) (end : TaskEnd) (later : Task → ℕ) → ((new : Task) → is_unfinished new.state ≡ false → later new ≡ 0) → ((new : Task) → later new ≤ 1) → completions_from row end later ≤ 1
@@ -44,7 +44,7 @@ once_from row Gone later none once = omega arith
 once_from row Same later none once = once row
 once_from row (Refused refusal) later none once = once row
 
-pub completions-once : (moves : List (TaskMove × Moment)) (row : Task) → completions row moves ≤ 1
+pub completions-once : (moves : List (TaskMove × Moment)) (row : Task) → outcomes row moves ≤ 1
 completions-once [] row = omega arith
 completions-once (move ∷ moves) row =
-    once_from row (task_move row move.0 move.1) (λ new. completions new moves) (none_after moves) (completions-once moves)
+    once_from row (task_move row move.0 move.1) (λ new. outcomes new moves) (none_after moves) (completions-once moves)

@@ -20,7 +20,7 @@ completions_from row Same later = later row
 completions_from row (Refused refusal) later = later row
 
 -- how often the task gets an outcome by these moves
-abbrev pub completions : Task → List (TaskMove × Moment) → ℕ
-completions row [] = 0
-completions row (move ∷ moves) =
-    completions_from row (task_move row move.0 move.1) (λ new. completions new moves)
+abbrev pub outcomes : Task → List (TaskMove × Moment) → ℕ
+outcomes row [] = 0
+outcomes row (move ∷ moves) =
+    completions_from row (task_move row move.0 move.1) (λ new. outcomes new moves)

@@ -46,7 +46,7 @@ fn from_pending(row: &Task, mv: &TaskMove, now: Moment) -> TaskEnd
 }
 
 fn from_running(row: &Task, held: Instance, mv: &TaskMove, now: Moment) -> TaskEnd
-    ensures { result ≡ moves.from_running row.now held mv.now now }
+    ensures { result ≡ moves.task_from_running row.now held mv.now now }
 {
     match *mv {
         TaskMove::Start { instance, .. } => if_own(instance, held, TaskEnd::Same),

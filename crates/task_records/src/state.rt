@@ -1,5 +1,5 @@
 ghost use Rattle.std.specs.Prelude.{◌≡◌};
-ghost use Rattle.task_records.specs.States.{name_of};
+ghost use Rattle.task_records.specs.States.{task_state_name, runner_of, task_cell_of};
 
 use diego_names::{Instance, Name, StateName};
 
@@ -17,13 +17,33 @@ pub enum TaskState {
 
 impl TaskState {
     pub fn name(&self) -> StateName
-        ensures { result ≡ name_of self.now }
+        ensures { result ≡ task_state_name self.now }
     {
         match self {
             TaskState::Pending => StateName::Pending,
             TaskState::Running { .. } => StateName::Running,
             TaskState::Completed { .. } => StateName::Completed,
             TaskState::Resolving { .. } => StateName::Resolving,
+        }
+    }
+
+    /// The container that has the task.
+    pub fn runner(&self) -> Option<Instance>
+        ensures { result ≡ runner_of self.now }
+    {
+        match self {
+            TaskState::Running { instance, .. } => Some(*instance),
+            TaskState::Pending | TaskState::Completed { .. } | TaskState::Resolving { .. } => None,
+        }
+    }
+
+    /// The cell on which that container is.
+    pub fn cell(&self) -> Option<Name>
+        ensures { result ≡ task_cell_of self.now }
+    {
+        match self {
+            TaskState::Running { cell, .. } => Some(*cell),
+            TaskState::Pending | TaskState::Completed { .. } | TaskState::Resolving { .. } => None,
         }
     }
 }

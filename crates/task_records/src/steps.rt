@@ -10,7 +10,7 @@ use crash_backoff::Moment;
 use diego_names::Instance;
 
 pub fn turned(row: &Task, state: TaskState, now: Moment) -> TaskEnd
-    ensures { result ≡ steps.turned row.now state now }
+    ensures { result ≡ steps.task_turned row.now state now }
 {
     TaskEnd::Changed(Task {
         state,
@@ -26,7 +26,7 @@ pub fn cancelled(row: &Task, now: Moment) -> TaskEnd
 }
 
 pub fn wrong_state(row: &Task) -> TaskEnd
-    ensures { result ≡ steps.wrong_state row.now }
+    ensures { result ≡ steps.task_wrong_state row.now }
 {
     TaskEnd::Refused(TaskRefusal::WrongState {
         state: row.state.name(),
@@ -35,7 +35,7 @@ pub fn wrong_state(row: &Task) -> TaskEnd
 
 /// `own` where the move's container has the task, and else a refusal.
 pub fn if_own(instance: Instance, held: Instance, own: TaskEnd) -> TaskEnd
-    ensures { result ≡ steps.if_own instance held own }
+    ensures { result ≡ steps.if_own_task instance held own }
 {
     if instance == held {
         own

@@ -4,7 +4,7 @@ use Rattle.std.proofs.lemmas.Bool.{cases_lt}
 use Rattle.std.proofs.lemmas.List.{take-append-le, drop_at, drop-drop, length-append}
 use Rattle.wire_fields.specs.declared.fault.FieldFault.{FieldFault}
 use Rattle.wire_fields.specs.declared.fault.FieldFault.TheVariants.{Short}
-use Rattle.wire_fields.specs.Laws.{IsBytes, StandsAt, IsField}
+use Rattle.wire_fields.specs.Laws.{IsBytes, TextStandsAt, IsField}
 use Rattle.wire_fields.specs.Reading.{◌>>=◌}
 use Rattle.wire_fields.proofs.Places.{StandsAt-append, StandsAt-front, StandsAt-back}
 use Rattle.wire_fields.proofs.Fronts.{IsRead-written, ok_is}
@@ -13,8 +13,8 @@ use Rattle.wire_fields.proofs.Pairs.{bind_ok, take-append_back}
 -- the readings that are left once the fields before them gave `c`: they give a value whose fields before are `c`
 pub record IsTail {C Z : Type 0} (before : Z → C) (Fits : Z → Type 0) (text : Z → List ℕ) (tail : C → List ℕ → ℕ → Result (Z × ℕ) FieldFault) : Type 0 where
   pub spelled : (c : C) (bytes : List ℕ) (at : ℕ) (z : Z) (after : ℕ) → IsBytes bytes → tail c bytes at ≡ Ok (z, after)
-      → StandsAt bytes at (text z) × (after ≡ at + length (text z)) × Fits z × (before z ≡ c)
-  pub again : (bytes : List ℕ) (at : ℕ) (z : Z) → Fits z → StandsAt bytes at (text z) → tail (before z) bytes at ≡ Ok (z, at + length (text z))
+      → TextStandsAt bytes at (text z) × (after ≡ at + length (text z)) × Fits z × (before z ≡ c)
+  pub again : (bytes : List ℕ) (at : ℕ) (z : Z) → Fits z → TextStandsAt bytes at (text z) → tail (before z) bytes at ≡ Ok (z, at + length (text z))
   pub cut : (bytes : List ℕ) (at k : ℕ) (z : Z) → Fits z → k < length (text z) → drop at bytes ≡ take k (text z)
       → tail (before z) bytes at ≡ Err (Short (length bytes))
 
@@ -34,7 +34,7 @@ IsTail-last {C} {X} {Z} {Fits} {s} {read} make before last parts is = record {
       let front = is.spelled bytes at x.0.0 x.0.1 ib x.1 in
       let pair : ◌≡◌ {A = Z × ℕ} (make c x.0.0, x.0.1) (z, after) = ok_is {X = Z × ℕ} (make c x.0.0, x.0.1) (z, after) x.2 in
       let last-is : x.0.0 ≡ last z = sym (parts.last_of c x.0.0) ∙ ap (λ (p : Z × ℕ). last p.0) pair in (
-        subst (λ (v : X). StandsAt bytes at (s v)) last-is front.0,
+        subst (λ (v : X). TextStandsAt bytes at (s v)) last-is front.0,
         sym (ap (λ (p : Z × ℕ). p.1) pair) ∙ front.1 ∙ ap (λ (v : X). at + length (s v)) last-is,
         subst Fits last-is front.2,
         sym (ap (λ (p : Z × ℕ). before p.0) pair) ∙ parts.before_of c x.0.0,
@@ -59,10 +59,10 @@ IsTail-more {C} {X} {Z} {FitsX} {s} {read} {Fits} {text} {tail} before is js =
           let front = is.spelled bytes at x.0.0 x.0.1 ib x.1 in
           let back = js.spelled (c, x.0.0) bytes x.0.1 z after ib x.2 in
           let x-is : x.0.0 ≡ (before z).1 = sym (ap (λ (d : C × X). d.1) back.3) in
-          let there : StandsAt bytes (at + length (s x.0.0)) (text z) = subst (λ (n : ℕ). StandsAt bytes n (text z)) front.1 back.0 in
+          let there : TextStandsAt bytes (at + length (s x.0.0)) (text z) = subst (λ (n : ℕ). TextStandsAt bytes n (text z)) front.1 back.0 in
           let both = StandsAt-append bytes at (s x.0.0) (text z) front.0 there in
           let place : after ≡ at + length (s x.0.0 ++ text z) = omega (arith, length-append (s x.0.0) (text z), front.1, back.1) in (
-            subst (λ (v : X). StandsAt bytes at (s v ++ text z)) x-is both,
+            subst (λ (v : X). TextStandsAt bytes at (s v ++ text z)) x-is both,
             place ∙ ap (λ (v : X). at + length (s v ++ text z)) x-is,
             (subst FitsX x-is front.2, back.2),
             ap (λ (d : C × X). d.0) back.3,

@@ -3,8 +3,8 @@ use Rattle.std.proofs.Common.{◌≡◌, ℕ, ◌+◌, ◌≤◌, ◌<◌, Bool,
 use Rattle.wire_fields.specs.declared.fault.FieldFault.{FieldFault}
 use Rattle.wire_fields.specs.Field.{written}
 use Rattle.wire_fields.specs.Front.{Front, Holds, Ends, Bad}
-use Rattle.wire_fields.specs.Laws.{IsBytes, StandsAt, IsField}
-use Rattle.wire_fields.specs.Reading.{placed}
+use Rattle.wire_fields.specs.Laws.{IsBytes, TextStandsAt, IsField}
+use Rattle.wire_fields.specs.Reading.{field_placed}
 use Rattle.wire_fields.proofs.Places.{IsBytes-drop, StandsAt-written}
 
 -- what the front of the bytes holds, as the laws of a field say it
@@ -37,7 +37,7 @@ held x y m n e = (cc, cc)
 pub ok_is : {X : Type 0} (x y : X) → ◌≡◌ {A = Result X FieldFault} (Ok x) (Ok y) → x ≡ y
 ok_is x y e = cc
 
-placed_ok : {X : Type 0} (bytes : List ℕ) (at : ℕ) (f : Front X) (x : X) (after : ℕ) → placed bytes at f ≡ Ok (x, after) → (n : ℕ) × (f ≡ Holds x n) × (after ≡ at + n)
+placed_ok : {X : Type 0} (bytes : List ℕ) (at : ℕ) (f : Front X) (x : X) (after : ℕ) → field_placed bytes at f ≡ Ok (x, after) → (n : ℕ) × (f ≡ Holds x n) × (after ≡ at + n)
 placed_ok {X = X} bytes at (Holds y n) x after e =
     let pair = ok_is {X = X × ℕ} (y, at + n) (x, after) e in
     (n, ap (λ (p : X × ℕ). Holds p.0 n) pair, sym (ap (λ (p : X × ℕ). p.1) pair))
@@ -46,7 +46,7 @@ placed_ok bytes at Bad x after e = absurd cc
 
 -- what is spelled is read, so what was written is read back
 pub record IsRead {X : Type 0} (Fits : X → Type 0) (spelling : X → List ℕ) (read : List ℕ → ℕ → Result (X × ℕ) FieldFault) : Type 0 where
-  pub again : (bytes : List ℕ) (at : ℕ) (x : X) → Fits x → StandsAt bytes at (spelling x) → read bytes at ≡ Ok (x, at + length (spelling x))
+  pub again : (bytes : List ℕ) (at : ℕ) (x : X) → Fits x → TextStandsAt bytes at (spelling x) → read bytes at ≡ Ok (x, at + length (spelling x))
 
 pub IsRead-written : {X : Type 0} {Fits : X → Type 0} {spelling : X → List ℕ} {read : List ℕ → ℕ → Result (X × ℕ) FieldFault} → IsRead Fits spelling read
     → (out : List ℕ) (at : ℕ) (x : X) → Fits x → at + length (spelling x) ≤ length out → read (written out at (spelling x)) at ≡ Ok (x, at + length (spelling x))
@@ -54,11 +54,11 @@ IsRead-written {spelling = spelling} is out at x fits room =
     is.again (written out at (spelling x)) at x fits (StandsAt-written out at (spelling x) (omega arith))
 
 pub IsField-from_front : {X : Type 0} {Fits : X → Type 0} {spelling : X → List ℕ} {front : List ℕ → Front X} → IsFront Fits spelling front
-    → IsField Fits spelling (λ bytes at. placed bytes at (front (drop at bytes)))
+    → IsField Fits spelling (λ bytes at. field_placed bytes at (front (drop at bytes)))
 IsField-from_front {X} {Fits} {spelling} {front} is =
-    let read : List ℕ → ℕ → Result (X × ℕ) FieldFault = λ bytes at. placed bytes at (front (drop at bytes)) in
+    let read : List ℕ → ℕ → Result (X × ℕ) FieldFault = λ bytes at. field_placed bytes at (front (drop at bytes)) in
     let reads : IsRead Fits spelling read = record {
-      again = λ bytes at x fits stands. ap (λ (ds : List ℕ). placed bytes at (front ds)) stands.parts ∙ ap (placed bytes at) (is.again x stands.rest fits);
+      again = λ bytes at x fits stands. ap (λ (ds : List ℕ). field_placed bytes at (front ds)) stands.parts ∙ ap (field_placed bytes at) (is.again x stands.rest fits);
     } in
     record {
       spelled = λ bytes at x after ib e.
@@ -67,5 +67,5 @@ IsField-from_front {X} {Fits} {spelling} {front} is =
           (record { rest = t.rest; parts = t.parts }, omega (arith, p.2, t.count), t.fits);
       again = reads.again;
       back = IsRead-written reads;
-      cut = λ bytes at k x fits lt e. ap (λ (ds : List ℕ). placed bytes at (front ds)) e ∙ ap (placed bytes at) (is.cut x k fits lt);
+      cut = λ bytes at k x fits lt e. ap (λ (ds : List ℕ). field_placed bytes at (front ds)) e ∙ ap (field_placed bytes at) (is.cut x k fits lt);
     }

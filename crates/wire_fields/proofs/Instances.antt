@@ -6,7 +6,7 @@ use Rattle.diego_names.specs.declared.instance.Instance.{Instance}
 use Rattle.wire_fields.specs.declared.fault.FieldFault.{FieldFault}
 use Rattle.wire_fields.specs.declared.fault.FieldFault.TheVariants.{Short}
 use Rattle.wire_fields.specs.Field.{field_truth, field_instance, field_optional_instance}
-use Rattle.wire_fields.specs.Laws.{IsBytes, StandsAt, FitsInstance, IsField}
+use Rattle.wire_fields.specs.Laws.{IsBytes, TextStandsAt, FitsInstance, IsField}
 use Rattle.wire_fields.specs.Reading.{◌>>=◌, truth_at, instance_at, optional_instance_at}
 use Rattle.wire_fields.proofs.Numbers.{IsField-u32, IsField-u64}
 use Rattle.wire_fields.proofs.Places.{StandsAt-append, StandsAt-front, StandsAt-back}
@@ -27,7 +27,7 @@ FitsOptional o = IfSome o FitsInstance
 
 -- the value is spelled at the place, and ends at another
 record Spells (bytes : List ℕ) (at : ℕ) (o : Option Instance) (after : ℕ) : Type 0 where
-  stands : StandsAt bytes at (field_optional_instance o)
+  stands : TextStandsAt bytes at (field_optional_instance o)
   place : after ≡ at + length (field_optional_instance o)
   fits : FitsOptional o
 
@@ -39,7 +39,7 @@ abbrev behind : List ℕ → Bool × ℕ → Result (Option Instance × ℕ) Fie
 behind bytes t = cond t.0 (instance_at bytes t.1 >>= seen) (Ok (None, t.1))
 
 told : (bytes : List ℕ) (at : ℕ) (b : Bool) (start : ℕ) (o : Option Instance) (after : ℕ) → IsBytes bytes
-    → StandsAt bytes at (field_truth b) → start ≡ at + length (field_truth b) → behind bytes (b, start) ≡ Ok (o, after) → Spells bytes at o after
+    → TextStandsAt bytes at (field_truth b) → start ≡ at + length (field_truth b) → behind bytes (b, start) ≡ Ok (o, after) → Spells bytes at o after
 unfolding field_truth field_optional_instance
 told bytes at false start o after ib stands place e =
     let pair = ok_is {X = Option Instance × ℕ} (None, start) (o, after) e in
@@ -47,7 +47,7 @@ told bytes at false start o after ib stands place e =
 told bytes at true start o after ib stands place e =
     let i = bind_ok (instance_at bytes start) seen (o, after) e in
     let inner = IsField-instance.spelled bytes start i.0.0 i.0.1 ib i.1 in
-    let there : StandsAt bytes (at + length (field_truth true)) (field_instance i.0.0) = subst (λ (n : ℕ). StandsAt bytes n (field_instance i.0.0)) place inner.0 in
+    let there : TextStandsAt bytes (at + length (field_truth true)) (field_instance i.0.0) = subst (λ (n : ℕ). TextStandsAt bytes n (field_instance i.0.0)) place inner.0 in
     let pair = ok_is {X = Option Instance × ℕ} (Some i.0.0, i.0.1) (o, after) i.2 in
     subst (λ (p : Option Instance × ℕ). Spells bytes at p.0 p.1) pair (record {
       stands = StandsAt-append bytes at (field_truth true) (field_instance i.0.0) stands there;
@@ -55,7 +55,7 @@ told bytes at true start o after ib stands place e =
       fits = inner.2;
     })
 
-optional_again : (bytes : List ℕ) (at : ℕ) (o : Option Instance) → FitsOptional o → StandsAt bytes at (field_optional_instance o)
+optional_again : (bytes : List ℕ) (at : ℕ) (o : Option Instance) → FitsOptional o → TextStandsAt bytes at (field_optional_instance o)
     → optional_instance_at bytes at ≡ Ok (o, at + length (field_optional_instance o))
 unfolding field_truth field_optional_instance optional_instance_at
 optional_again bytes at None fits stands = ap (λ (r : Result (Bool × ℕ) FieldFault). r >>= behind bytes) (IsField-truth.again bytes at false tt stands)

@@ -2,6 +2,7 @@ pub mod Places
 pub mod Fronts
 pub mod Numbers
 pub mod Names
+pub mod Public
 pub mod Truths
 pub mod Pairs
 pub mod Instances

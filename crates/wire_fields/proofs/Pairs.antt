@@ -4,7 +4,7 @@ use Rattle.std.proofs.lemmas.Bool.{cases_lt}
 use Rattle.std.proofs.lemmas.List.{take-append-le, drop_at, drop-drop, length-append}
 use Rattle.std.proofs.Math.Seq.{take-append-add}
 use Rattle.wire_fields.specs.declared.fault.FieldFault.{FieldFault}
-use Rattle.wire_fields.specs.Laws.{StandsAt, IsField}
+use Rattle.wire_fields.specs.Laws.{TextStandsAt, IsField}
 use Rattle.wire_fields.specs.Reading.{◌>>=◌}
 use Rattle.wire_fields.proofs.Places.{StandsAt-append, StandsAt-front, StandsAt-back}
 use Rattle.wire_fields.proofs.Fronts.{IsRead, IsRead-written, ok_is}
@@ -55,14 +55,14 @@ IsField-pair {X} {Y} {Z} {FitsX} {FitsY} {s} {t} {first} {second} make one other
           let y = bind_ok (second bytes x.0.1) (λ y. Ok (make x.0.0 y.0, y.1)) (z, after) x.2 in
           let front = is.spelled bytes at x.0.0 x.0.1 ib x.1 in
           let back = js.spelled bytes x.0.1 y.0.0 y.0.1 ib y.1 in
-          let there : StandsAt bytes (at + length (s x.0.0)) (t y.0.0) = subst (λ (n : ℕ). StandsAt bytes n (t y.0.0)) front.1 back.0 in
+          let there : TextStandsAt bytes (at + length (s x.0.0)) (t y.0.0) = subst (λ (n : ℕ). TextStandsAt bytes n (t y.0.0)) front.1 back.0 in
           let both = StandsAt-append bytes at (s x.0.0) (t y.0.0) front.0 there in
           let place : y.0.1 ≡ at + length (s x.0.0 ++ t y.0.0) = omega (arith, length-append (s x.0.0) (t y.0.0), front.1, back.1) in
           let pair : ◌≡◌ {A = Z × ℕ} (make x.0.0 y.0.0, y.0.1) (z, after) = ok_is {X = Z × ℕ} (make x.0.0 y.0.0, y.0.1) (z, after) y.2 in
           let one-is : x.0.0 ≡ one z = sym (parts.one_of x.0.0 y.0.0) ∙ ap (λ (p : Z × ℕ). one p.0) pair in
           let other-is : y.0.0 ≡ other z = sym (parts.other_of x.0.0 y.0.0) ∙ ap (λ (p : Z × ℕ). other p.0) pair in
           let text : s x.0.0 ++ t y.0.0 ≡ s (one z) ++ t (other z) = ap (λ (v : X). s v ++ t y.0.0) one-is ∙ ap (λ (v : Y). s (one z) ++ t v) other-is in (
-            subst (StandsAt bytes at) text both,
+            subst (TextStandsAt bytes at) text both,
             sym (ap (λ (p : Z × ℕ). p.1) pair) ∙ place ∙ ap (λ (w : List ℕ). at + length w) text,
             (subst FitsX one-is front.2, subst FitsY other-is back.2),
           );

@@ -2,8 +2,8 @@
 use Rattle.std.proofs.Common.{◌≡◌, ℕ, ◌+◌, ◌≤◌, List, ◌++◌, length, take, drop, refl, sym, ap, ◌∙◌, append_assoc, arith, inl, inr}
 use Rattle.std.proofs.lemmas.Bool.{cases_lt}
 use Rattle.std.proofs.lemmas.List.{take_at, drop_at, drop-drop, length-append, length-take-le, get_or-drop, get_or-take, get_or_past, length-take}
-use Rattle.wire_fields.specs.Field.{written, Puts}
-use Rattle.wire_fields.specs.Laws.{IsBytes, StandsAt}
+use Rattle.wire_fields.specs.Field.{written, PutsText}
+use Rattle.wire_fields.specs.Laws.{IsBytes, TextStandsAt}
 
 pub IsBytes-drop : (n : ℕ) (bytes : List ℕ) → IsBytes bytes → IsBytes (drop n bytes)
 IsBytes-drop n bytes h i = rw get_or-drop (h (n + i))
@@ -16,7 +16,7 @@ IsBytes-take n bytes h i =
     ]
 
 -- two texts, one behind the other, are one
-pub StandsAt-append : (bytes : List ℕ) (at : ℕ) (a b : List ℕ) → StandsAt bytes at a → StandsAt bytes (at + length a) b → StandsAt bytes at (a ++ b)
+pub StandsAt-append : (bytes : List ℕ) (at : ℕ) (a b : List ℕ) → TextStandsAt bytes at a → TextStandsAt bytes (at + length a) b → TextStandsAt bytes at (a ++ b)
 StandsAt-append bytes at a b first second =
     let rest-is : drop (at + length a) bytes ≡ first.rest = sym (drop-drop (length a) at bytes) ∙ ap (drop (length a)) first.parts ∙ drop_at a first.rest (length a) refl in
     record {
@@ -25,11 +25,11 @@ StandsAt-append bytes at a b first second =
     }
 
 -- the front of a text that stands there stands there
-pub StandsAt-front : (bytes : List ℕ) (at : ℕ) (a b : List ℕ) → StandsAt bytes at (a ++ b) → StandsAt bytes at a
+pub StandsAt-front : (bytes : List ℕ) (at : ℕ) (a b : List ℕ) → TextStandsAt bytes at (a ++ b) → TextStandsAt bytes at a
 StandsAt-front bytes at a b both = record { rest = b ++ both.rest; parts = both.parts ∙ append_assoc a b both.rest }
 
 -- the back of it stands behind the front
-pub StandsAt-back : (bytes : List ℕ) (at : ℕ) (a b : List ℕ) → StandsAt bytes at (a ++ b) → StandsAt bytes (at + length a) b
+pub StandsAt-back : (bytes : List ℕ) (at : ℕ) (a b : List ℕ) → TextStandsAt bytes at (a ++ b) → TextStandsAt bytes (at + length a) b
 StandsAt-back bytes at a b both =
     record {
       rest = both.rest;
@@ -38,7 +38,7 @@ StandsAt-back bytes at a b both =
     }
 
 -- what was written stands there
-pub StandsAt-written : (out : List ℕ) (at : ℕ) (text : List ℕ) → at ≤ length out → StandsAt (written out at text) at text
+pub StandsAt-written : (out : List ℕ) (at : ℕ) (text : List ℕ) → at ≤ length out → TextStandsAt (written out at text) at text
 unfolding written
 StandsAt-written out at text fits = record {
   rest = drop (at + length text) out;
@@ -64,8 +64,8 @@ written-then out mid new at after a b mid-is after-is new-is fits =
     ∙ ap (λ (t : List ℕ). take at out ++ t) (sym (append_assoc a b (drop (at + length (a ++ b)) out)))
 
 -- two writes, one behind the other, are one
-pub Puts-then : {old mid new : List ℕ} {at middle after : ℕ} {a b : List ℕ} → at ≤ length old → Puts old at a mid middle → Puts mid middle b new after
-    → Puts old at (a ++ b) new after
+pub Puts-then : {old mid new : List ℕ} {at middle after : ℕ} {a b : List ℕ} → at ≤ length old → PutsText old at a mid middle → PutsText mid middle b new after
+    → PutsText old at (a ++ b) new after
 Puts-then {old} {mid} {new} {at} {middle} {after} {a} {b} fits first second = record {
   bytes = written-then old mid new at middle a b first.bytes first.place second.bytes fits;
   place = omega (arith, length-append a b, first.place, second.place);

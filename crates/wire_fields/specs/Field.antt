@@ -34,6 +34,6 @@ unfoldable pub written : List ℕ → ℕ → List ℕ → List ℕ
 written out at text = take at out ++ (text ++ drop (at + length text) out)
 
 -- the text was written over the old bytes from `at` on, and ends at the place after it
-pub record Puts (old : List ℕ) (at : ℕ) (text : List ℕ) (new : List ℕ) (after : ℕ) : Type 0 where
+pub record PutsText (old : List ℕ) (at : ℕ) (text : List ℕ) (new : List ℕ) (after : ℕ) : Type 0 where
   pub bytes : new ≡ written old at text
   pub place : after ≡ at + length text

@@ -10,7 +10,7 @@ abbrev pub IsBytes : List ℕ → Type 0
 IsBytes bytes = (i : ℕ) → slice_index bytes i < 256
 
 -- the text stands in the bytes, from `at` on
-pub record StandsAt (bytes : List ℕ) (at : ℕ) (text : List ℕ) : Type 0 where
+pub record TextStandsAt (bytes : List ℕ) (at : ℕ) (text : List ℕ) : Type 0 where
   pub rest : List ℕ
   pub parts : drop at bytes ≡ text ++ rest
 
@@ -22,8 +22,8 @@ FitsInstance i = (i.epoch < 2 ^ 64) × (i.number < 2 ^ 32)
 -- it was written over other bytes; and a spelling that is cut off is short
 pub record IsField {X : Type 0} (Fits : X → Type 0) (spelling : X → List ℕ) (read : List ℕ → ℕ → Result (X × ℕ) FieldFault) : Type 0 where
   pub spelled : (bytes : List ℕ) (at : ℕ) (x : X) (after : ℕ) → IsBytes bytes → read bytes at ≡ Ok (x, after)
-      → StandsAt bytes at (spelling x) × (after ≡ at + length (spelling x)) × Fits x
-  pub again : (bytes : List ℕ) (at : ℕ) (x : X) → Fits x → StandsAt bytes at (spelling x)
+      → TextStandsAt bytes at (spelling x) × (after ≡ at + length (spelling x)) × Fits x
+  pub again : (bytes : List ℕ) (at : ℕ) (x : X) → Fits x → TextStandsAt bytes at (spelling x)
       → read bytes at ≡ Ok (x, at + length (spelling x))
   pub back : (out : List ℕ) (at : ℕ) (x : X) → Fits x → at + length (spelling x) ≤ length out
       → read (written out at (spelling x)) at ≡ Ok (x, at + length (spelling x))

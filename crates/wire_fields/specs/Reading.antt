@@ -13,26 +13,26 @@ abbrev pub ◌>>=◌ : {A B E : Type 0} → Result A E → (A → Result B E) �
 (Err e) >>= f = Err e
 
 -- a field's value and the place after it, or its fault
-abbrev pub placed : {X : Type 0} → List ℕ → ℕ → Front X → Result (X × ℕ) FieldFault
-placed bytes at (Holds x n) = Ok (x, at + n)
-placed bytes at Ends = Err (Short (length bytes))
-placed bytes at Bad = Err (BadField at)
+abbrev pub field_placed : {X : Type 0} → List ℕ → ℕ → Front X → Result (X × ℕ) FieldFault
+field_placed bytes at (Holds x n) = Ok (x, at + n)
+field_placed bytes at Ends = Err (Short (length bytes))
+field_placed bytes at Bad = Err (BadField at)
 
 -- the number at a place
 unfoldable pub number_at : Width → List ℕ → ℕ → Result (ℕ × ℕ) FieldFault
-number_at w bytes at = placed bytes at (number_front w (drop at bytes))
+number_at w bytes at = field_placed bytes at (number_front w (drop at bytes))
 
 -- the name at a place
 unfoldable pub name_at : List ℕ → ℕ → Result (List ℕ × ℕ) FieldFault
-name_at bytes at = placed bytes at (name_front (drop at bytes))
+name_at bytes at = field_placed bytes at (name_front (drop at bytes))
 
 -- the name at a place, or none
 unfoldable pub optional_name_at : List ℕ → ℕ → Result (Option (List ℕ) × ℕ) FieldFault
-optional_name_at bytes at = placed bytes at (optional_name_front (drop at bytes))
+optional_name_at bytes at = field_placed bytes at (optional_name_front (drop at bytes))
 
 -- the truth value at a place
 unfoldable pub truth_at : List ℕ → ℕ → Result (Bool × ℕ) FieldFault
-truth_at bytes at = placed bytes at (truth_front (drop at bytes))
+truth_at bytes at = field_placed bytes at (truth_front (drop at bytes))
 
 -- the instance at a place: its epoch, and then its number
 unfoldable pub instance_at : List ℕ → ℕ → Result (Instance × ℕ) FieldFault

@@ -1,7 +1,7 @@
 //! The bytes of one field, at its place.
 
 ghost use Rattle.std.specs.Prelude.{◌≡◌, ◌+◌, ◌<◌, ◌≤◌, length, take, drop, MatchResult};
-ghost use Rattle.wire_fields.specs.Field.{Puts};
+ghost use Rattle.wire_fields.specs.Field.{PutsText};
 ghost use Rattle.wire_fields.specs.declared.fault.FieldFault.TheVariants.{Short};
 
 use crate::fault::FieldFault;
@@ -23,7 +23,7 @@ pub(crate) fn bytes_at(bytes: &[u8], at: usize, count: usize) -> Result<&[u8], F
 /// Writes the field's bytes, and gives the place after it.
 pub(crate) fn put_bytes(out: &mut [u8], at: usize, field: &[u8]) -> usize
     requires { at + length field.now ≤ length out.old }
-    ensures { Puts out.old at field.now out.new result }
+    ensures { PutsText out.old at field.now out.new result }
 {
     let after = at + field.len();
     out[at..after].copy_from_slice(field);

@@ -2,7 +2,7 @@
 
 ghost use Rattle.std.specs.Prelude.{◌+◌, ◌≤◌, length};
 ghost use Rattle.std.specs.Int.{w8, w16, w32, w64};
-ghost use Rattle.wire_fields.specs.Field.{field_number, field_name, field_optional_name, field_truth, field_instance, field_optional_instance, Puts};
+ghost use Rattle.wire_fields.specs.Field.{field_number, field_name, field_optional_name, field_truth, field_instance, field_optional_instance, PutsText};
 
 use crate::place::put_bytes;
 use diego_names::{Instance, Name};
@@ -11,7 +11,7 @@ use diego_names::{Instance, Name};
 #[tactic(auto, unfolding(crate::specs::Field::field_number))]
 pub fn put_u8(out: &mut [u8], at: usize, number: u8) -> usize
     requires { at + length (field_number w8 number) ≤ length out.old }
-    ensures { Puts out.old at (field_number w8 number) out.new result }
+    ensures { PutsText out.old at (field_number w8 number) out.new result }
 {
     put_bytes(out, at, &number.to_be_bytes())
 }
@@ -20,7 +20,7 @@ pub fn put_u8(out: &mut [u8], at: usize, number: u8) -> usize
 #[tactic(auto, unfolding(crate::specs::Field::field_number))]
 pub fn put_u16(out: &mut [u8], at: usize, number: u16) -> usize
     requires { at + length (field_number w16 number) ≤ length out.old }
-    ensures { Puts out.old at (field_number w16 number) out.new result }
+    ensures { PutsText out.old at (field_number w16 number) out.new result }
 {
     put_bytes(out, at, &number.to_be_bytes())
 }
@@ -29,7 +29,7 @@ pub fn put_u16(out: &mut [u8], at: usize, number: u16) -> usize
 #[tactic(auto, unfolding(crate::specs::Field::field_number))]
 pub fn put_u32(out: &mut [u8], at: usize, number: u32) -> usize
     requires { at + length (field_number w32 number) ≤ length out.old }
-    ensures { Puts out.old at (field_number w32 number) out.new result }
+    ensures { PutsText out.old at (field_number w32 number) out.new result }
 {
     put_bytes(out, at, &number.to_be_bytes())
 }
@@ -38,7 +38,7 @@ pub fn put_u32(out: &mut [u8], at: usize, number: u32) -> usize
 #[tactic(auto, unfolding(crate::specs::Field::field_number))]
 pub fn put_u64(out: &mut [u8], at: usize, number: u64) -> usize
     requires { at + length (field_number w64 number) ≤ length out.old }
-    ensures { Puts out.old at (field_number w64 number) out.new result }
+    ensures { PutsText out.old at (field_number w64 number) out.new result }
 {
     put_bytes(out, at, &number.to_be_bytes())
 }
@@ -47,7 +47,7 @@ pub fn put_u64(out: &mut [u8], at: usize, number: u64) -> usize
 #[tactic(auto, unfolding(crate::specs::Field::field_truth))]
 pub fn put_truth(out: &mut [u8], at: usize, truth: bool) -> usize
     requires { at + length (field_truth truth) ≤ length out.old }
-    ensures { Puts out.old at (field_truth truth) out.new result }
+    ensures { PutsText out.old at (field_truth truth) out.new result }
 {
     put_bytes(out, at, &[u8::from(truth)])
 }
@@ -56,7 +56,7 @@ pub fn put_truth(out: &mut [u8], at: usize, truth: bool) -> usize
 #[tactic(auto, unfolding(crate::specs::Field::field_name))]
 pub fn put_name(out: &mut [u8], at: usize, name: Name) -> usize
     requires { at + length (field_name name) ≤ length out.old }
-    ensures { Puts out.old at (field_name name) out.new result }
+    ensures { PutsText out.old at (field_name name) out.new result }
 {
     let bytes = name.bytes();
     let at = put_bytes(out, at, &[bytes.len() as u8]);
@@ -67,7 +67,7 @@ pub fn put_name(out: &mut [u8], at: usize, name: Name) -> usize
 #[tactic(auto, unfolding(crate::specs::Field::field_optional_name))]
 pub fn put_optional_name(out: &mut [u8], at: usize, name: Option<Name>) -> usize
     requires { at + length (field_optional_name name) ≤ length out.old }
-    ensures { Puts out.old at (field_optional_name name) out.new result }
+    ensures { PutsText out.old at (field_optional_name name) out.new result }
 {
     match name {
         None => put_bytes(out, at, &[0]),
@@ -79,7 +79,7 @@ pub fn put_optional_name(out: &mut [u8], at: usize, name: Option<Name>) -> usize
 #[tactic(auto, unfolding(crate::specs::Field::field_instance))]
 pub fn put_instance(out: &mut [u8], at: usize, instance: Instance) -> usize
     requires { at + length (field_instance instance) ≤ length out.old }
-    ensures { Puts out.old at (field_instance instance) out.new result }
+    ensures { PutsText out.old at (field_instance instance) out.new result }
 {
     let at = put_u64(out, at, instance.epoch);
     put_u32(out, at, instance.number)
@@ -89,7 +89,7 @@ pub fn put_instance(out: &mut [u8], at: usize, instance: Instance) -> usize
 #[tactic(auto, unfolding(crate::specs::Field::field_truth, crate::specs::Field::field_optional_instance))]
 pub fn put_optional_instance(out: &mut [u8], at: usize, instance: Option<Instance>) -> usize
     requires { at + length (field_optional_instance instance) ≤ length out.old }
-    ensures { Puts out.old at (field_optional_instance instance) out.new result }
+    ensures { PutsText out.old at (field_optional_instance instance) out.new result }
 {
     match instance {
         None => put_truth(out, at, false),
