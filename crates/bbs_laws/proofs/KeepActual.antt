@@ -15,9 +15,9 @@ use Rattle.lrp_records.specs.declared.move_end.MoveEnd.{MoveEnd}
 use Rattle.lrp_records.specs.declared.move_end.MoveEnd.TheVariants as end
 use Rattle.lrp_records.specs.declared.presence.Presence.{Presence}
 use Rattle.lrp_records.specs.declared.presence.Presence.TheVariants.{Ordinary}
-use Rattle.lrp_records.proofs.Ties.{IsKeyOrder-place_order}
+use Rattle.lrp_records.proofs.Public.{IsKeyOrder-place_order}
 use Rattle.row_tables.specs.Table.{find_row, put_row, without_row}
-use Rattle.row_tables.proofs.Lookups.{key-find_row}
+use Rattle.row_tables.proofs.Public.{key-find_row}
 use Rattle.bbs_model.specs.Lrps.{moved_to}
 use Rattle.bbs_model.specs.Limits.{most_transitions}
 use Rattle.bbs_model.specs.Step.{changed_by, advanced}

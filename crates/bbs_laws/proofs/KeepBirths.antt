@@ -7,9 +7,9 @@ use Rattle.std.specs.Ordering.{is_eq, eq_by_cmp}
 use Rattle.std.specs.declared.cmp.Ordering.TheVariants.{Less, Equal, Greater}
 use Rattle.std.proofs.lemmas.Bool.Decides.{nat_tests}
 use Rattle.diego_names.specs.Order.{name_order}
-use Rattle.diego_names.proofs.Ties.{IsKeyOrder-name_order}
+use Rattle.diego_names.proofs.Public.{IsKeyOrder-name_order}
 use Rattle.row_tables.specs.Table.{find_row, put_row, without_row, IsRising}
-use Rattle.row_tables.proofs.Rising.{below_rest, IsRising-tail, find_row-below_first}
+use Rattle.row_tables.proofs.Public.{below_rest, IsRising-tail, find_row-below_first}
 use Rattle.task_records.specs.States.{is_unfinished}
 use Rattle.task_records.specs.declared.task.Task.{Task}
 use Rattle.bbs_model.specs.Tables.{task_name_of}

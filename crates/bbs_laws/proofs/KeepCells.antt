@@ -4,9 +4,9 @@ use Rattle.cell_records.specs.declared.amounts.Amounts.{Amounts}
 use Rattle.cell_records.specs.declared.cell_row.CellRow.{CellRow}
 use Rattle.crash_backoff.specs.declared.moment.Moment.{Moment}
 use Rattle.diego_names.specs.Order.{name_order}
-use Rattle.diego_names.proofs.Ties.{IsKeyOrder-name_order}
+use Rattle.diego_names.proofs.Public.{IsKeyOrder-name_order}
 use Rattle.row_tables.specs.Table.{put_row, without_row}
-use Rattle.row_tables.proofs.Lookups.{key-find_row}
+use Rattle.row_tables.proofs.Public.{key-find_row}
 use Rattle.bbs_model.specs.Attempts.{put, drop_row}
 use Rattle.bbs_model.specs.Cells.{join_refusals, join, renew, drain, vanish}
 use Rattle.bbs_model.specs.Found.{found_by}

@@ -2,11 +2,10 @@
 use Rattle.std.proofs.Common.{◌≡◌, ℕ, ◌+◌, ◌-◌, ◌<◌, List, Option, Some, None, sum_by, ap, ◌∙◌, arith}
 use Rattle.std.specs.Option.{option_map_or}
 use Rattle.diego_names.specs.Order.{name_order}
-use Rattle.diego_names.proofs.Ties.{IsKeyOrder-name_order}
+use Rattle.diego_names.proofs.Public.{IsKeyOrder-name_order}
 use Rattle.lrp_records.specs.declared.desired.Desired.{Desired}
 use Rattle.row_tables.specs.Table.{put_row, without_row}
-use Rattle.row_tables.proofs.Lookups.{key-find_row}
-use Rattle.row_tables.proofs.Sums.{sum_by-put_row}
+use Rattle.row_tables.proofs.Public.{key-find_row, sum_by-put_row}
 use Rattle.bbs_model.specs.Attempts.{put, drop_row, unless_refused}
 use Rattle.bbs_model.specs.Found.{found_by}
 use Rattle.bbs_model.specs.Limits.{most_processes, most_instances, most_wanted, most_transitions}

@@ -8,8 +8,7 @@ use Rattle.std.specs.Option.{unwrap_or}
 use Rattle.std.specs.Ordering.{is_eq, eq_by_cmp}
 use Rattle.std.proofs.lemmas.Bool.Decides.{nat_tests}
 use Rattle.row_tables.specs.Table.{IsKeyOrder, find_row, put_row, without_row, IsRising}
-use Rattle.row_tables.proofs.Lengths.{length-put_row_new, length-put_row_known, length-without_row}
-use Rattle.row_tables.proofs.Rising.{below_rest, IsRising-tail, find_row-below_first}
+use Rattle.row_tables.proofs.Public.{length-put_row_new, length-put_row_known, length-without_row, below_rest, IsRising-tail, find_row-below_first}
 
 -- numbers in order differ
 below_differs : (a b : ℕ) → a < b → (nat_eq a b ≡ false) × (nat_eq b a ≡ false)

@@ -17,7 +17,7 @@ use Rattle.bbs_model.specs.Found.{found_by}
 use Rattle.bbs_laws.specs.Events.{TellsEvacuation, TellsEachRow}
 use Rattle.bbs_model.specs.Lrps.{evacuating_row, left_row, evacuate}
 use Rattle.bbs_model.specs.Step.{attempt_at, events_in}
-use Rattle.bbs_model.specs.Tasks.{new_task_refusals, moved_to, move_task, move_task_by_cell}
+use Rattle.bbs_model.specs.Tasks.{new_task_refusals, task_moved_to, move_task, move_task_by_cell}
 use Rattle.bbs_model.specs.declared.attempt.Attempt.{Attempt}
 use Rattle.bbs_model.specs.declared.command.Command.{Command}
 use Rattle.bbs_model.specs.declared.command.Op.{Op}
@@ -49,7 +49,7 @@ module _ (rows : Rows) (now : Moment) where
   abbrev IsSingle : Attempt → Type 0
   IsSingle attempt = IfSome (events_in rows attempt) (λ (events : Events). events.second ≡ None)
 
-  single-moved_to : (old : Task) (end : TaskEnd) → IsSingle (moved_to old end)
+  single-moved_to : (old : Task) (end : TaskEnd) → IsSingle (task_moved_to old end)
   single-moved_to old (end.Changed new) = refl
   single-moved_to old end.Gone = refl
   single-moved_to old end.Same = tt
@@ -58,13 +58,13 @@ module _ (rows : Rows) (now : Moment) where
   single-move_task : (asked : Op) (move : TaskMove) → IsSingle (move_task (found_by rows asked) move now)
   single-move_task asked move =
       let found = found_by rows asked in
-      by_knowing IsSingle (λ why. tt) found.task (λ old. moved_to old (task_move old move now)) (λ old known. single-moved_to old (task_move old move now))
+      by_knowing IsSingle (λ why. tt) found.task (λ old. task_moved_to old (task_move old move now)) (λ old known. single-moved_to old (task_move old move now))
 
   single-move_task_by_cell : (asked : Op) (epoch : ℕ) (move : TaskMove) → IsSingle (move_task_by_cell (found_by rows asked) epoch move now)
   single-move_task_by_cell asked epoch move =
       let found = found_by rows asked in
-      by_knowing IsSingle (λ why. tt) found.task (λ old. if_joined found.cell epoch (λ c. moved_to old (task_move old move now))) (λ old known.
-      by_joining IsSingle (λ why. tt) found.cell epoch (λ c. moved_to old (task_move old move now)) (λ c joined same. single-moved_to old (task_move old move now)))
+      by_knowing IsSingle (λ why. tt) found.task (λ old. if_joined found.cell epoch (λ c. task_moved_to old (task_move old move now))) (λ old known.
+      by_joining IsSingle (λ why. tt) found.cell epoch (λ c. task_moved_to old (task_move old move now)) (λ c joined same. single-moved_to old (task_move old move now)))
 
   -- any command but an evacuation
   abbrev IsSingleUnless : Op → Attempt → Type 0

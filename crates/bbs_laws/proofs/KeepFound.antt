@@ -4,15 +4,15 @@ use Rattle.std.specs.Option.{option_and_then}
 use Rattle.std.specs.declared.cmp.Ordering.{Ordering}
 use Rattle.diego_names.specs.Order.{name_order}
 use Rattle.diego_names.specs.declared.key.Key.{Key}
-use Rattle.diego_names.proofs.Ties.{IsKeyOrder-name_order}
+use Rattle.diego_names.proofs.Public.{IsKeyOrder-name_order}
 use Rattle.lrp_records.specs.Place.{place_of, place_order}
 use Rattle.lrp_records.specs.declared.actual.Actual.{Actual}
 use Rattle.lrp_records.specs.declared.presence.Presence.{Presence}
 use Rattle.lrp_records.specs.declared.presence.Presence.TheVariants.{Ordinary, Evacuating}
 use Rattle.row_tables.specs.Table.{IsKeyOrder, find_row}
-use Rattle.row_tables.proofs.Lookups.{key-find_row}
+use Rattle.row_tables.proofs.Public.{key-find_row}
 use Rattle.bbs_model.specs.Found.{process_in, key_in, evacuating_in, cell_in, found_by}
-use Rattle.bbs_laws.specs.Events.{Stands}
+use Rattle.bbs_laws.specs.Events.{StandsIn}
 use Rattle.bbs_model.specs.Tables.{process_of, cell_name_of, find_actual}
 use Rattle.bbs_model.specs.declared.command.Op.{Op}
 use Rattle.bbs_model.specs.declared.event.Row.{Row}
@@ -32,7 +32,7 @@ actual-there : (rows : Rows) (presence : Presence) (q : Option Key) (a : Actual)
 actual-there rows presence None a known = cc
 actual-there rows presence (Some key) a known = found-there rows key presence a known
 
-pub Stands-found : (rows : Rows) (asked : Op) (r : Row) → IsOfFound (found_by rows asked) r → Stands rows r
+pub Stands-found : (rows : Rows) (asked : Op) (r : Row) → IsOfFound (found_by rows asked) r → StandsIn rows r
 Stands-found rows asked (row.Desired d) known = there name_order process_of IsKeyOrder-name_order rows.desired (process_in asked) d known
 Stands-found rows asked (row.Actual a) (inl known) = actual-there rows Ordinary (key_in asked) a known
 Stands-found rows asked (row.Actual a) (inr known) = actual-there rows Evacuating (evacuating_in asked) a known

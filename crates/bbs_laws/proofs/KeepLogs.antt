@@ -8,7 +8,8 @@ use Rattle.task_records.specs.declared.task.Task.{Task}
 use Rattle.bbs_laws.specs.Laws.{done_of, ReplaysWhatIsDone, LogGoesOn, EpochsArePast}
 use Rattle.bbs_model.specs.Replay.{replay, AreLegal, after_item, command_in, replay_log, IsLawful, rows_at, IsReached}
 use Rattle.bbs_model.specs.Step.{IsLegal, rows_after}
-use Rattle.bbs_model.specs.Valid.{IsValid, IsHeldBefore, IsActualRow, runner_of, IsTaskRow, HasJoined}
+use Rattle.bbs_model.specs.Valid.{IsValid, IsHeldBefore, IsActualRow, IsTaskRow, HasJoined}
+use Rattle.task_records.specs.States.{runner_of}
 use Rattle.bbs_model.specs.declared.item.Item.{Item}
 use Rattle.bbs_model.specs.declared.item.Item.TheVariants.{Done, Doubt}
 use Rattle.bbs_model.specs.declared.rows.Rows.{Rows}

@@ -13,10 +13,9 @@ use Rattle.lrp_records.specs.declared.presence.Presence.{Presence}
 use Rattle.lrp_records.specs.declared.presence.Presence.TheVariants.{Ordinary, Evacuating}
 use Rattle.lrp_records.specs.declared.state.LrpState.{LrpState}
 use Rattle.lrp_records.specs.declared.state.LrpState.TheVariants as lrp
-use Rattle.lrp_records.proofs.MoveLaws.{KeepsPlace-lrp_move}
-use Rattle.lrp_records.proofs.Ties.{IsKeyOrder-place_order}
+use Rattle.lrp_records.proofs.Public.{KeepsPlace-lrp_move, IsKeyOrder-place_order}
 use Rattle.row_tables.specs.Table.{find_row, put_row, without_row}
-use Rattle.row_tables.proofs.Lookups.{find_row-put_row_other}
+use Rattle.row_tables.proofs.Public.{find_row-put_row_other}
 use Rattle.bbs_model.specs.Attempts.{if_known, if_joined, put, drop_row}
 use Rattle.bbs_model.specs.Found.{found_by}
 use Rattle.bbs_model.specs.Limits.{most_actual, most_transitions}

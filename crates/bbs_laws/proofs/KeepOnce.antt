@@ -5,7 +5,7 @@ use Rattle.std.proofs.lemmas.List.{take-append-drop, take-append-le, take-take, 
 use Rattle.std.proofs.lemmas.Bool.Decides.{nat_tests}
 use Rattle.crash_backoff.specs.declared.moment.Moment.{Moment}
 use Rattle.diego_names.specs.Order.{name_order}
-use Rattle.diego_names.proofs.Ties.{IsKeyOrder-name_order}
+use Rattle.diego_names.proofs.Public.{IsKeyOrder-name_order}
 use Rattle.task_records.specs.Laws.{KeepsTask, NeverTurnsBack}
 use Rattle.task_records.specs.Moves.{task_move}
 use Rattle.task_records.specs.States.{is_unfinished, is_completed}
@@ -14,8 +14,7 @@ use Rattle.task_records.specs.declared.move_end.TaskEnd.TheVariants as end
 use Rattle.task_records.specs.declared.move_kind.TaskMove.{TaskMove}
 use Rattle.task_records.specs.declared.state.TaskState.TheVariants.{Pending}
 use Rattle.task_records.specs.declared.task.Task.{Task}
-use Rattle.task_records.proofs.LifeLaws.{completed_is_finished}
-use Rattle.task_records.proofs.MoveLaws.{KeepsTask-task_move, NeverTurnsBack-task_move}
+use Rattle.task_records.proofs.Public.{completed_is_finished, KeepsTask-task_move, NeverTurnsBack-task_move}
 use Rattle.bbs_model.specs.Attempts.{if_joined, put, drop_row}
 use Rattle.bbs_laws.specs.Births.{born_at, is_waiting, is_ended, is_completed_between, completions}
 use Rattle.bbs_model.specs.Found.{found_by, task_in}
@@ -23,7 +22,7 @@ use Rattle.bbs_laws.specs.Laws.{CompletesOnce, CompletesOnceOver}
 use Rattle.bbs_model.specs.Replay.{after_item, command_in, replay_log, IsLawful}
 use Rattle.bbs_model.specs.Step.{IsLegal, attempt_at, changed_by}
 use Rattle.bbs_model.specs.Tables.{task_name_of, find_task}
-use Rattle.bbs_model.specs.Tasks.{new_task_refusals, new_task, moved_to, move_task, move_task_by_cell}
+use Rattle.bbs_model.specs.Tasks.{new_task_refusals, new_task, task_moved_to, move_task, move_task_by_cell}
 use Rattle.bbs_model.specs.Valid.{IsTaskRow, IsValid}
 use Rattle.bbs_model.specs.declared.attempt.Attempt.{Attempt}
 use Rattle.bbs_model.specs.declared.command.Op.{Op}
@@ -74,26 +73,26 @@ module _ (rows : Rows) (valid : IsValid rows) (b : ℕ) (past : b < rows.next) (
       by_passing Rests (λ why is. is) (new_task_refusals (found_by rows (op.NewTask name memory disk tag))) (put (row.Task new)) (λ passed is.
       waits-put_new b new rows.tasks (none_from (find_task rows name) passed.0) another is)
 
-  rests-moved_to : (old : Task) (end : TaskEnd) → find_task rows old.name ≡ Some old → KeepsTask old now end → NeverTurnsBack old end → Rests (moved_to old end)
+  rests-moved_to : (old : Task) (end : TaskEnd) → find_task rows old.name ≡ Some old → KeepsTask old now end → NeverTurnsBack old end → Rests (task_moved_to old end)
   rests-moved_to old (end.Changed new) known same back is =
       waits-put_known b new old rows.tasks valid.tasks.rising (ap (find_task rows) same.task.name ∙ known) same.task.birth back is
   rests-moved_to old end.Gone known same back is = waits-without b old.name rows.tasks valid.tasks.births is
   rests-moved_to old end.Same known same back is = is
   rests-moved_to old (end.Refused why) known same back is = is
 
-  rests-moved : (asked : Op) (old : Task) (move : TaskMove) → (found_by rows asked).task ≡ Some old → Rests (moved_to old (task_move old move now))
+  rests-moved : (asked : Op) (old : Task) (move : TaskMove) → (found_by rows asked).task ≡ Some old → Rests (task_moved_to old (task_move old move now))
   rests-moved asked old move known =
       rests-moved_to old (task_move old move now) (there name_order task_name_of IsKeyOrder-name_order rows.tasks (task_in asked) old known) (KeepsTask-task_move old move now) (NeverTurnsBack-task_move old move now)
 
   rests-move_task : (asked : Op) (move : TaskMove) → Rests (move_task (found_by rows asked) move now)
   rests-move_task asked move =
-      by_knowing Rests (λ why is. is) (found_by rows asked).task (λ old. moved_to old (task_move old move now)) (λ old known. rests-moved asked old move known)
+      by_knowing Rests (λ why is. is) (found_by rows asked).task (λ old. task_moved_to old (task_move old move now)) (λ old known. rests-moved asked old move known)
 
   rests-move_task_by_cell : (asked : Op) (epoch : ℕ) (move : TaskMove) → Rests (move_task_by_cell (found_by rows asked) epoch move now)
   rests-move_task_by_cell asked epoch move =
       let found = found_by rows asked in
-      by_knowing Rests (λ why is. is) found.task (λ old. if_joined found.cell epoch (λ c. moved_to old (task_move old move now))) (λ old known.
-      by_joining Rests (λ why is. is) found.cell epoch (λ c. moved_to old (task_move old move now)) (λ c joined same. rests-moved asked old move known))
+      by_knowing Rests (λ why is. is) found.task (λ old. if_joined found.cell epoch (λ c. task_moved_to old (task_move old move now))) (λ old known.
+      by_joining Rests (λ why is. is) found.cell epoch (λ c. task_moved_to old (task_move old move now)) (λ c joined same. rests-moved asked old move known))
 
   rests-attempt : (asked : Op) → Rests (attempt_at (found_by rows asked) now asked)
   rests-attempt = each-attempt rows now (λ asked attempt. Rests attempt) (λ asked why is. is) (λ asked is. is) (λ asked. rests-put) rests-drop

@@ -5,20 +5,20 @@ use Rattle.cell_records.specs.declared.cell_row.CellRow.{CellRow}
 use Rattle.diego_names.specs.Order.{name_order}
 use Rattle.diego_names.specs.declared.instance.Instance.{Instance}
 use Rattle.diego_names.specs.declared.key.Key.{Key}
-use Rattle.diego_names.proofs.Ties.{IsKeyOrder-name_order}
+use Rattle.diego_names.proofs.Public.{IsKeyOrder-name_order}
 use Rattle.lrp_records.specs.Place.{place_of, place_order}
 use Rattle.lrp_records.specs.States.{holder_of}
 use Rattle.lrp_records.specs.declared.actual.Actual.{Actual}
 use Rattle.lrp_records.specs.declared.desired.Desired.{Desired}
 use Rattle.lrp_records.specs.declared.presence.Presence.{Presence}
-use Rattle.lrp_records.proofs.Ties.{IsKeyOrder-place_order}
+use Rattle.lrp_records.proofs.Public.{IsKeyOrder-place_order}
 use Rattle.row_tables.specs.Table.{find_row, put_row, without_row}
-use Rattle.row_tables.proofs.Rising.{IsRising-put_row, IsRising-without_row}
-use Rattle.row_tables.proofs.Sums.{sum_by-without_row}
+use Rattle.row_tables.proofs.Public.{IsRising-put_row, IsRising-without_row, sum_by-without_row}
 use Rattle.task_records.specs.declared.task.Task.{Task}
 use Rattle.bbs_model.specs.Limits.{most_processes, most_wanted, most_actual, most_tasks, most_cells}
 use Rattle.bbs_model.specs.Tables.{process_of, task_name_of, cell_name_of}
-use Rattle.bbs_model.specs.Valid.{HasFewInstances, AreDesired, IsHeldBefore, IsActualRow, AreActual, runner_of, IsTaskRow, AreTasks, HasJoined, AreCells}
+use Rattle.bbs_model.specs.Valid.{HasFewInstances, AreDesired, IsHeldBefore, IsActualRow, AreActual, IsTaskRow, AreTasks, HasJoined, AreCells}
+use Rattle.task_records.specs.States.{runner_of}
 use Rattle.bbs_model.proofs.Public.{each_weaker}
 use Rattle.bbs_laws.proofs.KeepEach.{each-put_row, each-without_row, few-put_row, few-without_row, distinct-put_row_known, distinct-put_row_above, distinct-without_row}
 

@@ -4,9 +4,9 @@ use Rattle.std.proofs.lemmas.Grind.{common_steps}
 use Rattle.crash_backoff.specs.declared.moment.Moment.{Moment}
 use Rattle.diego_names.specs.Order.{name_order}
 use Rattle.diego_names.specs.declared.instance.Instance.{Instance}
-use Rattle.diego_names.proofs.Ties.{IsKeyOrder-name_order}
+use Rattle.diego_names.proofs.Public.{IsKeyOrder-name_order}
 use Rattle.row_tables.specs.Table.{put_row, without_row}
-use Rattle.row_tables.proofs.Lookups.{key-find_row}
+use Rattle.row_tables.proofs.Public.{key-find_row}
 use Rattle.task_records.specs.Laws.{KeepsTask}
 use Rattle.task_records.specs.Moves.{task_move}
 use Rattle.task_records.specs.declared.move_end.TaskEnd.{TaskEnd}
@@ -15,14 +15,15 @@ use Rattle.task_records.specs.declared.move_kind.TaskMove.{TaskMove}
 use Rattle.task_records.specs.declared.move_kind.TaskMove.TheVariants.{Start, Complete, Cancel, Resolve, Delete, Kick, Expire}
 use Rattle.task_records.specs.declared.state.TaskState.TheVariants.{Pending}
 use Rattle.task_records.specs.declared.task.Task.{Task}
-use Rattle.task_records.proofs.MoveLaws.{KeepsTask-task_move}
+use Rattle.task_records.proofs.Public.{KeepsTask-task_move}
 use Rattle.bbs_model.specs.Attempts.{if_known, if_joined, put}
 use Rattle.bbs_model.specs.Found.{found_by}
 use Rattle.bbs_model.specs.Limits.{most_tasks, most_transitions}
 use Rattle.bbs_model.specs.Step.{changed_by, advanced}
 use Rattle.bbs_model.specs.Tables.{task_name_of, find_task, find_cell}
-use Rattle.bbs_model.specs.Tasks.{new_task_refusals, new_task, moved_to}
-use Rattle.bbs_model.specs.Valid.{IsHeldBefore, runner_of, IsTaskRow, AreTasks, IsValid}
+use Rattle.bbs_model.specs.Tasks.{new_task_refusals, new_task, task_moved_to}
+use Rattle.bbs_model.specs.Valid.{IsHeldBefore, IsTaskRow, AreTasks, IsValid}
+use Rattle.task_records.specs.States.{runner_of}
 use Rattle.bbs_model.specs.declared.attempt.Attempt.{Attempt}
 use Rattle.bbs_model.specs.declared.command.Op.TheVariants as op
 use Rattle.bbs_model.specs.declared.event.Row.TheVariants as row
@@ -73,7 +74,7 @@ with_tasks rows tasks valid room h = record {
 -- what a move's end comes to
 pub IsValid-moved_to : (rows : Rows) (old : Task) (now : Moment) (end : TaskEnd) → IsValid rows → rows.next < most_transitions
     → find_task rows old.name ≡ Some old → IsTaskRow rows.next old → KeepsTask old now end → KeepsHeld rows.next end
-    → IsValid (changed_by rows (moved_to old end))
+    → IsValid (changed_by rows (task_moved_to old end))
 IsValid-moved_to rows old now (end.Changed new) valid room known there same held =
     let known_new : find_task rows new.name ≡ Some old = ap (find_task rows) same.task.name ∙ known in
     let fits : IsTaskRow rows.next new = record { born = omega (arith, there.born, same.task.birth); held = held } in
@@ -101,25 +102,25 @@ module _ (rows : Rows) (valid : IsValid rows) (room : rows.next < most_transitio
       (below_from most_tasks (length rows.tasks) passed.1.0)))
 
   IsValid-moved : (name : List ℕ) (old : Task) (move : TaskMove) (now : Moment) → find_task rows name ≡ Some old
-      → IsHeldBefore rows.next (brought_by move) → IsValid (changed_by rows (moved_to old (task_move old move now)))
+      → IsHeldBefore rows.next (brought_by move) → IsValid (changed_by rows (task_moved_to old (task_move old move now)))
   IsValid-moved name old move now known brought =
       let there = task-found rows name old valid known in
       IsValid-moved_to rows old now (task_move old move now) valid room (ap (find_task rows) (name-found rows name old known) ∙ known) there
       (KeepsTask-task_move old move now) (KeepsHeld-task_move rows.next old move now there.held brought)
 
   pub IsValid-move_task : (name : List ℕ) (move : TaskMove) (now : Moment) → IsHeldBefore rows.next (brought_by move)
-      → IsValid (changed_by rows (if_known (find_task rows name) (λ old. moved_to old (task_move old move now))))
+      → IsValid (changed_by rows (if_known (find_task rows name) (λ old. task_moved_to old (task_move old move now))))
   IsValid-move_task name move now brought =
-      by_knowing Stays (λ why. valid) (find_task rows name) (λ old. moved_to old (task_move old move now)) (λ old known.
+      by_knowing Stays (λ why. valid) (find_task rows name) (λ old. task_moved_to old (task_move old move now)) (λ old known.
       IsValid-moved name old move now known brought)
 
   pub IsValid-move_task_by_cell : (name : List ℕ) (instance : Instance) (cell : List ℕ) (move : TaskMove) (now : Moment)
       → (instance.epoch < rows.next → IsHeldBefore rows.next (brought_by move))
       → IsValid (changed_by rows (if_known (find_task rows name) (λ old.
-      if_joined (find_cell rows cell) instance.epoch (λ c. moved_to old (task_move old move now)))))
+      if_joined (find_cell rows cell) instance.epoch (λ c. task_moved_to old (task_move old move now)))))
   IsValid-move_task_by_cell name instance cell move now brought =
-      by_knowing Stays (λ why. valid) (find_task rows name) (λ old. if_joined (find_cell rows cell) instance.epoch (λ c. moved_to old (task_move old move now))) (λ old known.
-      by_joining Stays (λ why. valid) (find_cell rows cell) instance.epoch (λ c. moved_to old (task_move old move now)) (λ joined there same.
+      by_knowing Stays (λ why. valid) (find_task rows name) (λ old. if_joined (find_cell rows cell) instance.epoch (λ c. task_moved_to old (task_move old move now))) (λ old known.
+      by_joining Stays (λ why. valid) (find_cell rows cell) instance.epoch (λ c. task_moved_to old (task_move old move now)) (λ joined there same.
       let before = cell-found rows cell joined valid there in
       let past : instance.epoch < rows.next = omega (arith, before, same) in
       IsValid-moved name old move now known (brought past)))

@@ -9,7 +9,7 @@ use Rattle.task_records.specs.declared.move_end.TaskEnd.TheVariants as end
 use Rattle.task_records.specs.declared.task.Task.{Task}
 use Rattle.bbs_model.specs.Attempts.{if_joined}
 use Rattle.bbs_laws.specs.Laws.{KeepsValid}
-use Rattle.bbs_model.specs.Tasks.{new_task_refusals, moved_to}
+use Rattle.bbs_model.specs.Tasks.{new_task_refusals, task_moved_to}
 use Rattle.bbs_model.specs.Found.{found_by}
 use Rattle.bbs_model.specs.Limits.{most_wanted, most_transitions}
 use Rattle.bbs_model.specs.Step.{attempt_at, attempt_of, judged, IsLegal, changed_by, edited, rows_after}
@@ -95,7 +95,7 @@ module _ (rows : Rows) (valid : IsValid rows) (now : Moment) where
   abbrev FitsAtOnce : Attempt → Type 0
   FitsAtOnce attempt = IsValid (changed_by rows attempt) → FirstFits attempt
 
-  fits-moved_to : (old : Task) (end : TaskEnd) → FitsAtOnce (moved_to old end)
+  fits-moved_to : (old : Task) (end : TaskEnd) → FitsAtOnce (task_moved_to old end)
   fits-moved_to old (end.Changed new) after = after.desired.wanted
   fits-moved_to old end.Gone after = after.desired.wanted
   fits-moved_to old end.Same after = tt
@@ -106,9 +106,9 @@ module _ (rows : Rows) (valid : IsValid rows) (now : Moment) where
       (λ asked r is after. after.desired.wanted) (λ asked r is after. after.desired.wanted)
       (λ key instance. each-evacuate FitsAtOnce (λ why after. tt) (λ after. tt) (found_by rows (op.Evacuate key instance)) instance now (λ old known runs passed after. valid.desired.wanted))
       (λ name memory disk tag. by_passing FitsAtOnce (λ why after. tt) (new_task_refusals (found_by rows (op.NewTask name memory disk tag))) _ (λ passed after. after.desired.wanted))
-      (λ asked move. by_knowing FitsAtOnce (λ why after. tt) (found_by rows asked).task (λ old. moved_to old (task_move old move now)) (λ old known. fits-moved_to old (task_move old move now)))
-      (λ asked epoch move. by_knowing FitsAtOnce (λ why after. tt) (found_by rows asked).task (λ old. if_joined (found_by rows asked).cell epoch (λ c. moved_to old (task_move old move now))) (λ old known.
-      by_joining FitsAtOnce (λ why after. tt) (found_by rows asked).cell epoch (λ c. moved_to old (task_move old move now)) (λ c joined same. fits-moved_to old (task_move old move now))))
+      (λ asked move. by_knowing FitsAtOnce (λ why after. tt) (found_by rows asked).task (λ old. task_moved_to old (task_move old move now)) (λ old known. fits-moved_to old (task_move old move now)))
+      (λ asked epoch move. by_knowing FitsAtOnce (λ why after. tt) (found_by rows asked).task (λ old. if_joined (found_by rows asked).cell epoch (λ c. task_moved_to old (task_move old move now))) (λ old known.
+      by_joining FitsAtOnce (λ why after. tt) (found_by rows asked).cell epoch (λ c. task_moved_to old (task_move old move now)) (λ c joined same. fits-moved_to old (task_move old move now))))
 
 pub wanted-first : (rows : Rows) (c : Command) → IsValid rows → IsLegal rows c → (first : Edit) (second : Option Edit)
     → attempt_of rows c ≡ Change first second → wanted (edited rows first) ≤ most_wanted

@@ -25,14 +25,14 @@ IsRowAt key presence (row.Task t) = ⊥
 IsRowAt key presence (row.Cell c) = ⊥
 
 -- the ORDINARY row of an instance changed
-pub record IsLeft (key : Key) (event : Event) : Type 0 where
+pub record IsOfOrdinary (key : Key) (event : Event) : Type 0 where
   pub change : event.change ≡ Changed
   pub row : IsRowAt key Ordinary event.row
 
 -- an instance has its EVACUATING row, and its ORDINARY row changed after that
 pub record TellsEvacuation (key : Key) (events : Events) : Type 0 where
   pub first : IsRowAt key Evacuating events.first.row
-  pub second : IsSomeAnd events.second (IsLeft key)
+  pub second : IsSomeAnd events.second (IsOfOrdinary key)
 
 -- an evacuation changes two rows, and any other command one
 pub record TellsEachRow (rows : Rows) (c : Command) : Type 0 where
@@ -42,17 +42,17 @@ pub record TellsEachRow (rows : Rows) (c : Command) : Type 0 where
       IfSome (events_of rows c) (λ (events : Events). events.second ≡ None)
 
 -- this row stands in its place
-abbrev pub Stands : Rows → Row → Type 0
-Stands rows (row.Desired d) = find_desired rows d.process ≡ Some d
-Stands rows (row.Actual a) = find_actual rows a.key a.presence ≡ Some a
-Stands rows (row.Task t) = find_task rows t.name ≡ Some t
-Stands rows (row.Cell c) = find_cell rows c.cell ≡ Some c
+abbrev pub StandsIn : Rows → Row → Type 0
+StandsIn rows (row.Desired d) = find_desired rows d.process ≡ Some d
+StandsIn rows (row.Actual a) = find_actual rows a.key a.presence ≡ Some a
+StandsIn rows (row.Task t) = find_task rows t.name ≡ Some t
+StandsIn rows (row.Cell c) = find_cell rows c.cell ≡ Some c
 
 -- what is said of a row: it came where none was, it came in the place of one, or it stood and is gone
 abbrev pub SaysSo : Change → Row → Rows → Rows → Type 0
-SaysSo Created r old new = (has_place_of old r ≡ false) × Stands new r
-SaysSo Changed r old new = (has_place_of old r ≡ true) × Stands new r
-SaysSo Removed r old new = Stands old r × (has_place_of new r ≡ false)
+SaysSo Created r old new = (has_place_of old r ≡ false) × StandsIn new r
+SaysSo Changed r old new = (has_place_of old r ≡ true) × StandsIn new r
+SaysSo Removed r old new = StandsIn old r × (has_place_of new r ≡ false)
 
 -- each event is true of the rows before and after it; between two events are rows of their own
 pub record AreTrue (old new : Rows) (events : Events) : Type 0 where

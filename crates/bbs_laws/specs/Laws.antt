@@ -10,7 +10,8 @@ use Rattle.bbs_model.specs.Replay.{replay, AreLegal, replay_log, IsLawful, IsRea
 use Rattle.bbs_model.specs.Runs.{state_after, events_after, state_after_all, legal_ones}
 use Rattle.bbs_model.specs.Step.{attempt_of, verdict_of, IsLegal, edited, rows_after, events_of}
 use Rattle.bbs_model.specs.Tables.{wanted}
-use Rattle.bbs_model.specs.Valid.{IsValid, IsHeldBefore, runner_of}
+use Rattle.bbs_model.specs.Valid.{IsValid, IsHeldBefore}
+use Rattle.task_records.specs.States.{runner_of}
 use Rattle.bbs_model.specs.declared.attempt.Attempt.TheVariants.{Change as Changes}
 use Rattle.bbs_model.specs.declared.attempt.Edit.{Edit}
 use Rattle.bbs_model.specs.declared.command.Command.{Command}

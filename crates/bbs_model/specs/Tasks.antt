@@ -35,17 +35,17 @@ new_task found name memory disk tag now = unless_refused (new_task_refusals foun
 })))
 
 -- what a move's end comes to
-abbrev pub moved_to : Task → TaskEnd → Attempt
-moved_to old (end.Changed new) = put (row.Task new)
-moved_to old end.Gone = drop_row (row.Task old)
-moved_to old end.Same = Keep
-moved_to old (end.Refused because) = Refuse (why.Task because)
+abbrev pub task_moved_to : Task → TaskEnd → Attempt
+task_moved_to old (end.Changed new) = put (row.Task new)
+task_moved_to old end.Gone = drop_row (row.Task old)
+task_moved_to old end.Same = Keep
+task_moved_to old (end.Refused because) = Refuse (why.Task because)
 
 -- a move on a task
 abbrev pub move_task : Found → TaskMove → Moment → Attempt
-move_task found move now = if_known found.task (λ old. moved_to old (task_move old move now))
+move_task found move now = if_known found.task (λ old. task_moved_to old (task_move old move now))
 
 -- a move that a cell makes for its container of this epoch
 abbrev pub move_task_by_cell : Found → ℕ → TaskMove → Moment → Attempt
 move_task_by_cell found epoch move now = if_known found.task (λ old.
-    if_joined found.cell epoch (λ cell. moved_to old (task_move old move now)))
+    if_joined found.cell epoch (λ cell. task_moved_to old (task_move old move now)))

@@ -13,8 +13,7 @@ use Rattle.lrp_records.specs.declared.presence.Presence.TheVariants.{Ordinary, E
 use Rattle.lrp_records.specs.declared.state.LrpState.{LrpState}
 use Rattle.lrp_records.specs.declared.state.LrpState.TheVariants as lrp
 use Rattle.row_tables.specs.Table.{IsRising}
-use Rattle.task_records.specs.declared.state.TaskState.{TaskState}
-use Rattle.task_records.specs.declared.state.TaskState.TheVariants as task
+use Rattle.task_records.specs.States.{runner_of}
 use Rattle.task_records.specs.declared.task.Task.{Task}
 use Rattle.bbs_model.specs.Limits.{most_processes, most_instances, most_wanted, most_actual, most_tasks, most_cells, most_transitions}
 use Rattle.bbs_model.specs.Tables.{process_of, task_name_of, cell_name_of}
@@ -58,13 +57,6 @@ pub record AreActual (next : ℕ) (rows : List Actual) : Type 0 where
   pub rising : IsRising place_order place_of rows
   pub few : length rows ≤ most_actual
   pub each : AllByRecursion (IsActualRow next) rows
-
--- the container that runs a task
-abbrev pub runner_of : TaskState → Option Instance
-runner_of task.Pending = None
-runner_of (task.Running instance cell) = Some instance
-runner_of (task.Completed failed) = None
-runner_of (task.Resolving failed) = None
 
 -- a task of a board with so many transitions
 pub record IsTaskRow (next : ℕ) (row : Task) : Type 0 where

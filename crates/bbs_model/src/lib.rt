@@ -1,7 +1,6 @@
 //! What a board is, what a command does to it, and what is answered.
 #![tactic(auto)]
 
-mod answered;
 mod attempt;
 mod attempts;
 mod command;
@@ -21,7 +20,6 @@ mod store;
 mod tables;
 mod verdict;
 
-pub use answered::Answered;
 pub use attempt::{Attempt, Edit};
 pub use attempts::{attempt_at, judge};
 pub use command::{Command, Op};
@@ -36,7 +34,7 @@ pub use limits::{
     MOST_WANTED,
 };
 pub use port::Port;
-pub use reply::{CallEnd, CallFault, Reply};
+pub use reply::{CallFault, Reply};
 pub use rowed::Rowed;
 pub use rows::Rows;
 pub use store::RowStore;

@@ -21,12 +21,3 @@ pub enum CallFault {
     /// Nothing was done.
     OutOfMemory,
 }
-
-/// How a call ended for its caller.
-#[derive(Clone, Copy, Debug, PartialEq, Eq)]
-pub enum CallEnd {
-    /// The board answered.
-    Got(Reply),
-    /// The board tried, and had no answer.
-    Fault(CallFault),
-}

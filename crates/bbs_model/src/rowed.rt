@@ -1,8 +1,8 @@
 //! Rows that hold their own keys.
 ghost use Rattle.std.specs.Prelude.{◌≡◌};
-ghost use Rattle.diego_names.proofs.Ties.{IsKeyOrder-name_order};
+ghost use Rattle.diego_names.proofs.Public.{IsKeyOrder-name_order};
 ghost use Rattle.lrp_records.specs.Place.{place_of};
-ghost use Rattle.lrp_records.proofs.Ties.{IsKeyOrder-place_order};
+ghost use Rattle.lrp_records.proofs.Public.{IsKeyOrder-place_order};
 ghost use Rattle.row_tables.specs.Table.{IsKeyOrder};
 ghost use Rattle.bbs_model.specs.Tables.{process_of, task_name_of, cell_name_of};
 

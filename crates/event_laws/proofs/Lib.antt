@@ -1,5 +1,6 @@
 mod Own
-mod Others
+pub mod Others
 mod Told
 mod Over
 mod Onward
+pub mod Public

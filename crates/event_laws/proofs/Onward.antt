@@ -8,7 +8,7 @@ use Rattle.bbs_model.specs.declared.event.Events.{Events}
 use Rattle.bbs_model.specs.declared.event.Row.{Row}
 use Rattle.bbs_model.specs.declared.event.Row.TheVariants as row
 use Rattle.bbs_model.specs.declared.rows.Rows.{Rows}
-use Rattle.event_laws.specs.Told.{with_change, with_event, with_events, in_order, after_events, after_all}
+use Rattle.event_laws.specs.Told.{with_change, with_event, with_events, both_events, after_events, after_all}
 
 -- the rest of what is told, after one transition more
 pub one_transition_more : (rows : Rows) (ts : List Events) (i : ℕ) (t : Events) → i < length ts → t ≡ get_or ts i t
@@ -39,4 +39,4 @@ next-with_events [] rows = refl
 next-with_events (e ∷ es) rows = next-with_events es (with_event e rows) ∙ next-with_change e.change e.row rows
 
 pub next-after_events : (rows : Rows) (t : Events) → (after_events rows t).next ≡ rows.next + 1
-next-after_events rows t = ap (λ n. n + 1) (next-with_events (in_order t) rows)
+next-after_events rows t = ap (λ n. n + 1) (next-with_events (both_events t) rows)

@@ -2,12 +2,12 @@
 use Rattle.std.proofs.Common.{◌≡◌, ◌≢◌, List, ℕ, Option, Some, None, refl, ap, sym, ◌∙◌}
 use Rattle.diego_names.specs.Order.{name_order}
 use Rattle.diego_names.specs.declared.key.Key.{Key}
-use Rattle.diego_names.proofs.Ties.{IsKeyOrder-name_order}
+use Rattle.diego_names.proofs.Public.{IsKeyOrder-name_order}
 use Rattle.lrp_records.specs.Place.{place_of, place_order}
 use Rattle.lrp_records.specs.declared.actual.Actual.{Actual}
 use Rattle.lrp_records.specs.declared.presence.Presence.{Presence}
-use Rattle.lrp_records.proofs.Ties.{IsKeyOrder-place_order}
-use Rattle.row_tables.proofs.Lookups.{find_row-put_row_other, find_row-without_row_other}
+use Rattle.lrp_records.proofs.Public.{IsKeyOrder-place_order}
+use Rattle.row_tables.proofs.Public.{find_row-put_row_other, find_row-without_row_other}
 use Rattle.bbs_model.specs.Found.{task_in}
 use Rattle.bbs_model.specs.Step.{changed_by, edited, edited_again, rows_after, attempt_of}
 use Rattle.bbs_model.specs.Tables.{process_of, task_name_of, cell_name_of, find_desired, find_actual, find_task, find_cell}

@@ -4,7 +4,7 @@ use Rattle.std.specs.Option.{option_map_or}
 use Rattle.std.proofs.lemmas.List.{take-append-drop, take-take}
 use Rattle.task_records.specs.States.{is_unfinished, is_completed}
 use Rattle.task_records.specs.declared.task.Task.{Task}
-use Rattle.task_records.proofs.LifeLaws.{completed_is_finished}
+use Rattle.task_records.proofs.Public.{completed_is_finished}
 use Rattle.bbs_laws.specs.Births.{born_at, is_waiting, is_ended, is_completed_between, completions}
 use Rattle.bbs_model.specs.Replay.{after_item, command_in, replay_log, rows_at, IsLawful, IsReached}
 use Rattle.bbs_model.specs.Step.{IsLegal}
@@ -12,11 +12,8 @@ use Rattle.bbs_model.specs.Valid.{IsTaskRow, IsValid}
 use Rattle.bbs_model.specs.declared.item.Item.{Item}
 use Rattle.bbs_model.specs.declared.item.Item.TheVariants.{Done, Doubt}
 use Rattle.bbs_model.specs.declared.rows.Rows.{Rows}
-use Rattle.bbs_laws.proofs.Public.{waits-below}
+use Rattle.bbs_laws.proofs.Public.{waits-below, IsValid-after_item, IsValid-rows_at, IsValid-reached, IsLawful-take, IsLawful-parts, replay_log-append, legal_at, rests-after_item, completions-none, completions-once, next-rows_after}
 use Rattle.bbs_model.proofs.Public.{each_weaker}
-use Rattle.bbs_laws.proofs.Public.{IsValid-after_item, IsValid-rows_at, IsValid-reached, IsLawful-take, IsLawful-parts, replay_log-append, legal_at}
-use Rattle.bbs_laws.proofs.Public.{rests-after_item, completions-none, completions-once}
-use Rattle.bbs_laws.proofs.Public.{next-rows_after}
 use Rattle.event_laws.specs.Incarnations.{IsOver, StaysOver, Incarnation, AreIncarnations, kept_completions, CompletesOnceInAll}
 
 -- over one item

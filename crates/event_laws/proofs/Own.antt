@@ -8,7 +8,7 @@ use Rattle.crash_backoff.specs.declared.moment.Moment.{Moment}
 use Rattle.diego_names.specs.Order.{name_order}
 use Rattle.diego_names.specs.declared.instance.Instance.{Instance}
 use Rattle.diego_names.specs.declared.key.Key.{Key}
-use Rattle.diego_names.proofs.Ties.{IsKeyOrder-name_order}
+use Rattle.diego_names.proofs.Public.{IsKeyOrder-name_order}
 use Rattle.lrp_records.specs.Laws.{KeepsPlace}
 use Rattle.lrp_records.specs.Moves.{lrp_move}
 use Rattle.lrp_records.specs.Place.{place_of, place_order}
@@ -20,10 +20,9 @@ use Rattle.lrp_records.specs.declared.move_end.MoveEnd.{MoveEnd}
 use Rattle.lrp_records.specs.declared.move_end.MoveEnd.TheVariants as end
 use Rattle.lrp_records.specs.declared.presence.Presence.{Presence}
 use Rattle.lrp_records.specs.declared.presence.Presence.TheVariants.{Ordinary, Evacuating}
-use Rattle.lrp_records.proofs.MoveLaws.{KeepsPlace-lrp_move}
-use Rattle.lrp_records.proofs.Ties.{IsKeyOrder-place_order}
+use Rattle.lrp_records.proofs.Public.{KeepsPlace-lrp_move, IsKeyOrder-place_order}
 use Rattle.row_tables.specs.Table.{IsKeyOrder, find_row}
-use Rattle.row_tables.proofs.Lookups.{key-find_row}
+use Rattle.row_tables.proofs.Public.{key-find_row}
 use Rattle.task_records.specs.Laws.{KeepsTask}
 use Rattle.task_records.specs.Moves.{task_move}
 use Rattle.task_records.specs.declared.move_end.TaskEnd.{TaskEnd}
@@ -31,11 +30,11 @@ use Rattle.task_records.specs.declared.move_end.TaskEnd.TheVariants as ended
 use Rattle.task_records.specs.declared.move_kind.TaskMove.{TaskMove}
 use Rattle.task_records.specs.declared.move_kind.TaskMove.TheVariants as task
 use Rattle.task_records.specs.declared.task.Task.{Task}
-use Rattle.task_records.proofs.MoveLaws.{KeepsTask-task_move}
+use Rattle.task_records.proofs.Public.{KeepsTask-task_move}
 use Rattle.bbs_model.specs.Attempts.{if_known, if_joined, put, drop_row, unless_refused}
 use Rattle.bbs_model.specs.Cells.{join_refusals, vanish}
 use Rattle.bbs_model.specs.Found.{key_in, task_in, found_by}
-use Rattle.bbs_laws.specs.Events.{Stands}
+use Rattle.bbs_laws.specs.Events.{StandsIn}
 use Rattle.bbs_model.specs.Lrps.{new_row, make_refusals, moved_to, is_running_as, left_row, stays_because}
 use Rattle.bbs_model.specs.Processes.{desire_refusals, asks_for, resize_refusals}
 use Rattle.bbs_model.specs.Step.{attempt_at, edited}
@@ -52,8 +51,7 @@ use Rattle.bbs_model.specs.declared.event.Row.{Row}
 use Rattle.bbs_model.specs.declared.event.Row.TheVariants as row
 use Rattle.bbs_model.specs.declared.rows.Rows.{Rows}
 use Rattle.bbs_model.specs.declared.verdict.BoardRefusal.TheVariants as why
-use Rattle.bbs_laws.proofs.Public.{by_test, by_passing, by_knowing, by_joining}
-use Rattle.bbs_laws.proofs.Public.{each-evacuate}
+use Rattle.bbs_laws.proofs.Public.{by_test, by_passing, by_knowing, by_joining, each-evacuate}
 use Rattle.event_laws.specs.Frame.{own_process, own_instance, own_cell}
 
 -- the row has one of the command's own keys
@@ -66,7 +64,7 @@ IsOwn asked (row.Cell c) = own_cell asked ≡ Some c.cell
 -- a row that is dropped stands
 abbrev pub IsSound : Rows → Edit → Type 0
 IsSound rows (Put r) = Unit {0}
-IsSound rows (Drop r) = Stands rows r
+IsSound rows (Drop r) = StandsIn rows r
 
 abbrev pub row_in : Edit → Row
 row_in (Put r) = r
@@ -114,7 +112,7 @@ module _ (rows : Rows) (now : Moment) where
   puts : (asked : Op) (r : Row) → IsOwn asked r → AreOwn rows asked (put r)
   puts asked r own = (record { own = own; sound = tt }, tt)
 
-  drops : (asked : Op) (r : Row) → IsOwn asked r → Stands rows r → AreOwn rows asked (drop_row r)
+  drops : (asked : Op) (r : Row) → IsOwn asked r → StandsIn rows r → AreOwn rows asked (drop_row r)
   drops asked r own stands = (record { own = own; sound = stands }, tt)
 
   -- processes
@@ -194,25 +192,25 @@ module _ (rows : Rows) (now : Moment) where
       by_passing (AreOwn rows asked) (λ _. tt) (new_task_refusals (found_by rows asked)) _ (λ _. puts asked (row.Task _) refl)
 
   ends_as : (asked : Op) (old : Task) (e : TaskEnd) → (task_in asked ≡ Some old.name) × (find_task rows old.name ≡ Some old) → KeepsTask old now e
-      → AreOwn rows asked (tasks.moved_to old e)
+      → AreOwn rows asked (tasks.task_moved_to old e)
   ends_as asked old (ended.Changed new) known same = puts asked (row.Task new) (known.0 ∙ ap (λ n. Some n) (sym same.task.name))
   ends_as asked old ended.Gone known same = drops asked (row.Task old) known.0 known.1
   ends_as asked old ended.Same known same = tt
   ends_as asked old (ended.Refused because) known same = tt
 
-  ends : (asked : Op) (old : Task) (move : TaskMove) → (found_by rows asked).task ≡ Some old → AreOwn rows asked (tasks.moved_to old (task_move old move now))
+  ends : (asked : Op) (old : Task) (move : TaskMove) → (found_by rows asked).task ≡ Some old → AreOwn rows asked (tasks.task_moved_to old (task_move old move now))
   ends asked old move known =
       ends_as asked old (task_move old move now) (at_its_key name_order task_name_of IsKeyOrder-name_order rows.tasks (task_in asked) old known) (KeepsTask-task_move old move now)
 
   runs : (asked : Op) (move : TaskMove) → AreOwn rows asked (tasks.move_task (found_by rows asked) move now)
   runs asked move =
-      by_knowing (AreOwn rows asked) (λ _. tt) (found_by rows asked).task (λ old. tasks.moved_to old (task_move old move now)) (λ old known. ends asked old move known)
+      by_knowing (AreOwn rows asked) (λ _. tt) (found_by rows asked).task (λ old. tasks.task_moved_to old (task_move old move now)) (λ old known. ends asked old move known)
 
   runs_by_cell : (asked : Op) (epoch : ℕ) (move : TaskMove) → AreOwn rows asked (tasks.move_task_by_cell (found_by rows asked) epoch move now)
   runs_by_cell asked epoch move =
       let found = found_by rows asked in
-      by_knowing (AreOwn rows asked) (λ _. tt) found.task (λ old. if_joined found.cell epoch (λ cell. tasks.moved_to old (task_move old move now))) (λ old known.
-      by_joining (AreOwn rows asked) (λ _. tt) found.cell epoch (λ cell. tasks.moved_to old (task_move old move now)) (λ cell joined same. ends asked old move known))
+      by_knowing (AreOwn rows asked) (λ _. tt) found.task (λ old. if_joined found.cell epoch (λ cell. tasks.task_moved_to old (task_move old move now))) (λ old known.
+      by_joining (AreOwn rows asked) (λ _. tt) found.cell epoch (λ cell. tasks.task_moved_to old (task_move old move now)) (λ cell joined same. ends asked old move known))
 
   -- cells
   joins : (cell zone : List ℕ) (tag : Option (List ℕ)) (totals : Amounts) (ttl : ℕ) → let asked = op.Join cell zone tag totals ttl in

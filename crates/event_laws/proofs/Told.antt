@@ -1,11 +1,11 @@
 -- The events of a command are all that it does.
 use Rattle.std.proofs.Common.{◌≡◌, Bool, true, false, cond, suc, length, List, [], ◌∷◌, Option, Some, None, is_some, refl, ap, sym, subst, ◌∙◌}
 use Rattle.diego_names.specs.Order.{name_order}
-use Rattle.diego_names.proofs.Ties.{IsKeyOrder-name_order}
+use Rattle.diego_names.proofs.Public.{IsKeyOrder-name_order}
 use Rattle.lrp_records.specs.Place.{place_of, place_order}
-use Rattle.lrp_records.proofs.Ties.{IsKeyOrder-place_order}
-use Rattle.row_tables.proofs.Lookups.{find_row-put_row_same, find_row-without_row_same}
-use Rattle.bbs_laws.specs.Events.{Stands, SaysSo, AreTrue}
+use Rattle.lrp_records.proofs.Public.{IsKeyOrder-place_order}
+use Rattle.row_tables.proofs.Public.{find_row-put_row_same, find_row-without_row_same}
+use Rattle.bbs_laws.specs.Events.{StandsIn, SaysSo, AreTrue}
 use Rattle.bbs_model.specs.Replay.{replay, AreLegal}
 use Rattle.bbs_model.specs.Step.{IsLegal, changed_by, advanced, edited, edited_again, rows_after, with_row, without_place_of, has_place_of, event_of, event_again, events_in}
 use Rattle.bbs_model.specs.Tables.{process_of, task_name_of, cell_name_of}
@@ -23,7 +23,7 @@ use Rattle.bbs_model.specs.declared.event.Row.{Row}
 use Rattle.bbs_model.specs.declared.event.Row.TheVariants as row
 use Rattle.bbs_model.specs.declared.rows.Rows.{Rows}
 use Rattle.bbs_laws.proofs.Public.{legal_changes}
-use Rattle.event_laws.specs.Told.{with_change, with_event, with_events, behind, IsDue, IsShown, AreDue, TellAll, TellsAll, told_of, told_before, after_all, FollowsTheBoard}
+use Rattle.event_laws.specs.Told.{with_change, with_event, with_events, with_second, FitsRows, IsShown, AreDue, TellAll, TellsAll, told_of_commands, told_before, after_all, FollowsTheBoard}
 use Rattle.event_laws.proofs.Own.{IsSound, IsOwnAgain, AreOwn, own-attempt}
 
 -- what is told of an edit is what it does
@@ -35,27 +35,27 @@ with_event-edit : (rows : Rows) (edit : Edit) → with_event (event_of rows edit
 with_event-edit rows (Put r) = with_change-put (has_place_of rows r) r rows
 with_event-edit rows (Drop r) = refl
 
-due-put : (known : Bool) (r : Row) (rows : Rows) → has_place_of rows r ≡ known → IsDue (cond known Changed Created) r rows
+due-put : (known : Bool) (r : Row) (rows : Rows) → has_place_of rows r ≡ known → FitsRows (cond known Changed Created) r rows
 due-put true r rows is = is
 due-put false r rows is = is
 
-due-edit : (rows : Rows) (edit : Edit) → IsSound rows edit → let e = event_of rows edit in IsDue e.change e.row rows
+due-edit : (rows : Rows) (edit : Edit) → IsSound rows edit → let e = event_of rows edit in FitsRows e.change e.row rows
 due-edit rows (Put r) sound = due-put (has_place_of rows r) r rows refl
 due-edit rows (Drop r) sound = sound
 
 -- one edit or two
 module _ (rows : Rows) (first : Edit) where
-  all-edits : (second : Option Edit) → with_events (behind (event_of rows first) (event_again (edited rows first) second)) rows ≡ edited_again (edited rows first) second
+  all-edits : (second : Option Edit) → with_events (with_second (event_of rows first) (event_again (edited rows first) second)) rows ≡ edited_again (edited rows first) second
   all-edits None = with_event-edit rows first
   all-edits (Some second) =
       ap (with_event (event_of (edited rows first) second)) (with_event-edit rows first) ∙ with_event-edit (edited rows first) second
 
   due-edits : (second : Option Edit) → IsSound rows first → ((edit : Edit) → second ≡ Some edit → IsSound (edited rows first) edit)
-      → AreDue rows (behind (event_of rows first) (event_again (edited rows first) second))
+      → AreDue rows (with_second (event_of rows first) (event_again (edited rows first) second))
   due-edits None one two = (due-edit rows first one, tt)
   due-edits (Some second) one two =
       let e = event_of (edited rows first) second in
-      (due-edit rows first one, (subst (λ (r : Rows). IsDue e.change e.row r) (sym (with_event-edit rows first)) (due-edit (edited rows first) second (two second refl)), tt))
+      (due-edit rows first one, (subst (λ (r : Rows). FitsRows e.change e.row r) (sym (with_event-edit rows first)) (due-edit (edited rows first) second (two second refl)), tt))
 
 sound_again : (rows : Rows) (asked : Op) (second : Option Edit) → IsOwnAgain rows asked second → (edit : Edit) → second ≡ Some edit → IsSound rows edit
 sound_again rows asked None own edit is = cc
@@ -78,25 +78,25 @@ tells_all rows c legal =
     }
 
 -- who follows the events has the rows
-follows-rows : (rows : Rows) (cs : List Command) → AreLegal rows cs → replay rows cs ≡ after_all rows (told_of rows cs)
+follows-rows : (rows : Rows) (cs : List Command) → AreLegal rows cs → replay rows cs ≡ after_all rows (told_of_commands rows cs)
 follows-rows rows [] legal = refl
 follows-rows rows (c ∷ cs) legal =
     let tells = tells_all rows c legal.0 in
-    let later = told_of (rows_after rows c) cs in
+    let later = told_of_commands (rows_after rows c) cs in
     follows-rows (rows_after rows c) cs legal.1 ∙ ap (λ (r : Rows). after_all r later) tells.tell.all
     ∙ ap (λ (t : Option Events). after_all rows (told_before t later)) (sym tells.told)
 
-follows-each : (rows : Rows) (cs : List Command) → AreLegal rows cs → length (told_of rows cs) ≡ length cs
+follows-each : (rows : Rows) (cs : List Command) → AreLegal rows cs → length (told_of_commands rows cs) ≡ length cs
 follows-each rows [] legal = refl
 follows-each rows (c ∷ cs) legal =
-    let later = told_of (rows_after rows c) cs in
+    let later = told_of_commands (rows_after rows c) cs in
     ap (λ (t : Option Events). length (told_before t later)) (tells_all rows c legal.0).told ∙ ap (λ n. suc n) (follows-each (rows_after rows c) cs legal.1)
 
 pub follows : (rows : Rows) (cs : List Command) → FollowsTheBoard rows cs
 follows rows cs = record { rows_are = follows-rows rows cs; each = follows-each rows cs }
 
 -- a row that was put stands there, and none where it was taken away
-Stands-with_row : (rows : Rows) (r : Row) → Stands (with_row rows r) r
+Stands-with_row : (rows : Rows) (r : Row) → StandsIn (with_row rows r) r
 Stands-with_row rows (row.Desired d) = find_row-put_row_same name_order process_of IsKeyOrder-name_order d rows.desired
 Stands-with_row rows (row.Actual a) = find_row-put_row_same place_order place_of IsKeyOrder-place_order a rows.actual
 Stands-with_row rows (row.Task t) = find_row-put_row_same name_order task_name_of IsKeyOrder-name_order t rows.tasks
@@ -131,19 +131,19 @@ shown-advanced Removed (row.Actual a) rows h = h
 shown-advanced Removed (row.Task t) rows h = h
 shown-advanced Removed (row.Cell c) rows h = h
 
-said : (change : Change) (r : Row) (old new : Rows) → IsDue change r old → IsShown change r new → SaysSo change r old new
+said : (change : Change) (r : Row) (old new : Rows) → FitsRows change r old → IsShown change r new → SaysSo change r old new
 said Created r old new due after = (due, after)
 said Changed r old new due after = (due, after)
 said Removed r old new due after = (due, after)
 
-says : (e : Event) (old : Rows) → IsDue e.change e.row old → SaysSo e.change e.row old (with_event e old)
+says : (e : Event) (old : Rows) → FitsRows e.change e.row old → SaysSo e.change e.row old (with_event e old)
 says e old due = said e.change e.row old (with_event e old) due (shows old e)
 
-says_last : (e : Event) (old : Rows) → IsDue e.change e.row old → SaysSo e.change e.row old (advanced (with_event e old))
+says_last : (e : Event) (old : Rows) → FitsRows e.change e.row old → SaysSo e.change e.row old (advanced (with_event e old))
 says_last e old due = said e.change e.row old (advanced (with_event e old)) due (shown-advanced e.change e.row (with_event e old) (shows old e))
 
-true_as : (old : Rows) (first : Event) (second : Option Event) → AreDue old (behind first second)
-    → AreTrue old (advanced (with_events (behind first second) old)) (record { first = first; second = second })
+true_as : (old : Rows) (first : Event) (second : Option Event) → AreDue old (with_second first second)
+    → AreTrue old (advanced (with_events (with_second first second) old)) (record { first = first; second = second })
 true_as old first None due = record {
   between = advanced (with_event first old);
   first = says_last first old due.0;

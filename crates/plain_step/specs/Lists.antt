@@ -7,6 +7,6 @@ use Rattle.lrp_records.specs.declared.presence.Presence.{Presence}
 use Rattle.lrp_records.specs.declared.presence.Presence.TheVariants.{Ordinary}
 
 -- the place of the ORDINARY row of each instance that a process wants
-abbrev pub instance_places : Desired → List (Key × Presence)
-instance_places d =
+abbrev pub places_of_instances : Desired → List (Key × Presence)
+places_of_instances d =
     map (λ (i : ℕ). (record { process = d.process; index = i }, Ordinary)) (range_with_len 0 d.instances)

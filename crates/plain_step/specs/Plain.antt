@@ -26,20 +26,20 @@ pub record IsPlain (base rows : Rows) (log : List Item) (told : List (Option Eve
   pub told_is : told ≡ told_in base log
 
 -- what its caller has seen is all that there is, and its own
-abbrev pub seen_of : PlainBoard → PortView
-seen_of p = record { base = p.base; seen = p.log; mine = p.log }
+abbrev pub plain_seen_of : PlainBoard → PortView
+plain_seen_of p = record { base = p.base; seen = p.log; mine = p.log }
 
 -- it is the same caller's, and more was done
-pub record GoesOn (p q : PlainBoard) : Type 0 where
+pub record GoesOnFrom (p q : PlainBoard) : Type 0 where
   pub number : q.number ≡ p.number
   pub base : q.base ≡ p.base
   pub more : List Item
   pub log : q.log ≡ p.log ++ more
 
-pub goes_same : (p : PlainBoard) → GoesOn p p
+pub goes_same : (p : PlainBoard) → GoesOnFrom p p
 goes_same p = record { number = refl; base = refl; more = []; log = sym (append-nil p.log) }
 
-pub goes_then : (p q r : PlainBoard) → GoesOn p q → GoesOn q r → GoesOn p r
+pub goes_then : (p q r : PlainBoard) → GoesOnFrom p q → GoesOnFrom q r → GoesOnFrom p r
 goes_then p q r f g = record {
   number = g.number ∙ f.number;
   base = g.base ∙ f.base;

@@ -2,7 +2,7 @@
 ghost use Rattle.std.specs.Prelude.{◌≡◌, ◌++◌, map, IfOk, OnOk};
 ghost use Rattle.bbs_model.specs.Work.{wanted_places, places as told_places};
 ghost use Rattle.lrp_records.specs.Place.{place_of, place_order};
-ghost use Rattle.plain_step.specs.Lists.{instance_places};
+ghost use Rattle.plain_step.specs.Lists.{places_of_instances};
 ghost use Rattle.row_tables.specs.Table.{table};
 
 use crate::tables::with;
@@ -32,7 +32,7 @@ fn add_wanted(all: &mut List<(Key, Presence)>, desired: &[Desired]) -> Result<()
 }
 
 fn add_instances(all: &mut List<(Key, Presence)>, desired: &Desired) -> Result<(), OutOfMemory>
-    ensures { OnOk result (all.new ≡ all.old ++ instance_places desired.entry.now) }
+    ensures { OnOk result (all.new ≡ all.old ++ places_of_instances desired.entry.now) }
 {
     let process = desired.process;
     for index in 0..desired.instances {

@@ -88,13 +88,13 @@ impl PlainPort {
 }
 
 impl Port for PlainPort {
-    ghost use Rattle.plain_step.specs.Plain.{PlainBoard, seen_of, GoesOn, goes_same, goes_then};
+    ghost use Rattle.plain_step.specs.Plain.{PlainBoard, plain_seen_of, GoesOnFrom, goes_same, goes_then};
 
-    ghost view = { seen_of };
+    ghost view = { plain_seen_of };
 
     ghost number = { λ (p : PlainBoard). p.number };
 
-    ghost keeps = { GoesOn };
+    ghost keeps = { GoesOnFrom };
 
     ghost same = { goes_same };
 

@@ -1,3 +1,4 @@
 mod alike;
 mod attempts;
 mod plain;
+mod verdicts;

@@ -61,7 +61,7 @@ pub fn move_task_by_cell(found: &Found, epoch: u64, mv: &TaskMove, now: Moment) 
 }
 
 fn moved_to(old: &Task, end: &TaskEnd) -> Attempt
-    ensures { result ≡ told.moved_to old.now end.now }
+    ensures { result ≡ told.task_moved_to old.now end.now }
 {
     match *end {
         TaskEnd::Changed(new) => put(Row::Task(new)),
