@@ -7,16 +7,15 @@ use Rattle.std.proofs.lemmas.Bool.{cases_lt, lt-ltb}
 use Rattle.std.proofs.lemmas.List.{length-map, get_or-map}
 use Rattle.std.proofs.lemmas.List.Elements.{All-nil, All-cons, All-map, All-contains, All-head, All-tail}
 use Rattle.row_tables.specs.Table.{IsRising, table}
-use Rattle.row_tables.proofs.Elements.{All-put_row}
-use Rattle.row_tables.proofs.Tables.{IsRising-table, IsRising-from_pairs}
+use Rattle.row_tables.proofs.Public.{All-put_row, IsRising-table, IsRising-from_pairs}
 use Rattle.diego_names.specs.Order.{name_order}
-use Rattle.diego_names.proofs.Ties.{IsKeyOrder-name_order}
+use Rattle.diego_names.proofs.Public.{IsKeyOrder-name_order}
 use Rattle.cell_records.specs.declared.answer.Answer.{Answer}
 use Rattle.cell_records.specs.declared.job.Job.{Job}
 use Rattle.auction_scoring.specs.Order.{score_order, is_better}
 use Rattle.auction_scoring.specs.declared.scores.Score.{Score}
 use Rattle.auctioneer.specs.Auction.{placement_on, stands_with, auction_from, auction}
-use Rattle.auctioneer.specs.Laws.{job_in, stands_after, AtEachTurn, TakesRoom, Spreads, NamesAnswer}
+use Rattle.auctioneer.specs.Laws.{job_in, stands_after, AtEachTurn, UsesRoom, Spreads, NamesAnswer}
 use Rattle.auctioneer.specs.Least.{IsLeastOrNone, best}
 use Rattle.auctioneer.specs.Stands.{same_name, score_in, in_zone, with_job, placed, stand_of, stands_of}
 use Rattle.auctioneer.specs.declared.placement.Placement.{Placement}
@@ -49,15 +48,15 @@ module _ (P : List Stand → Job → Placement → Type 0) (K : List Stand → T
         (at_each_turn (stands_with job (best stands job) stands) jobs (keeps stands job (best stands job) k)),
   )
 
-room_is_taken : (stands : List Stand) (job : Job) (o : Option Stand) → IsLeastOrNone stands job stands o → TakesRoom stands job (placement_on job o)
+room_is_taken : (stands : List Stand) (job : Job) (o : Option Stand) → IsLeastOrNone stands job stands o → UsesRoom stands job (placement_on job o)
 room_is_taken stands job None h = h
 room_is_taken stands job (Some s) h = (s, h.inside, refl, h.fits)
 
-pub takes_room : (stands : List Stand) (jobs : List Job) → AtEachTurn TakesRoom stands jobs (auction_from stands jobs)
-takes_room stands jobs = at_each_turn TakesRoom (λ ss. Unit {0}) (λ ss job k. room_is_taken ss job) (λ ss job o k. tt) stands jobs tt
+pub takes_room : (stands : List Stand) (jobs : List Job) → AtEachTurn UsesRoom stands jobs (auction_from stands jobs)
+takes_room stands jobs = at_each_turn UsesRoom (λ ss. Unit {0}) (λ ss job k. room_is_taken ss job) (λ ss job o k. tt) stands jobs tt
 
 -- a score that is no better has no emptier zone
-emptier_zone : (x y : Score) → is_better x y ≡ false → y.in_zone ≤ x.in_zone
+pub emptier_zone : (x y : Score) → is_better x y ≡ false → y.in_zone ≤ x.in_zone
 emptier_zone x y e =
     elim (cases_lt x.in_zone y.in_zone) [
       | (inl below) ↦

@@ -8,7 +8,7 @@ use Rattle.auction_scoring.specs.declared.scores.Score.{Score}
 use Rattle.auctioneer.specs.Candidates.{better_candidate, IsCandidate, TracksBest}
 use Rattle.auctioneer.specs.Least.{better_one, best_in}
 use Rattle.auctioneer.specs.Stands.{can_take, score_in}
-use Rattle.auctioneer.specs.declared.scan.Candidate.{Candidate}
+use Rattle.auctioneer.specs.declared.candidate.Candidate.{Candidate}
 use Rattle.auctioneer.specs.declared.stand.Stand.{Stand}
 
 module _ (stands : List Stand) (job : Job) where

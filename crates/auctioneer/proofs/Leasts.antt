@@ -12,7 +12,7 @@ use Rattle.diego_names.specs.Order.{name_order}
 use Rattle.cell_records.specs.declared.job.Job.{Job}
 use Rattle.auction_scoring.specs.Order.{score_order, is_better}
 use Rattle.auction_scoring.specs.declared.scores.Score.{Score}
-use Rattle.auction_scoring.proofs.Ties.{IsKeyOrder-score_order}
+use Rattle.auction_scoring.proofs.Public.{IsKeyOrder-score_order}
 use Rattle.auctioneer.specs.Least.{IsLeastOrNone, better_one, best_in, best}
 use Rattle.auctioneer.specs.Stands.{can_take, score_in}
 use Rattle.auctioneer.specs.declared.stand.Stand.{Stand}
@@ -24,7 +24,7 @@ turned_round Equal = refl
 turned_round Greater = refl
 
 -- the first is better where the second is worse
-better_is_worse : (a b : Score) → is_better a b ≡ is_gt (score_order b a)
+pub better_is_worse : (a b : Score) → is_better a b ≡ is_gt (score_order b a)
 better_is_worse a b = ap is_lt (IsKeyOrder-score_order.total.antisymm a b) ∙ turned_round (score_order b a)
 
 pub never_better_than_itself : (a : Score) → is_better a a ≡ false
@@ -56,7 +56,7 @@ same_score a b ab ba =
     (neither (score_order a b) ab (ap is_lt (sym (IsKeyOrder-score_order.total.antisymm b a)) ∙ ba))
 
 -- an element of a list is its first, or one of the others
-contains_cases : {X : Type 0} (x : X) (xs : List X) (y : X) → Contains (x ∷ xs) y → (x ≡ y) ⊎ Contains xs y
+pub contains_cases : {X : Type 0} (x : X) (xs : List X) (y : X) → Contains (x ∷ xs) y → (x ≡ y) ⊎ Contains xs y
 contains_cases x xs y (zero, lt, at) = inl at
 contains_cases x xs y (suc k, lt, at) = inr (k, omega arith, at)
 

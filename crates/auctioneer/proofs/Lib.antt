@@ -5,3 +5,8 @@ pub mod Standings
 pub mod Leasts
 pub mod AuctionLaws
 pub mod Apart
+pub mod Counts
+pub mod SpotOrders
+pub mod SpotLists
+pub mod Offers
+pub mod Groups

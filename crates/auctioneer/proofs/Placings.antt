@@ -9,13 +9,11 @@ use Rattle.std.proofs.lemmas.List.{length-append, length-set}
 use Rattle.std.proofs.lemmas.List.Elements.{All-head, All-tail, All-set}
 use Rattle.std.proofs.lemmas.Slice.Eq.{slice_eq-Decides}
 use Rattle.row_tables.specs.Table.{IsRising}
-use Rattle.row_tables.proofs.Elements.{All-above}
-use Rattle.row_tables.proofs.Rising.{below_rest, IsRising-tail}
-use Rattle.row_tables.proofs.Tables.{IsRising-from_pairs}
+use Rattle.row_tables.proofs.Public.{All-above, below_rest, IsRising-tail, IsRising-from_pairs}
 use Rattle.diego_names.specs.Order.{name_order}
-use Rattle.diego_names.proofs.Ties.{IsKeyOrder-name_order}
+use Rattle.diego_names.proofs.Public.{IsKeyOrder-name_order}
 use Rattle.cell_records.specs.declared.job.Job.{Job}
-use Rattle.auctioneer.specs.Asked.{IsSound, AreStands}
+use Rattle.auctioneer.specs.Asked.{IsSoundStand, AreStands}
 use Rattle.auctioneer.specs.Stands.{same_name, can_take, with_job, placed}
 use Rattle.auctioneer.specs.declared.stand.Stand.{Stand}
 
@@ -76,7 +74,7 @@ HasRoom-can_take job s e =
       slot = ltb-true 0 s.free.containers third.1;
     }
 
-pub IsSound-with_job : (job : Job) (s : Stand) → HasRoom job s → IsSound s → IsSound (with_job job s)
+pub IsSound-with_job : (job : Job) (s : Stand) → HasRoom job s → IsSoundStand s → IsSoundStand (with_job job s)
 IsSound-with_job job s room sound = record {
   within = record {
     memory = omega (arith, sound.within.memory);
@@ -104,12 +102,12 @@ names-set (y ∷ ys) zero s e (suc k) d = refl
 names-set (y ∷ ys) (suc i) s e zero d = refl
 names-set (y ∷ ys) (suc i) s e (suc k) d = names-set ys i s e k d
 
-pub AreStands-set : (ss : List Stand) (at : ℕ) (s : Stand) → s.cell ≡ (get_or ss at s).cell → IsSound s → AreStands ss → AreStands (set ss at s)
+pub AreStands-set : (ss : List Stand) (at : ℕ) (s : Stand) → s.cell ≡ (get_or ss at s).cell → IsSoundStand s → AreStands ss → AreStands (set ss at s)
 AreStands-set ss at s e sound h = record {
   few = simp length-set h.few;
   rising =
       let before = pairs-from_rising ss h.rising in
       IsRising-from_pairs name_order (λ s. s.cell) (set ss at s) (λ i j d lt below.
       rw (names-set ss at s e i d, names-set ss at s e j d) (before i j d lt (simp length-set at below)));
-  each = All-set IsSound ss at s sound h.each;
+  each = All-set IsSoundStand ss at s sound h.each;
 }

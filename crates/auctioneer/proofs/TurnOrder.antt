@@ -9,14 +9,14 @@ use Rattle.std.specs.declared.cmp.Ordering.TheVariants.{Less, Equal, Greater}
 use Rattle.std.proofs.lemmas.List.{length-map, get_or-map}
 use Rattle.row_tables.specs.Table.{IsKeyOrder}
 use Rattle.diego_names.specs.Order.{name_order}
-use Rattle.diego_names.proofs.Ties.{IsKeyOrder-name_order}
+use Rattle.diego_names.proofs.Public.{IsKeyOrder-name_order}
 use Rattle.cell_records.specs.declared.job.Job.{Job}
 use Rattle.cell_records.specs.declared.job_name.JobName.{JobName}
 use Rattle.cell_records.specs.declared.job_name.JobName.TheVariants.{Lrp, Task}
-use Rattle.auctioneer.specs.Order.{class_of, name_of, index_of, turn_of, turn_order}
+use Rattle.auctioneer.specs.Order.{class_of, job_name, index_of, turn_of, turn_order}
 
 -- where one order and then another tie, both do
-both_tie : (a b : Ordering) → ordering_then a b ≡ Equal → (a ≡ Equal) × (b ≡ Equal)
+pub both_tie : (a b : Ordering) → ordering_then a b ≡ Equal → (a ≡ Equal) × (b ≡ Equal)
 both_tie Less b e = absurd cc
 both_tie Equal b e = (refl, e)
 both_tie Greater b e = absurd cc
@@ -44,7 +44,7 @@ not_of_tasks : (n : ℕ) → ◌≡◌ {A = ℕ} (cond (eqb n 0) 0 2) 1 → ⊥
 not_of_tasks n =
     elim (eqb n 0) as (λ b. ◌≡◌ {A = ℕ} (cond b 0 2) 1 → ⊥) [ true ↦ λ e. absurd (omega arith) | false ↦ λ e. absurd (omega arith) ]
 
-same_job : (a b : JobName) → class_of a ≡ class_of b → name_of a ≡ name_of b → index_of a ≡ index_of b → a ≡ b
+same_job : (a b : JobName) → class_of a ≡ class_of b → job_name a ≡ job_name b → index_of a ≡ index_of b → a ≡ b
 same_job (Lrp a) (Lrp b) c n i = λ k. Lrp (record { process = n k; index = i k })
 same_job (Lrp a) (Task b) c n i = absurd (not_of_tasks a.index c)
 same_job (Task a) (Lrp b) c n i = absurd (not_of_tasks b.index (sym c))

@@ -18,13 +18,13 @@ pub record IsSoundAnswer (a : Answer) : Type 0 where
   pub containers : length a.containers ≤ a.totals.containers
 
 -- at most 1,000 cells, no two of one name, each with sound sums
-pub record AreCells (answers : List Answer) : Type 0 where
+pub record AreAnswers (answers : List Answer) : Type 0 where
   pub few : length answers ≤ 1000
   pub differ : AllPairs (λ a b. a ≢ b) (map (λ a. a.cell) answers)
   pub each : All IsSoundAnswer answers
 
 -- what is free is within the totals, and the cell has few containers
-pub record IsSound (s : Stand) : Type 0 where
+pub record IsSoundStand (s : Stand) : Type 0 where
   pub within : IsWithin s.free s.totals
   pub few : length s.jobs + s.free.containers < 2 ^ 33
 
@@ -32,4 +32,4 @@ pub record IsSound (s : Stand) : Type 0 where
 pub record AreStands (stands : List Stand) : Type 0 where
   pub few : length stands ≤ 1000
   pub rising : IsRising name_order (λ s. s.cell) stands
-  pub each : All IsSound stands
+  pub each : All IsSoundStand stands

@@ -4,7 +4,7 @@ use Rattle.cell_records.specs.declared.job.Job.{Job}
 use Rattle.auction_scoring.specs.Order.{is_better}
 use Rattle.auctioneer.specs.Least.{best_in}
 use Rattle.auctioneer.specs.Stands.{can_take, score_in}
-use Rattle.auctioneer.specs.declared.scan.Candidate.{Candidate}
+use Rattle.auctioneer.specs.declared.candidate.Candidate.{Candidate}
 use Rattle.auctioneer.specs.declared.stand.Stand.{Stand}
 
 -- the other, unless the best so far is better

@@ -28,9 +28,9 @@ AtEachTurn IsRight stands (job ∷ jobs) (p ∷ ps) =
     IsRight stands job p × AtEachTurn IsRight (stands_after job p stands) jobs ps
 
 -- the job's cell was one of those, with its tag and with room for it; where it has none, none had
-abbrev pub TakesRoom : List Stand → Job → Placement → Type 0
-TakesRoom stands job (On name cell) = (s : Stand) × Contains stands s × (s.cell ≡ cell) × (can_take job s ≡ true)
-TakesRoom stands job (NoRoom name) = (s : Stand) → Contains stands s → can_take job s ≡ false
+abbrev pub UsesRoom : List Stand → Job → Placement → Type 0
+UsesRoom stands job (On name cell) = (s : Stand) × Contains stands s × (s.cell ≡ cell) × (can_take job s ≡ true)
+UsesRoom stands job (NoRoom name) = (s : Stand) → Contains stands s → can_take job s ≡ false
 
 -- no zone with a cell that fits had fewer containers of the job's process than the zone of its cell
 abbrev pub Spreads : List Stand → Job → Placement → Type 0

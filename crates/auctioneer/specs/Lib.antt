@@ -5,3 +5,6 @@ pub mod Auction
 pub mod Candidates
 pub mod Asked
 pub mod Laws
+pub mod Spots
+pub mod Tallies
+pub mod Fields

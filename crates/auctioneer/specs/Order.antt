@@ -15,9 +15,9 @@ class_of (Lrp key) = if key.index == 0 then 0 else 2
 class_of (Task name) = 1
 
 -- the process or the task
-abbrev pub name_of : JobName → List ℕ
-name_of (Lrp key) = key.process
-name_of (Task name) = name
+abbrev pub job_name : JobName → List ℕ
+job_name (Lrp key) = key.process
+job_name (Task name) = name
 
 -- the number of an instance, and 0 of a task
 abbrev pub index_of : JobName → ℕ
@@ -29,7 +29,7 @@ abbrev pub turn_of : Job → Turn
 turn_of job = record {
   class = class_of job.job;
   memory = record { 0 = job.memory };
-  name = name_of job.job;
+  name = job_name job.job;
   index = index_of job.job;
 }
 

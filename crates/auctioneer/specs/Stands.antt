@@ -22,14 +22,14 @@ abbrev pub same_name : List ℕ → List ℕ → Bool
 same_name = pointwise nat_eq
 
 -- a container that ended by itself
-abbrev pub is_completed : ContainerState → Bool
-is_completed Reserved = false
-is_completed Running = false
-is_completed (Completed failed) = true
+abbrev pub has_ended : ContainerState → Bool
+has_ended Reserved = false
+has_ended Running = false
+has_ended (Completed failed) = true
 
 -- the jobs of the containers that have not ended
 abbrev pub jobs_of : List Container → List JobName
-jobs_of containers = map (λ c. c.job) (filter (λ c. not (is_completed c.state)) containers)
+jobs_of containers = map (λ c. c.job) (filter (λ c. not (has_ended c.state)) containers)
 
 -- what an auction takes from a cell's answer
 abbrev pub stand_of : Answer → Stand

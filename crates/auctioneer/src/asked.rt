@@ -1,6 +1,6 @@
 //! Whether an auction may run on jobs and cells.
 ghost use Rattle.std.specs.Prelude.{IsTrue, ◌↔◌};
-ghost use Rattle.auctioneer.specs.Asked.{IsSoundAnswer, AreJobs, AreCells};
+ghost use Rattle.auctioneer.specs.Asked.{IsSoundAnswer, AreJobs, AreAnswers};
 
 use cell_records::{Amounts, Answer, Job};
 
@@ -36,7 +36,7 @@ fn is_sound(answer: &Answer) -> bool
 /// Whether there are at most 1,000 answers, no two of one cell, each with sums that are within its
 /// totals. It compares each two of them.
 pub fn are_cells(cells: &[Answer]) -> bool
-    ensures { IsTrue result → AreCells cells.now }
+    ensures { IsTrue result → AreAnswers cells.now }
 {
     if cells.len() > 1000 {
         return false;

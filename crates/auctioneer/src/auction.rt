@@ -1,10 +1,11 @@
 ghost use Rattle.std.specs.Prelude.{◌≡◌, IfOk};
-ghost use Rattle.auctioneer.specs.Asked.{AreJobs, AreCells};
+ghost use Rattle.auctioneer.specs.Asked.{AreJobs, AreAnswers};
 ghost use Rattle.auctioneer.specs.Auction.{auction};
 ghost use Rattle.auctioneer.specs.Order.{in_order};
 
+use crate::field::Field;
 use crate::placement::Placement;
-use crate::scan::scan_auction;
+use crate::turns::in_order;
 use cell_records::{Answer, Job};
 use diego_names::{List, OutOfMemory};
 use std::alloc::Global;
@@ -17,8 +18,15 @@ pub fn run_auction(
     cells: &[Answer],
 ) -> Result<List<Placement>, OutOfMemory>
     requires jobs { AreJobs jobs.now }
-    requires cells { AreCells cells.now }
+    requires cells { AreAnswers cells.now }
     ensures { IfOk result (λ list. list ≡ auction cells.now (in_order jobs.now)) }
 {
-    scan_auction(alloc, jobs, cells)
+    let sorted = in_order(alloc, jobs)?;
+    let mut field = Field::new(alloc, cells)?;
+    let mut list = List::new(alloc);
+    for job in &sorted {
+        let made = field.place(job)?;
+        list.push(made)?;
+    }
+    Ok(list)
 }

@@ -2,7 +2,7 @@
 ghost use Rattle.std.specs.Prelude.{◌≡◌, map};
 ghost use Rattle.std.specs.List.{All};
 ghost use Rattle.auctioneer.specs.Auction.{auction};
-ghost use Rattle.auctioneer.specs.Laws.{job_in, AtEachTurn, TakesRoom, Spreads, NamesAnswer};
+ghost use Rattle.auctioneer.specs.Laws.{job_in, AtEachTurn, UsesRoom, Spreads, NamesAnswer};
 ghost use Rattle.auctioneer.specs.Stands.{stands_of};
 ghost use Rattle.cell_records.specs.declared.answer.Answer.{Answer as AnAnswer};
 ghost use Rattle.cell_records.specs.declared.job.Job.{Job as AJob};
@@ -18,7 +18,7 @@ pub fn each_job_has_one_placement()
 /// has no room exactly where no cell fits it when its turn comes.
 pub fn placements_take_room()
     ensures { (cells : List AnAnswer) (jobs : List AJob)
-        → AtEachTurn TakesRoom (stands_of cells) jobs (auction cells jobs) }
+        → AtEachTurn UsesRoom (stands_of cells) jobs (auction cells jobs) }
 {}
 
 /// No two placements of one process share a zone while a cell that fits stands in an emptier one.

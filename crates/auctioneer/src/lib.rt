@@ -3,13 +3,17 @@
 
 mod asked;
 mod auction;
+mod candidate;
 mod counting;
+mod field;
 mod laws;
 mod placement;
 mod placing;
 mod scan;
+mod spots;
 mod stand;
 mod standing;
+mod tally;
 mod turns;
 
 pub use asked::{are_cells, are_jobs};

@@ -1,8 +1,10 @@
 //! What placing a job changes.
-ghost use Rattle.std.specs.Prelude.{◌≡◌, IfOk, OnOk};
+ghost use Rattle.std.specs.Prelude.{◌≡◌, slice_set, slice_index_or, IfOk, OnOk};
 ghost use Rattle.auctioneer.specs.Asked.{AreStands};
 ghost use Rattle.auctioneer.specs.Auction.{placement_on, stands_with};
 ghost use Rattle.auctioneer.specs.Least.{best, IsBestAt};
+ghost use Rattle.auctioneer.specs.Stands.{with_job};
+ghost use Rattle.auctioneer.specs.declared.stand.Stand.{Stand as AStand};
 
 use crate::placement::Placement;
 use crate::stand::Stand;
@@ -22,6 +24,8 @@ pub(crate) fn place_at(
     ensures stands { OnOk result
         (stands.new.items ≡ stands_with job.now (best stands.old.items job.now) stands.old.items) }
     ensures sound { OnOk result (AreStands stands.new.items) }
+    ensures one { OnOk result ((s : AStand) → stands.new.items ≡ slice_set stands.old.items at
+        (with_job job.now (slice_index_or stands.old.items at s))) }
 {
     let stand = &mut stands[at];
     stand.take(job)?;

@@ -1,54 +1,31 @@
 //! The auction by a scan of all cells for each job, with counts from scratch. It is short and slow:
 //! what is faster is compared with it.
 ghost use Rattle.std.specs.Prelude.{◌≡◌, IfOk, OnOk, MatchOption, None};
-ghost use Rattle.auctioneer.specs.Asked.{AreJobs, AreCells, AreStands};
+ghost use Rattle.auctioneer.specs.Asked.{AreJobs, AreAnswers, AreStands};
 ghost use Rattle.auctioneer.specs.Auction.{auction, placement_on, stands_with};
-ghost use Rattle.auctioneer.specs.Candidates.{better_candidate};
 ghost use Rattle.auctioneer.specs.Least.{best, IsBestAt};
 ghost use Rattle.auctioneer.specs.Order.{in_order};
 ghost use Rattle.auctioneer.specs.Stands.{view_in};
 
+use crate::candidate::{Candidate, better_of, view_of};
 use crate::counting::{held_of, in_zone};
 use crate::placement::Placement;
 use crate::placing::place_at;
 use crate::stand::Stand;
 use crate::standing::stands_of;
 use crate::turns::in_order;
-use auction_scoring::{CellView, Score, better, fits, score};
+use auction_scoring::{CellView, fits, score};
 use cell_records::{Answer, Job, JobName};
 use diego_names::{List, OutOfMemory};
 use std::alloc::Global;
-
-// A cell that fits, by its place, with its score.
-#[derive(Clone, Copy)]
-struct Candidate {
-    at: usize,
-    score: Score,
-}
 
 // The cell as it is compared for the job.
 fn view_in(stands: &[Stand], job: &JobName, stand: &Stand) -> CellView
     requires { AreStands stands.now }
     ensures { result ≡ view_in stands.now job.now stand.now }
 {
-    CellView {
-        cell: stand.cell,
-        tag: stand.tag,
-        totals: stand.totals,
-        free: stand.free,
-        in_zone: in_zone(stands, job, &stand.zone),
-        on_cell: held_of(job, stand) as u64,
-    }
-}
-
-// The better of the best so far and another.
-fn better_of(best: Option<Candidate>, other: Candidate) -> Candidate
-    ensures { result ≡ better_candidate best other }
-{
-    match best {
-        Some(found) if better(&found.score, &other.score) => found,
-        _ => other,
-    }
+    let in_zone = in_zone(stands, job, &stand.zone);
+    view_of(stand, in_zone, held_of(job, stand) as u64)
 }
 
 // The place of the best cell.
@@ -92,7 +69,7 @@ pub fn scan_auction(
     cells: &[Answer],
 ) -> Result<List<Placement>, OutOfMemory>
     requires jobs { AreJobs jobs.now }
-    requires cells { AreCells cells.now }
+    requires cells { AreAnswers cells.now }
     ensures { IfOk result (λ list. list ≡ auction cells.now (in_order jobs.now)) }
 {
     let sorted = in_order(alloc, jobs)?;

@@ -1,7 +1,7 @@
 //! The cells as they stand before the first job.
 ghost use Rattle.std.specs.Prelude.{◌≡◌, IfOk};
-ghost use Rattle.auctioneer.specs.Asked.{IsSoundAnswer, IsSound, AreCells, AreStands};
-ghost use Rattle.auctioneer.specs.Stands.{stand_of, stands_of, jobs_of, is_completed};
+ghost use Rattle.auctioneer.specs.Asked.{IsSoundAnswer, IsSoundStand, AreAnswers, AreStands};
+ghost use Rattle.auctioneer.specs.Stands.{stand_of, stands_of, jobs_of, has_ended};
 
 use crate::stand::Stand;
 use cell_records::{Answer, Container, ContainerState, JobName};
@@ -25,7 +25,7 @@ fn jobs_of(alloc: Global, containers: &[Container]) -> Result<List<JobName>, Out
 fn stand_of(alloc: Global, answer: &Answer) -> Result<Stand, OutOfMemory>
     requires { IsSoundAnswer answer.now }
     ensures value { IfOk result (λ stand. stand ≡ stand_of answer.now) }
-    ensures sound { IfOk result IsSound }
+    ensures sound { IfOk result IsSoundStand }
 {
     // A number that was read is known to be in range.
     let _containers = answer.totals.containers;
@@ -41,7 +41,7 @@ fn stand_of(alloc: Global, answer: &Answer) -> Result<Stand, OutOfMemory>
 
 // The cells in the order of their names.
 pub(crate) fn stands_of(alloc: Global, answers: &[Answer]) -> Result<Vec<Stand>, OutOfMemory>
-    requires { AreCells answers.now }
+    requires { AreAnswers answers.now }
     ensures value { IfOk result (λ stands. stands.items ≡ stands_of answers.now) }
     ensures sound { IfOk result (λ stands. AreStands stands.items) }
 {

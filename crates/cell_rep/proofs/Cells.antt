@@ -1,8 +1,7 @@
 -- What a stop and the start of a job leave of a cell.
-use Rattle.std.proofs.Common.{◌≡◌, ℕ, Bool, true, false, cond, List, [], ◌∷◌, Option, Some, None, Result, Ok, Err, refl, sym, ap, subst, ◌∙◌, ◌⊎◌, inl, inr, ⊎_elim}
+use Rattle.std.proofs.Common.{◌≡◌, ℕ, true, false, cond, List, [], ◌∷◌, Option, Some, None, Result, Ok, Err, refl, sym, subst, ◌∙◌, ⊎_elim}
 use Rattle.std.specs.Prelude.{◌==◌, nat_lt}
 use Rattle.std.specs.Result.{result_unwrap_or}
-use Rattle.bbs_model.specs.declared.command.Op.TheVariants as op
 use Rattle.bbs_model.specs.declared.reply.Reply.TheVariants as reply
 use Rattle.cell_records.specs.declared.container.Container.{Container}
 use Rattle.cell_records.specs.declared.job.Job.{Job}
@@ -11,15 +10,15 @@ use Rattle.cell_records.specs.declared.job_name.JobName.TheVariants.{Lrp, Task}
 use Rattle.container_store.specs.Changes.{removing, reserving, reserved, without_container, if_held, next_container}
 use Rattle.container_store.specs.Store.{StoreView, free_of, find_container}
 use Rattle.container_store.specs.declared.refusal.StoreRefusal.{StoreRefusal}
-use Rattle.container_store.specs.declared.refusal.StoreRefusal.TheVariants.{NoMemoryLeft, NoDiskLeft, NoSlot, Unknown}
+use Rattle.container_store.specs.declared.refusal.StoreRefusal.TheVariants.{NoMemoryLeft, NoDiskLeft, NoSlot}
 use Rattle.crash_backoff.specs.declared.moment.Moment.{Moment}
 use Rattle.diego_names.specs.declared.instance.Instance.{Instance}
 use Rattle.cell_rep.specs.Acts.{claim_op, claim_todo, job_begun, job_claim, job_todo}
 use Rattle.cell_rep.specs.Claims.{Claimed, claimed_next, store_claimed}
 use Rattle.cell_rep.specs.Ends.{without, left}
-use Rattle.cell_rep.specs.Follows.{Stage, Follows, Performs, IsStarted, after_todo, starved}
-use Rattle.cell_rep.specs.Laws.{SameCell, SameJoined}
-use Rattle.cell_rep.specs.Reps.{asking, store_result, with_store}
+use Rattle.cell_rep.specs.Follows.{Stage, Follows, IsStarted, after_todo}
+use Rattle.cell_rep.specs.Laws.{SameJoined}
+use Rattle.cell_rep.specs.Reps.{asking, store_result}
 use Rattle.cell_rep.specs.Wires.{WireEnds}
 use Rattle.cell_rep.specs.declared.call_end.CallEnd.{CallEnd}
 use Rattle.cell_rep.specs.declared.call_end.CallEnd.TheVariants.{Got, Fault, CallLost, ReplyLost, Local, Idle}
@@ -27,7 +26,6 @@ use Rattle.cell_rep.specs.declared.call_end.Called.{Called}
 use Rattle.cell_rep.specs.declared.joined.Joined.{Joined}
 use Rattle.cell_rep.specs.declared.rep.CellRep.{CellRep}
 use Rattle.cell_rep.specs.declared.todo.Todo.{Todo}
-use Rattle.cell_rep.specs.declared.todo.Todo.TheVariants as todo
 use Rattle.bbs_model.specs.PortView.{PortView}
 
 same : (o : Option Joined) → SameJoined o o

@@ -1,2 +1,4 @@
 pub mod Chains
 pub mod Cells
+pub mod Starts
+pub mod Public

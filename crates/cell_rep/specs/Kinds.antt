@@ -22,6 +22,6 @@ IsOfEach act.Settle = Unit {0}
 IsOfEach a = ⊥
 
 -- a claim that was refused is told so, and want of memory as such
-abbrev pub IsRefused : ReserveFault → Result Todo NoMemory → Type 0
-IsRefused (Refused why) told = told ≡ Ok (Local (Store why))
-IsRefused OutOfMemory told = told ≡ Err (record {})
+abbrev pub IsToldRefused : ReserveFault → Result Todo NoMemory → Type 0
+IsToldRefused (Refused why) told = told ≡ Ok (Local (Store why))
+IsToldRefused OutOfMemory told = told ≡ Err (record {})

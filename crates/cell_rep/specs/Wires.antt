@@ -10,10 +10,10 @@ abbrev pub WireEnds : Type 0
 WireEnds = WireCall → ℕ → Delivery
 
 -- the call or its reply is lost
-abbrev pub is_lost : Delivery → Bool
-is_lost Through = false
-is_lost CallLost = true
-is_lost ReplyLost = true
+abbrev pub is_delivery_lost : Delivery → Bool
+is_delivery_lost Through = false
+is_delivery_lost CallLost = true
+is_delivery_lost ReplyLost = true
 
 -- a wire that tells its ends gives the first of them, and each later one moves up
 abbrev pub Delivers : Option WireEnds → Option WireEnds → WireCall → Delivery → Type 0

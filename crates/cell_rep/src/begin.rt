@@ -1,10 +1,10 @@
 //! What an act does at once, and what it then calls.
 ghost use Rattle.std.specs.Prelude.{◌≡◌, [], ◌∷◌, IfOk, OnOk, OnErr};
-ghost use Rattle.cell_rep.specs.Acts.{begun, begun_in, plan, plan_in, call, claim_op, found_todo};
+ghost use Rattle.cell_rep.specs.Acts.{begun, begun_in, plan, plan_in, call, claim_op, found_todo, not_joined};
 ghost use Rattle.cell_rep.specs.Claims.{first_of, flag_of};
 ghost use Rattle.bbs_model.specs.declared.command.Op.TheVariants as op;
 ghost use Rattle.cell_records.specs.declared.job_name.JobName.TheVariants.{Lrp, Task};
-ghost use Rattle.cell_rep.specs.Kinds.{IsOfOne, IsRefused};
+ghost use Rattle.cell_rep.specs.Kinds.{IsOfOne, IsToldRefused};
 ghost use Rattle.cell_rep.specs.declared.cell_act.CellAct.TheVariants as act;
 
 use crate::call_end::RepRefusal;
@@ -45,6 +45,14 @@ pub fn claim_op(cell: Name, job: &JobName, instance: Instance) -> Op
 }
 
 impl CellRep {
+    // The containers and the epoch are forgotten.
+    fn forget(&mut self)
+        ensures joined { self.new ≡ not_joined self.old }
+        ensures cell { self.new.cell ≡ self.old.cell }
+    {
+        self.joined = None;
+    }
+
     /// Does at once what an act does, and tells the one thing that it then does. Where memory runs
     /// out nothing was done.
     pub(crate) fn begin(&mut self, act: &CellAct, now: Moment) -> Result<Todo, OutOfMemory>
@@ -62,7 +70,7 @@ impl CellRep {
                 totals,
                 ttl,
             } => {
-                self.joined = None;
+                self.forget();
                 Ok(call(
                     now,
                     Op::Join {
@@ -75,7 +83,7 @@ impl CellRep {
                 ))
             }
             CellAct::Die => {
-                self.joined = None;
+                self.forget();
                 Ok(Todo::Idle)
             }
             _ => match &mut self.joined {
@@ -137,7 +145,7 @@ fn begin_in(
 
 // What a claim that has no container comes to.
 pub fn refused(fault: ReserveFault) -> Result<Todo, OutOfMemory>
-    ensures { IsRefused fault result }
+    ensures { IsToldRefused fault result }
 {
     match fault {
         ReserveFault::OutOfMemory => Err(OutOfMemory),

@@ -23,7 +23,9 @@ pub use acting::add_answer;
 pub use call_end::{CallEnd, Called, RepRefusal};
 pub use calling::called;
 pub use cell_act::CellAct;
-pub use laws::stops_and_starts_keep_the_cell;
+pub use laws::{
+    a_start_stands_unless_its_refusal_is_heard, reps_answer, stops_and_starts_keep_the_cell,
+};
 pub use memory_wire::MemoryWire;
 pub use rep::CellRep;
 pub use wire::{CallKind, Delivery, Wire, WireCall};

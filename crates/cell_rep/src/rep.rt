@@ -24,6 +24,13 @@ impl CellRep {
         CellRep { cell, joined: None }
     }
 
+    /// The name of its cell, which stays through every call.
+    pub fn cell(&self) -> Name
+        ensures { result ≡ self.now.cell }
+    {
+        self.cell
+    }
+
     /// What the rep says of its cell when it is asked: nothing before it has joined.
     pub fn answer(&self, alloc: Global) -> Result<Option<Answer>, OutOfMemory>
         ensures { IfOk result (λ answer. answer ≡ answer_of self.now) }

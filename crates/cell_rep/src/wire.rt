@@ -1,7 +1,7 @@
 //! Ways between actors, on which a call or its reply may be lost.
 ghost use Rattle.std.specs.Prelude.{ℕ, Option};
 ghost use Rattle.byte_ports.specs.Cause.{HasCause};
-ghost use Rattle.cell_rep.specs.Wires.{is_lost, Delivers};
+ghost use Rattle.cell_rep.specs.Wires.{is_delivery_lost, Delivers};
 ghost use Rattle.cell_rep.specs.declared.wire.WireCall.{WireCall as ACall};
 ghost use Rattle.cell_rep.specs.declared.wire.Delivery.{Delivery as AnEnd};
 
@@ -48,6 +48,6 @@ pub trait Wire {
 
     /// One call goes over the wire.
     fn deliver(&mut self, call: WireCall) -> Delivery
-        ensures cause { HasCause (is_lost result) (losses self.old) (losses self.new) }
+        ensures cause { HasCause (is_delivery_lost result) (losses self.old) (losses self.new) }
         ensures ends { Delivers (ends self.old) (ends self.new) call result };
 }

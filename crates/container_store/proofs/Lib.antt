@@ -3,3 +3,5 @@ pub mod Alone
 pub mod Keeps
 pub mod Stands
 pub mod Turns
+pub mod Fresh
+pub mod Public

@@ -7,8 +7,7 @@ use Rattle.std.specs.List.{All}
 use Rattle.std.specs.Ordering.{is_lt}
 use Rattle.std.proofs.lemmas.List.Elements.{All-head, All-tail}
 use Rattle.row_tables.specs.Table.{keyed, IsRising}
-use Rattle.row_tables.proofs.Keyed.{less_from_test}
-use Rattle.row_tables.proofs.Rising.{first_of_both, second_of_both, below_rest, IsRising-tail}
+use Rattle.row_tables.proofs.Public.{less_from_test, first_of_both, second_of_both, below_rest, IsRising-tail}
 
 both : (a b : Bool) → T a → T b → T (a && b)
 both true b p q = q

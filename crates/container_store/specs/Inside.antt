@@ -4,11 +4,11 @@ use Rattle.container_store.specs.Store.{StoreView, IsStore, used_memory, used_di
 use Rattle.container_store.specs.declared.store.Store.TheInside.{Inside}
 
 -- the store that the fields stand for
-abbrev pub view_of : Inside → StoreView
-view_of s = record { totals = s.totals; epoch = s.epoch; containers = s.containers.items; last = s.last }
+abbrev pub store_view_of : Inside → StoreView
+store_view_of s = record { totals = s.totals; epoch = s.epoch; containers = s.containers.items; last = s.last }
 
 -- they stand for a store, and the sums are those of its containers
 pub record IsInside (s : Inside) : Type 0 where
-  pub store : IsStore (view_of s)
-  pub memory_is : s.used_memory ≡ used_memory (view_of s)
-  pub disk_is : s.used_disk ≡ used_disk (view_of s)
+  pub store : IsStore (store_view_of s)
+  pub memory_is : s.used_memory ≡ used_memory (store_view_of s)
+  pub disk_is : s.used_disk ≡ used_disk (store_view_of s)

@@ -3,3 +3,4 @@ pub mod Changes
 pub mod Jobs
 pub mod Places
 pub mod Inside
+pub mod Laws

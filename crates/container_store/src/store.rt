@@ -27,9 +27,9 @@ impl Model for Store {
 
     ghost Value = { StoreView };
 
-    ghost use Rattle.container_store.specs.Inside.{view_of, IsInside};
+    ghost use Rattle.container_store.specs.Inside.{store_view_of, IsInside};
 
-    ghost view = { view_of };
+    ghost view = { store_view_of };
 
     ghost invariant = { IsInside };
 }

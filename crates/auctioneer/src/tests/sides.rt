@@ -46,11 +46,19 @@ fn jobs(alloc: Global, seed: &mut u64) -> Result<Vec<Job>, Fail> {
     Ok(jobs)
 }
 
+fn state(seed: &mut u64) -> ContainerState {
+    match next(seed) % 4 {
+        0 => ContainerState::Completed { failed: false },
+        1 => ContainerState::Reserved,
+        _ => ContainerState::Running,
+    }
+}
+
 // A few cells, some of them full or of another size.
 fn cells(alloc: Global, seed: &mut u64) -> Result<Vec<Answer>, Fail> {
     let mut cells = Vec::new(alloc);
-    for at in 0..6u32 {
-        let letter = LETTERS[(15 - at % 6) as usize];
+    for at in 0..9u32 {
+        let letter = LETTERS[(15 - at % 9) as usize];
         let totals = Amounts {
             memory: 4 + next(seed) % 6,
             disk: 8,
@@ -64,8 +72,7 @@ fn cells(alloc: Global, seed: &mut u64) -> Result<Vec<Answer>, Fail> {
         }
         let process = pick(seed, &[b"p", b"q", b"r", b"s"])?;
         let job = JobName::Lrp(Key { process, index: 99 });
-        made.containers
-            .push(container(job, ContainerState::Running))?;
+        made.containers.push(container(job, state(seed)))?;
         cells.push(made)?;
     }
     Ok(cells)
@@ -76,7 +83,7 @@ fn the_auction_agrees_with_the_scan(rt: HostRuntime) -> Result<(), Fail> {
     let alloc = rt.alloc();
     let mut seed = 7;
     let mut placed = 0u64;
-    for _ in 0..200u32 {
+    for _ in 0..300u32 {
         let jobs = jobs(alloc, &mut seed)?;
         let cells = cells(alloc, &mut seed)?;
         for placement in auction_of(&rt, alloc, &jobs, &cells)?.items() {
@@ -85,6 +92,6 @@ fn the_auction_agrees_with_the_scan(rt: HostRuntime) -> Result<(), Fail> {
             }
         }
     }
-    assert!(rt; placed > 1000 && placed < 3000);
+    assert!(rt; placed > 1500 && placed < 4800);
     Ok(())
 }

@@ -5,7 +5,7 @@ use Rattle.auctioneer.specs.Stands.{can_take, with_job}
 use Rattle.auctioneer.specs.declared.stand.Stand.{Stand}
 use Rattle.std.proofs.lemmas.List.{get_or_read}
 use Rattle.std.proofs.lemmas.List.Elements.{All-get_or}
-use Rattle.auctioneer.specs.Asked.{IsSound}
+use Rattle.auctioneer.specs.Asked.{IsSoundStand}
 use Rattle.auctioneer.proofs.Placings.{placed-set, AreStands-set, IsSound-with_job, HasRoom-can_take}
 use Rattle.auctioneer.proofs.placing.place_at.Goals as goal
 
@@ -27,7 +27,7 @@ returns-clause-sound c =
     let s = c.index_mut-stand.result.now in
     let took : c.take.new.self ≡ with_job job s = c.in_ok-take.ensures.ok in
     let is : s ≡ get_or items c.args.at s = c.index_mut-stand.ensures.value in
-    let sound : IsSound s = subst IsSound (sym is) (All-get_or IsSound items c.args.at s c.requires.best.inside c.requires.sound.each) in
+    let sound : IsSoundStand s = subst IsSoundStand (sym is) (All-get_or IsSoundStand items c.args.at s c.requires.best.inside c.requires.sound.each) in
     let room = HasRoom-can_take job s (subst (λ (x : Stand). can_take job x ≡ true) (sym is) (c.requires.best.fits s)) in
     subst (λ (x : Stand). AreStands (set items c.args.at x)) (sym took)
     (AreStands-set items c.args.at (with_job job s)

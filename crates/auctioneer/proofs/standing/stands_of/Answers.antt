@@ -4,7 +4,7 @@ use Rattle.std.specs.List.Sorted.{IsPermutation}
 use Rattle.std.proofs.lemmas.List.{map-append, take_more}
 use Rattle.std.proofs.lemmas.List.Elements.{All-push, All-get_or}
 use Rattle.std.proofs.lemmas.List.Sorted.{answers_always}
-use Rattle.auctioneer.specs.Asked.{IsSound, IsSoundAnswer}
+use Rattle.auctioneer.specs.Asked.{IsSoundStand, IsSoundAnswer}
 use Rattle.auctioneer.specs.Stands.{stand_of}
 use Rattle.auctioneer.specs.declared.stand.Stand.{Stand}
 use Rattle.auctioneer.proofs.Standings.{stands_of-sorted, AreStands-sorted}
@@ -22,7 +22,7 @@ loop-answer-preserved c = record {
       ∙ ap (λ (x : Stand). map stand_of (take i answers) ++ x ∷ []) (one ∙ ap stand_of c.answer-item.is)
       ∙ sym (map-append stand_of (take i answers) (get_or answers i a ∷ []))
       ∙ ap (map stand_of) (sym (take_more answers i a c.loop-answer-test.true));
-  sound = subst (All IsSound) (sym c.in_ok-push.ensures.items) (All-push IsSound c.loop-answer.stands.items c.in_ok-stand_of.field-0 c.loop-answer.invariant.sound c.in_ok-stand_of.ensures.sound);
+  sound = subst (All IsSoundStand) (sym c.in_ok-push.ensures.items) (All-push IsSoundStand c.loop-answer.stands.items c.in_ok-stand_of.field-0 c.loop-answer.invariant.sound c.in_ok-stand_of.ensures.sound);
 }
 
 pub stand_of-requires : goal.stand_of-requires
@@ -44,4 +44,4 @@ returns-clause-sound c =
     AreStands-sorted answers c.sort_unstable_by_key.new.self.items c.requires
     (c.sort_unstable_by_key.ensures.sorted (λ (s : Stand). s.cell) (answers_always _ _ _ (λ f a r g h. search rules)))
     (subst (λ xs. IsPermutation xs c.sort_unstable_by_key.new.self.items) made c.sort_unstable_by_key.ensures.permutation)
-    (subst (All IsSound) made c.loop-answer.invariant.sound)
+    (subst (All IsSoundStand) made c.loop-answer.invariant.sound)

@@ -1,7 +1,7 @@
 use Rattle.std.proofs.Common.{subst, rules}
 use Rattle.std.specs.List.Sorted.{IsPermutation, IsSortedByKey}
 use Rattle.std.proofs.lemmas.List.Sorted.{answers_always}
-use Rattle.row_tables.proofs.Tables.{table-from_sorted}
+use Rattle.row_tables.proofs.Public.{table-from_sorted}
 use Rattle.auctioneer.specs.Order.{turn_of, turn_order}
 use Rattle.auctioneer.proofs.TurnOrder.{IsKeyOrder-turn_order, turns_differ}
 use Rattle.auctioneer.proofs.turns.in_order.Goals as goal

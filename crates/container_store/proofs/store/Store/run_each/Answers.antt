@@ -1,7 +1,7 @@
 use Rattle.std.proofs.Common.{◌≡◌, ◌∙◌, map, length, refl, sym, ap}
 use Rattle.std.proofs.lemmas.List.{length-map}
 use Rattle.container_store.specs.Changes.{run_if_named}
-use Rattle.container_store.specs.Inside.{view_of}
+use Rattle.container_store.specs.Inside.{store_view_of}
 use Rattle.container_store.specs.declared.store.Store.TheInside.{Inside}
 use Rattle.std.specs.Vec.{with_items}
 use Rattle.container_store.proofs.Turns.{IsInside-turn, run_if_named-IsTurn, refilled}
@@ -15,4 +15,4 @@ invariant_of-self c =
     c.run_named.ensures ∙ ap (map (run_if_named c.args.job.now)) c.deref_mut.ensures.value in
     let items : t.containers.items ≡ map (run_if_named c.args.job.now) s.containers.items =
     refilled s.containers.len c.run_named.new.containers _ (s.containers.ok.0 ∙ sym (ap length named ∙ length-map s.containers.items (run_if_named c.args.job.now))) ∙ named in
-    IsInside-turn (run_if_named c.args.job.now) s t (run_if_named-IsTurn c.args.job.now) c.self.invariant (ap (λ cs. record (view_of s) { containers = cs }) items) refl refl
+    IsInside-turn (run_if_named c.args.job.now) s t (run_if_named-IsTurn c.args.job.now) c.self.invariant (ap (λ cs. record (store_view_of s) { containers = cs }) items) refl refl

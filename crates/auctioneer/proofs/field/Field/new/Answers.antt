@@ -1,0 +1,18 @@
+use Rattle.std.proofs.Common.{List, subst}
+use Rattle.std.specs.BTreeSet.{IsFromIterResult}
+use Rattle.auctioneer.specs.Spots.{spot_order, AreSpots}
+use Rattle.auctioneer.specs.Tallies.{CountsZones}
+use Rattle.auctioneer.specs.declared.spots.Spot.{Spot}
+use Rattle.auctioneer.specs.declared.stand.Stand.{Stand}
+use Rattle.auctioneer.proofs.SpotOrders.{IsOrderOf-made}
+use Rattle.auctioneer.proofs.field.Field.new.Goals as goal
+
+pub returns-clause-sound : goal.returns-clause-sound
+returns-clause-sound c =
+    let spots = subst (λ (ss : List Stand). AreSpots c.in_ok-groups.groups.items ss c.in_ok-groups.spots.items) c.as_slice.ensures.value c.in_ok-groups.ensures in
+    record {
+      sound = c.in_ok-stands.ensures.sound;
+      spots = spots;
+      order = IsOrderOf-made c.in_ok-order.order c.in_ok-groups.spots.items spots.cell (subst (λ (ps : List Spot). IsFromIterResult spot_order ps c.in_ok-order.order) c.as_slice-2.ensures.value c.in_ok-order.ensures);
+      tally = subst (CountsZones c.in_ok-tally.tally) c.as_slice-3.ensures.value c.in_ok-tally.ensures;
+    }

@@ -1,0 +1,36 @@
+-- What is kept of the cells of an auction.
+use Rattle.std.specs.Prelude.{◌≡◌, ℕ, ◌<◌, true, false, List, length, Option, Some, None, IfSome, slice_index_or}
+use Rattle.cell_records.specs.declared.job.Job.{Job}
+use Rattle.auction_scoring.specs.Order.{is_better}
+use Rattle.auctioneer.specs.Asked.{AreStands}
+use Rattle.auctioneer.specs.Spots.{AreSpots, IsOrderOf}
+use Rattle.auctioneer.specs.Stands.{can_take, score_in}
+use Rattle.auctioneer.specs.Tallies.{CountsZones}
+use Rattle.auctioneer.specs.declared.candidate.Candidate.{Candidate}
+use Rattle.auctioneer.specs.declared.field.Field.{Field}
+use Rattle.auctioneer.specs.declared.spots.Spot.{Spot}
+use Rattle.auctioneer.specs.declared.stand.Stand.{Stand}
+
+-- spots, order and tally are those of the cells
+pub record IsFieldOf (f : Field) : Type 0 where
+  pub sound : AreStands f.stands.items
+  pub spots : AreSpots f.groups.items f.stands.items f.spots.items
+  pub order : IsOrderOf f.order f.spots.items
+  pub tally : CountsZones f.tally f.stands.items
+
+-- the candidate is one of the cells, with its score, and fits
+pub record IsFitting (stands : List Stand) (job : Job) (c : Candidate) : Type 0 where
+  pub inside : c.at < length stands
+  pub score : (s : Stand) → c.score ≡ score_in stands job.job (slice_index_or stands c.at s)
+  pub fits : (s : Stand) → can_take job (slice_index_or stands c.at s) ≡ true
+
+-- the best so far is no worse than the cell, or the cell doesn't fit
+abbrev pub IsNoWorse : List Stand → Job → Option Candidate → Stand → Type 0
+IsNoWorse stands job None s = can_take job s ≡ false
+IsNoWorse stands job (Some c) s = can_take job s ≡ true → is_better (score_in stands job.job s) c.score ≡ false
+
+-- the best so far is a cell that fits, and no worse than those that were looked at, as their spots say
+pub record IsBestOf (f : Field) (job : Job) (seen : Spot → Type 0) (found : Option Candidate) : Type 0 where
+  pub fitting : IfSome found (IsFitting f.stands.items job)
+  pub no_worse : (k : ℕ) (s : Stand) (p : Spot) → k < length f.stands.items →
+      seen (slice_index_or f.spots.items k p) → IsNoWorse f.stands.items job found (slice_index_or f.stands.items k s)
