@@ -1,7 +1,10 @@
 -- What is asked of a subject is about it.
-use Rattle.std.proofs.Common.{◌≡◌, Bool, true, false, cond, not, nat_le, Option, Some, None, refl, subst}
+use Rattle.std.proofs.Common.{◌≡◌, ℕ, Bool, true, false, cond, not, nat_le, List, Option, Some, None, refl, subst}
+use Rattle.std.specs.Option.{option_and_then}
 use Rattle.cell_records.specs.declared.cell_row.CellRow.{CellRow}
 use Rattle.crash_backoff.specs.declared.moment.Moment.{Moment}
+use Rattle.diego_names.proofs.Public.{IsKeyOrder-name_order}
+use Rattle.diego_names.specs.Order.{name_order}
 use Rattle.diego_names.specs.declared.key.Key.{Key}
 use Rattle.lrp_records.specs.States.{holder_of}
 use Rattle.lrp_records.specs.declared.actual.Actual.{Actual}
@@ -9,15 +12,16 @@ use Rattle.lrp_records.specs.declared.presence.Presence.{Presence}
 use Rattle.lrp_records.specs.declared.presence.Presence.TheVariants.{Ordinary, Evacuating}
 use Rattle.lrp_records.specs.declared.state.LrpState.{LrpState}
 use Rattle.lrp_records.specs.declared.state.LrpState.TheVariants as lrp
+use Rattle.row_tables.proofs.Public.{key-find_row}
 use Rattle.task_records.specs.declared.state.TaskState.{TaskState}
 use Rattle.task_records.specs.declared.state.TaskState.TheVariants as task
 use Rattle.task_records.specs.declared.task.Task.{Task}
-use Rattle.bbs_model.specs.Tables.{find_actual}
+use Rattle.bbs_model.specs.Tables.{cell_name_of, task_name_of, find_actual, find_cell, find_task}
 use Rattle.bbs_model.specs.Work as told
 use Rattle.bbs_model.specs.declared.command.Op.{Op}
 use Rattle.bbs_model.specs.declared.command.Op.TheVariants as op
 use Rattle.bbs_model.specs.declared.rows.Rows.{Rows}
-use Rattle.convergence.specs.Subjects.{Subject, OfCell, OfPlace, OfTask, subject_of}
+use Rattle.convergence.specs.Subjects.{Subject, OfCell, OfPlace, OfTask, OfProcess, subject_of, work_on}
 
 -- the command, if there is one, is about the subject
 abbrev pub IsAbout : Subject → Option Op → Type 0
@@ -27,7 +31,7 @@ IsAbout s (Some o) = subject_of o ≡ s
 pub about_is : (s : Subject) (asked : Option Op) (o : Op) → IsAbout s asked → asked ≡ Some o → subject_of o ≡ s
 about_is s asked o h e = subst (IsAbout s) e h
 
-about_if : (s : Subject) (b : Bool) (x y : Option Op) → IsAbout s x → IsAbout s y → IsAbout s (cond b x y)
+pub about_if : (s : Subject) (b : Bool) (x y : Option Op) → IsAbout s x → IsAbout s y → IsAbout s (cond b x y)
 about_if s true x y f g = f
 about_if s false x y f g = g
 
@@ -83,3 +87,18 @@ about_state rows now t (task.Resolving failed) =
 
 pub about_task : (rows : Rows) (now : Moment) (t : Task) → IsAbout (OfTask t.name) (told.task_work rows now t)
 about_task rows now t = about_state rows now t t.state
+
+-- what is asked of a subject is about it
+pub about_work : (rows : Rows) (now : Moment) (s : Subject) → IsAbout s (work_on rows now s)
+about_work rows now (OfCell name) =
+    elim (find_cell rows name) as (λ (s : Option CellRow). find_cell rows name ≡ s → IsAbout (OfCell name) (option_and_then (λ (c : CellRow). told.cell_work c now) s)) [
+      | None ↦ λ e. tt
+      | (Some c) ↦ λ e. subst (λ (n : List ℕ). IsAbout (OfCell n) (told.cell_work c now)) (key-find_row name_order cell_name_of IsKeyOrder-name_order name c rows.cells e) (about_cell c now)
+    ] refl
+about_work rows now (OfPlace p) = about_place rows now p
+about_work rows now (OfTask name) =
+    elim (find_task rows name) as (λ (s : Option Task). find_task rows name ≡ s → IsAbout (OfTask name) (option_and_then (told.task_work rows now) s)) [
+      | None ↦ λ e. tt
+      | (Some t) ↦ λ e. subst (λ (n : List ℕ). IsAbout (OfTask n) (told.task_work rows now t)) (key-find_row name_order task_name_of IsKeyOrder-name_order name t rows.tasks e) (about_task rows now t)
+    ] refl
+about_work rows now (OfProcess name) = tt

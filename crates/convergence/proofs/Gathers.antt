@@ -8,8 +8,7 @@ use Rattle.std.specs.Ordering.{is_lt}
 use Rattle.std.specs.declared.cmp.Ordering.{Ordering}
 use Rattle.std.specs.declared.cmp.Ordering.TheVariants.{Less}
 use Rattle.row_tables.specs.Table.{keyed, IsRising}
-use Rattle.row_tables.proofs.Parts.{both_parts}
-use Rattle.row_tables.proofs.Rising.{first_of_both, second_of_both, below_rest, IsRising-tail}
+use Rattle.row_tables.proofs.Public.{both_parts, first_of_both, second_of_both, below_rest, IsRising-tail}
 
 pub Contains-cons : {X : Type 0} (x y : X) (xs : List X) → Contains xs x → Contains (y ∷ xs) x
 Contains-cons x y xs (k, lt, at) = (suc k, omega arith, at)

@@ -6,3 +6,9 @@ pub mod SubjectOrder
 pub mod Gathers
 pub mod About
 pub mod WorkLaws
+pub mod Finds
+pub mod Holdings
+pub mod Indexing
+pub mod StrayOrder
+pub mod PlanProofs
+pub mod Public

@@ -4,10 +4,7 @@ use Rattle.std.specs.declared.cmp.Ordering.{Ordering}
 use Rattle.std.specs.List.{Contains}
 use Rattle.std.specs.Ordering.{eq_by_cmp}
 use Rattle.row_tables.specs.Table.{IsKeyOrder, find_row, IsRising, table}
-use Rattle.row_tables.proofs.Keyed.{ties_itself, same_from_tie}
-use Rattle.row_tables.proofs.Lookups.{key-find_row, same_rows}
-use Rattle.row_tables.proofs.Elements.{Contains-find_row, find_row-Contains}
-use Rattle.row_tables.proofs.Tables.{IsRising-table, find_row-table}
+use Rattle.row_tables.proofs.Public.{ties_itself, same_from_tie, key-find_row, same_rows, Contains-find_row, find_row-Contains, IsRising-table, find_row-table}
 
 module _ {K X : Type 0} (R : K → K → Ordering) (key : X → K) (o : IsKeyOrder R) where
   found_in_both : (xs ys : List X) → IsRising R key ys → ((x : X) → Contains xs x → Contains ys x) → (q : K) (x : X) → find_row R key q xs ≡ Some x → find_row R key q ys ≡ Some x

@@ -10,9 +10,7 @@ use Rattle.std.specs.Ordering.{is_lt, eq_by_cmp}
 use Rattle.std.proofs.lemmas.List.Kept.{IsStrictlySortedBy-dedup, Contains-dedup, Contains-from_dedup}
 use Rattle.std.proofs.lemmas.List.Sorted.{IsPermutation-sym, Contains-permutation}
 use Rattle.row_tables.specs.Table.{IsKeyOrder, keyed, IsRising, table}
-use Rattle.row_tables.proofs.Keyed.{same_from_tie}
-use Rattle.row_tables.proofs.Parts.{both_parts}
-use Rattle.row_tables.proofs.Tables.{IsRising-table}
+use Rattle.row_tables.proofs.Public.{same_from_tie, both_parts, IsRising-table}
 use Rattle.convergence.proofs.Members.{same_members, Contains-table, Contains-from_table}
 
 module _ {K : Type 0} (R : K → K → Ordering) where

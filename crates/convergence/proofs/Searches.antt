@@ -9,9 +9,7 @@ use Rattle.std.specs.Ordering.{is_lt, ordering_reverse}
 use Rattle.std.proofs.lemmas.Bool.{cases_lt}
 use Rattle.std.proofs.lemmas.List.Elements.{All-get_or}
 use Rattle.row_tables.specs.Table.{IsKeyOrder, find_row, IsRising}
-use Rattle.row_tables.proofs.Rising.{below_rest, IsRising-tail}
-use Rattle.row_tables.proofs.Lookups.{key-find_row}
-use Rattle.row_tables.proofs.Elements.{All-above, Contains-find_row, find_row-Contains}
+use Rattle.row_tables.proofs.Public.{below_rest, IsRising-tail, key-find_row, All-above, Contains-find_row, find_row-Contains}
 
 module _ {K X : Type 0} (R : K → K → Ordering) (key : X → K) (o : IsKeyOrder R) where
   sorted_at : (xs : List X) → IsRising R key xs → (k : ℕ) (d : X) → k + 1 < length xs → is_lt (R (key (get_or xs (k + 1) d)) (key (get_or xs k d))) ≡ false

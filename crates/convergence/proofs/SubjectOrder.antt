@@ -3,8 +3,8 @@ use Rattle.std.proofs.Common.{◌≡◌, ap}
 use Rattle.std.specs.FinMap.{IsAntisymmetric}
 use Rattle.std.specs.Ordering.{ordering_reverse}
 use Rattle.std.specs.declared.cmp.Ordering.TheVariants.{Less, Equal}
-use Rattle.diego_names.proofs.Ties.{IsKeyOrder-name_order}
-use Rattle.lrp_records.proofs.Ties.{IsKeyOrder-place_order}
+use Rattle.diego_names.proofs.Public.{IsKeyOrder-name_order}
+use Rattle.lrp_records.proofs.Public.{IsKeyOrder-place_order}
 use Rattle.row_tables.specs.Table.{IsKeyOrder}
 use Rattle.convergence.specs.Subjects.{Subject, OfCell, OfPlace, OfTask, OfProcess, subject_order}
 

@@ -7,19 +7,17 @@ use Rattle.std.specs.Option.{option_and_then}
 use Rattle.std.specs.declared.cmp.Ordering.TheVariants.{Less}
 use Rattle.cell_records.specs.declared.cell_row.CellRow.{CellRow}
 use Rattle.crash_backoff.specs.declared.moment.Moment.{Moment}
-use Rattle.diego_names.proofs.Ties.{IsKeyOrder-name_order}
+use Rattle.diego_names.proofs.Public.{IsKeyOrder-name_order}
 use Rattle.diego_names.specs.Order.{name_order}
 use Rattle.diego_names.specs.declared.key.Key.{Key}
-use Rattle.lrp_records.proofs.Ties.{IsKeyOrder-place_order}
+use Rattle.lrp_records.proofs.Public.{IsKeyOrder-place_order}
 use Rattle.lrp_records.specs.Place.{place_of, place_order}
 use Rattle.lrp_records.specs.declared.actual.Actual.{Actual}
 use Rattle.lrp_records.specs.declared.desired.Desired.{Desired}
 use Rattle.lrp_records.specs.declared.presence.Presence.{Presence}
 use Rattle.lrp_records.specs.declared.presence.Presence.TheVariants.{Ordinary, Evacuating}
 use Rattle.row_tables.specs.Table.{find_row, IsRising}
-use Rattle.row_tables.proofs.Elements.{Contains-find_row, find_row-Contains}
-use Rattle.row_tables.proofs.Lookups.{key-find_row}
-use Rattle.row_tables.proofs.Tables.{IsRising-table}
+use Rattle.row_tables.proofs.Public.{Contains-find_row, find_row-Contains, key-find_row, IsRising-table}
 use Rattle.task_records.specs.declared.task.Task.{Task}
 use Rattle.bbs_model.specs.Lrps.{is_wanted}
 use Rattle.bbs_model.specs.Tables.{process_of, task_name_of, cell_name_of, find_desired, find_actual, find_cell, find_task}

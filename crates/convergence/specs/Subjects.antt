@@ -28,11 +28,11 @@ pub data Subject : Type 0 where
   OfProcess : List ℕ → Subject
 
 -- cells come first, then places, then tasks
-abbrev pub rank_of : Subject → ℕ
-rank_of (OfCell cell) = 0
-rank_of (OfPlace place) = 1
-rank_of (OfTask name) = 2
-rank_of (OfProcess process) = 3
+abbrev pub subject_rank : Subject → ℕ
+subject_rank (OfCell cell) = 0
+subject_rank (OfPlace place) = 1
+subject_rank (OfTask name) = 2
+subject_rank (OfProcess process) = 3
 
 -- subjects of one kind stand in the order of their table
 abbrev pub subject_order : Subject → Subject → Ordering
@@ -40,7 +40,7 @@ subject_order (OfCell a) (OfCell b) = name_order a b
 subject_order (OfPlace a) (OfPlace b) = place_order a b
 subject_order (OfTask a) (OfTask b) = name_order a b
 subject_order (OfProcess a) (OfProcess b) = name_order a b
-subject_order a b = nat_cmp (rank_of a) (rank_of b)
+subject_order a b = nat_cmp (subject_rank a) (subject_rank b)
 
 -- the place of an instance's ORDINARY row
 abbrev pub ordinary_of : Key → Subject

@@ -1,6 +1,6 @@
 //! Rows in a sorted table, by binary search.
 ghost use Rattle.std.specs.Prelude.{◌≡◌};
-ghost use Rattle.bbs_model.specs.Tables.{find_desired, find_actual, find_cell};
+ghost use Rattle.bbs_model.specs.Tables.{find_desired, find_actual, find_cell, find_task};
 ghost use Rattle.bbs_model.specs.Valid.{IsValid};
 ghost use Rattle.row_tables.specs.Table.{find_row, IsRising};
 
@@ -8,6 +8,7 @@ use bbs_model::{Rowed, Rows};
 use cell_records::CellRow;
 use diego_names::{Key, Name};
 use lrp_records::{Actual, Desired, Presence};
+use task_records::Task;
 
 /// The row at a key of a table, in as many steps as its length has binary digits.
 pub fn find_sorted<X: Rowed>(rows: &[X], key: &X::Key) -> Option<X>
@@ -42,4 +43,12 @@ pub fn cell_of(rows: &Rows, cell: &Name) -> Option<CellRow>
     ensures { result ≡ find_cell rows.now cell.now }
 {
     find_sorted(rows.cells.items(), cell)
+}
+
+/// The row of a task.
+pub fn task_of(rows: &Rows, name: &Name) -> Option<Task>
+    requires { IsValid rows.now }
+    ensures { result ≡ find_task rows.now name.now }
+{
+    find_sorted(rows.tasks.items(), name)
 }

@@ -1,5 +1,8 @@
 ghost use Rattle.bbs_model.specs.Valid.{IsValid};
 
+mod answers;
+mod plans;
+mod strays;
 mod table;
 
 use super::*;

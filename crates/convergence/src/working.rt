@@ -32,7 +32,7 @@ pub fn work_of(alloc: Global, rows: &Rows, now: Moment) -> Result<List<Command>,
 }
 
 /// The command at a moment, if one is asked.
-fn at(now: Moment, op: Option<Op>) -> Option<Command>
+pub fn command_at(now: Moment, op: Option<Op>) -> Option<Command>
     ensures { result ≡ option_map (told.at now) op }
 {
     match op {
@@ -42,7 +42,7 @@ fn at(now: Moment, op: Option<Op>) -> Option<Command>
 }
 
 /// Adds an item at the end, if there is one.
-fn add<X: Copy>(items: &mut List<X>, item: Option<X>) -> Result<(), OutOfMemory>
+pub fn add<X: Copy>(items: &mut List<X>, item: Option<X>) -> Result<(), OutOfMemory>
     ensures { OnOk result (items.new ≡ items.old ++ option_to_list item) }
 {
     match item {
@@ -56,7 +56,7 @@ fn ask_cells(asked: &mut List<Command>, cells: &[CellRow], now: Moment) -> Resul
         ++ map (told.at now) (filter_map (λ (c : ACell). told.cell_work c now) cells.entry.now)) }
 {
     for cell in cells {
-        add(asked, at(now, cell_work(cell, now)))?;
+        add(asked, command_at(now, cell_work(cell, now)))?;
     }
     Ok(())
 }
@@ -72,7 +72,7 @@ fn ask_places(
         ++ map (told.at now) (filter_map (told.place_work rows.entry.now now) places.entry.now)) }
 {
     for place in places {
-        add(asked, at(now, place_work(rows, now, place)))?;
+        add(asked, command_at(now, place_work(rows, now, place)))?;
     }
     Ok(())
 }
@@ -88,7 +88,7 @@ fn ask_tasks(
         ++ map (told.at now) (filter_map (told.task_work rows.entry.now now) tasks.entry.now)) }
 {
     for task in tasks {
-        add(asked, at(now, task_work(rows, now, task)))?;
+        add(asked, command_at(now, task_work(rows, now, task)))?;
     }
     Ok(())
 }

@@ -1,4 +1,4 @@
-use Rattle.lrp_records.proofs.Ties.{IsKeyOrder-place_order}
+use Rattle.lrp_records.proofs.Public.{IsKeyOrder-place_order}
 use Rattle.convergence.proofs.placing.places.Goals as goal
 
 pub in_order-requires : goal.in_order-requires

@@ -1,0 +1,214 @@
+-- What becomes of rows once those that wait are claimed.
+use Rattle.std.proofs.Common.{◌≡◌, ◌≢◌, ◌⊎◌, ℕ, Bool, true, false, ◌||◌, List, Option, Some, None, IsSome, refl, ap, sym, ◌∙◌, subst, inl, inr, ⊎_elim}
+use Rattle.std.specs.List.{AllZip, Contains}
+use Rattle.cell_records.specs.declared.answer.Answer.{Answer}
+use Rattle.cell_records.specs.declared.container.Container.{Container}
+use Rattle.cell_records.specs.declared.job_name.JobName.{JobName}
+use Rattle.cell_records.specs.declared.job_name.JobName.TheVariants as job
+use Rattle.container_store.specs.Changes.{is_uncompleted}
+use Rattle.crash_backoff.specs.declared.moment.Moment.{Moment}
+use Rattle.diego_names.proofs.Public.{IsKeyOrder-name_order}
+use Rattle.diego_names.specs.Order.{name_order}
+use Rattle.diego_names.specs.declared.instance.Instance.{Instance}
+use Rattle.diego_names.specs.declared.key.Key.{Key}
+use Rattle.lrp_records.specs.States.{holder_of, is_same_instance}
+use Rattle.lrp_records.specs.declared.actual.Actual.{Actual}
+use Rattle.lrp_records.specs.declared.presence.Presence.{Presence}
+use Rattle.lrp_records.specs.declared.presence.Presence.TheVariants.{Ordinary, Evacuating}
+use Rattle.lrp_records.specs.declared.state.LrpState.{LrpState}
+use Rattle.lrp_records.specs.declared.state.LrpState.TheVariants as lrp
+use Rattle.row_tables.proofs.Public.{find_row-Contains, key-find_row}
+use Rattle.task_records.specs.declared.state.TaskState.{TaskState}
+use Rattle.task_records.specs.declared.state.TaskState.TheVariants as task
+use Rattle.task_records.specs.declared.task.Task.{Task}
+use Rattle.bbs_model.specs.Runs.{state_after, state_after_all}
+use Rattle.bbs_model.specs.Step.{verdict_of}
+use Rattle.bbs_model.specs.Tables.{task_name_of, find_actual, find_task}
+use Rattle.bbs_model.specs.Valid.{IsValid}
+use Rattle.task_records.specs.States.{runner_of}
+use Rattle.bbs_model.specs.Work.{at, is_there, wants, is_due}
+use Rattle.bbs_model.specs.declared.command.Command.{Command}
+use Rattle.bbs_model.specs.declared.command.Op.{Op}
+use Rattle.bbs_model.specs.declared.command.Op.TheVariants as op
+use Rattle.bbs_model.specs.declared.rows.Rows.{Rows}
+use Rattle.convergence.specs.Containers.{is_answer_of, answer_from, is_container_of, row_names, task_names, is_holder, is_named_for, is_named}
+use Rattle.convergence.specs.Subjects.{Subject, OfPlace, OfTask, subject_of, subject_in, ordinary_of}
+use Rattle.convergence.proofs.Public.{find-passes, find-some, same_cell}
+use Rattle.converge_laws.specs.Accepted.{IsAccepted, AreAccepted, IsOfRound, AreApart}
+use Rattle.converge_laws.specs.Converged.{is_held, IsStateHeld, HasItsPlace, IsInstanceSettled, is_running, runs, IsKeptAside, IsTaskSettled, IsConverged}
+use Rattle.converge_laws.specs.Laws.{AreOfRound, KeepsGround}
+use Rattle.converge_laws.specs.Stages.{IsSameCell, IsClaimOf, IsClaimed, IsWith, AreWith, MayBePlaced, IsPlaceable, MayTaskBePlaced, IsTaskPlaceable, IsCleared, PlacesAll}
+use Rattle.converge_laws.proofs.Frames.{stays-ordinary, stays-evacuating, stays-task}
+use Rattle.converge_laws.proofs.Held.{it_is, held-from, held-in, held-ground, row-key}
+use Rattle.converge_laws.proofs.Lists.{zip_back, zip_find}
+use Rattle.converge_laws.proofs.MoveEnds.{IsNowClaimed, claimed}
+use Rattle.converge_laws.proofs.Moves.{left_by, after-claim}
+use Rattle.converge_laws.proofs.Naming.{or_left, or_right, instance_itself, same_instance, looked_for, looks_like}
+use Rattle.converge_laws.proofs.Runs.{about_some, run-other, run-took, run-ground, run-valid}
+use Rattle.converge_laws.proofs.StopStage.{alike}
+use Rattle.converge_laws.proofs.TaskMoves.{IsNowRunning, task_left_by, after-start, started}
+use Rattle.converge_laws.proofs.Claims.{subject_for, claim-about, same_job_as, same_task_as, not_aside, IsClaiming, of_round, ground, there-before, runs-there, held-any, held-more, held-new, claim-is}
+
+module _ (rows : Rows) (before after : List Answer) (now : Moment) (cs : List Command) (g : IsClaiming rows before after now cs) where
+  abbrev new : Rows
+  new = state_after_all rows cs
+
+  module _ (key : Key) where
+    abbrev ordinary : Rows → Option Actual
+    ordinary r = find_actual r key Ordinary
+
+    -- what becomes of a claimed row
+    record IsRowClaimed : Type 0 where
+      pub command : Command
+      pub instance : Instance
+      pub cell : List ℕ
+      pub inside : Contains cs command
+      pub claims : command.op ≡ op.Claim key instance cell
+      pub there : is_there rows now cell instance.epoch ≡ true
+      pub old : Actual
+      pub was : ordinary rows ≡ Some old
+      pub now_claimed : IsNowClaimed old instance cell (ordinary new)
+
+    row-claimed : (c : Command) (instance : Instance) (cell : List ℕ) → Contains cs c → c.op ≡ op.Claim key instance cell
+        → (old : Actual) × (ordinary rows ≡ Some old) × IsNowClaimed old instance cell (ordinary new)
+    row-claimed c instance cell inside claims =
+        run-took ordinary (ordinary_of key) (λ r d h other. stays-ordinary r d h key other)
+        (λ (r : Option Actual). (old : Actual) × (ordinary rows ≡ Some old) × IsNowClaimed old instance cell r) c rows cs (of_round rows before after now cs g).ops g.apart g.taken inside (ap subject_of claims)
+        (λ start same h.
+        let command : c ≡ at now (op.Claim key instance cell) = (claim-is rows before after now cs g) c (op.Claim key instance cell) inside claims in
+        let accepted : IsAccepted (verdict_of start (at now (op.Claim key instance cell))) = subst (λ (d : Command). IsAccepted (verdict_of start d)) command h in
+        let m = after-claim start now key instance cell accepted in (
+          m.old,
+          sym same ∙ m.found,
+          subst (λ (d : Command). IsNowClaimed m.old instance cell (ordinary (state_after start d))) (sym command)
+              (subst (IsNowClaimed m.old instance cell) (sym m.after) (claimed m.old now instance cell m.taken)),
+        ))
+
+    -- a row is claimed, or stays as it was
+    row-fate : IsRowClaimed ⊎ ((ordinary new ≡ ordinary rows) × ((c : Command) → Contains cs c → subject_in c ≢ ordinary_of key))
+    row-fate =
+        ⊎_elim
+        (λ (found : (c : Command) × Contains cs c × (subject_in c ≡ ordinary_of key)).
+        let p = g.places.claims found.0 found.1 in
+        let about : subject_for p.0 ≡ ordinary_of key = sym (claim-about p.0 p.1 p.2 found.0.op p.3) ∙ found.2 in
+        let claims : found.0.op ≡ op.Claim key p.1 p.2 = subst (λ (j : JobName). IsClaimOf j p.1 p.2 found.0.op) (same_job_as p.0 key about) p.3 in
+        let r = row-claimed found.0 p.1 p.2 found.1 claims in
+        inl (record { command = found.0; instance = p.1; cell = p.2; inside = found.1; claims = claims; there = p.4; old = r.0; was = r.1; now_claimed = r.2 }))
+        (λ (none : (c : Command) → Contains cs c → subject_in c ≢ ordinary_of key).
+        inr (run-other ordinary (ordinary_of key) (λ r d h other. stays-ordinary r d h key other) rows cs (of_round rows before after now cs g).ops none, none))
+        (about_some (ordinary_of key) cs)
+
+    placeable : (a : Actual) → ordinary rows ≡ Some a → (wants rows key ≡ true) × MayBePlaced rows before now a a.state
+    placeable a is = subst (IsPlaceable rows before now key) is (g.cleared.planned.ordinary key)
+
+    -- a row that has its place keeps it
+    place-kept : (a : Actual) (s : LrpState) → a.state ≡ s → (a.state ≡ lrp.Unclaimed → ⊥) → MayBePlaced rows before now a s → HasItsPlace rows after now a s
+    place-kept a lrp.Unclaimed state claimed' h = absurd (claimed' state)
+    place-kept a (lrp.Claimed instance cell) state claimed' h = (held-more rows before after now cs g) (job.Lrp a.key) instance cell h
+    place-kept a (lrp.Running instance cell) state claimed' h = (held-more rows before after now cs g) (job.Lrp a.key) instance cell h
+    place-kept a lrp.Crashed state claimed' h = h
+
+    settled-kept : (a : Actual) → ordinary rows ≡ Some a → (a.state ≡ lrp.Unclaimed → ⊥) → IsInstanceSettled rows after now key (Some a)
+    settled-kept a is claimed' = let p = placeable a is in (p.0, place-kept a a.state refl claimed' p.1)
+
+    not_unclaimed : (a : Actual) (held : Instance) (where' : List ℕ) → a.state ≡ lrp.Claimed held where' → a.state ≡ lrp.Unclaimed → ⊥
+    not_unclaimed a held where' is other = cc
+
+    settled-claimed : (c : IsRowClaimed) → IsInstanceSettled rows after now key (ordinary new)
+    settled-claimed c =
+        let n = c.now_claimed in
+        subst (IsInstanceSettled rows after now key) (sym n.is)
+        (⊎_elim
+        (λ (fresh : (c.old.state ≡ lrp.Unclaimed) × (n.new.state ≡ lrp.Claimed c.instance c.cell) × (n.new.key ≡ c.old.key)).
+        let place : key ≡ n.new.key = sym (fresh.2 ∙ row-key rows key Ordinary c.old c.was) in
+        let held : is_held rows after now (job.Lrp n.new.key) c.instance c.cell ≡ true =
+        subst (λ (k : Key). is_held rows after now (job.Lrp k) c.instance c.cell ≡ true) place ((held-new rows before after now cs g) c.command (job.Lrp key) c.instance c.cell c.inside c.claims c.there) in
+        let settled : IsInstanceSettled rows after now key (Some n.new) = ((placeable c.old c.was).0, subst (HasItsPlace rows after now n.new) (sym fresh.1) held) in
+        settled)
+        (λ (own : (n.new ≡ c.old) × (held : Instance) × (where' : List ℕ) × (c.old.state ≡ lrp.Claimed held where') × (is_same_instance c.instance held ≡ true)).
+        subst (λ (a : Actual). IsInstanceSettled rows after now key (Some a)) (sym own.0) (settled-kept c.old c.was (not_unclaimed c.old own.1 own.2 own.3)))
+        n.how)
+
+    pub settled-rows : IsInstanceSettled rows after now key (ordinary new)
+    settled-rows =
+        ⊎_elim settled-claimed
+        (λ (other : (ordinary new ≡ ordinary rows) × ((c : Command) → Contains cs c → subject_in c ≢ ordinary_of key)).
+        subst (IsInstanceSettled rows after now key) (sym other.0)
+        (elim (ordinary rows) as (λ (r : Option Actual). ordinary rows ≡ r → IsPlaceable rows before now key r → IsInstanceSettled rows after now key r) [
+          | None ↦ λ is h. h
+          | (Some a) ↦ λ is h. settled-kept a is (λ state. let p = g.places.rows_placed key a is state in other.1 p.0 p.1 p.2)
+        ] refl (g.cleared.planned.ordinary key)))
+        row-fate
+
+    place-ground : (a : Actual) (s : LrpState) → HasItsPlace rows after now a s → HasItsPlace new after now a s
+    place-ground a lrp.Unclaimed h = h
+    place-ground a (lrp.Claimed instance cell) h = held-ground rows new after now (job.Lrp a.key) instance cell ((ground rows before after now cs g).there cell instance.epoch) ∙ h
+    place-ground a (lrp.Running instance cell) h = held-ground rows new after now (job.Lrp a.key) instance cell ((ground rows before after now cs g).there cell instance.epoch) ∙ h
+    place-ground a lrp.Crashed h = h
+
+    pub settled-ground : (r : Option Actual) → IsInstanceSettled rows after now key r → IsInstanceSettled new after now key r
+    settled-ground None h = (ground rows before after now cs g).wanted key ∙ h
+    settled-ground (Some a) h = ((ground rows before after now cs g).wanted key ∙ h.0, place-ground a a.state h.1)
+
+    -- a row that didn't run doesn't run
+    idle-row : runs (ordinary rows) ≡ false → runs (ordinary new) ≡ false
+    idle-row idle =
+        ⊎_elim
+        (λ (c : IsRowClaimed).
+        ap runs c.now_claimed.is
+        ∙ ⊎_elim
+        (λ (fresh : (c.old.state ≡ lrp.Unclaimed) × (c.now_claimed.new.state ≡ lrp.Claimed c.instance c.cell) × (c.now_claimed.new.key ≡ c.old.key)). ap is_running fresh.1)
+        (λ (own : (c.now_claimed.new ≡ c.old) × (held : Instance) × (where' : List ℕ) × (c.old.state ≡ lrp.Claimed held where') × (is_same_instance c.instance held ≡ true)).
+        ap (λ (a : Actual). is_running a.state) own.0 ∙ ap is_running own.3)
+        c.now_claimed.how)
+        (λ (other : (ordinary new ≡ ordinary rows) × ((c : Command) → Contains cs c → subject_in c ≢ ordinary_of key)). ap runs other.0 ∙ idle)
+        row-fate
+
+    -- the EVACUATING row stays
+    pub aside-same : find_actual new key Evacuating ≡ find_actual rows key Evacuating
+    aside-same =
+        run-other (λ (r : Rows). find_actual r key Evacuating) (OfPlace (key, Evacuating)) (λ r d h other. stays-evacuating r d h key other) rows cs (of_round rows before after now cs g).ops
+        (λ c inside same. let p = g.places.claims c inside in not_aside p.0 key (sym (claim-about p.0 p.1 p.2 c.op p.3) ∙ same))
+
+    aside-state : (s : LrpState) → IsStateHeld rows before now key s → IsStateHeld new after now key s
+    aside-state lrp.Unclaimed h = h
+    aside-state (lrp.Claimed instance cell) h = held-ground rows new after now (job.Lrp key) instance cell ((ground rows before after now cs g).there cell instance.epoch) ∙ (held-more rows before after now cs g) (job.Lrp key) instance cell h
+    aside-state (lrp.Running instance cell) h = held-ground rows new after now (job.Lrp key) instance cell ((ground rows before after now cs g).there cell instance.epoch) ∙ (held-more rows before after now cs g) (job.Lrp key) instance cell h
+    aside-state lrp.Crashed h = h
+
+    aside-row : (r : Option Actual) → IsKeptAside rows before now key r → IsKeptAside new after now key r
+    aside-row None h = tt
+    aside-row (Some a) h = ((ground rows before after now cs g).wanted key ∙ h.0, aside-state a.state h.1, idle-row h.2)
+
+    pub aside-done : IsKeptAside new after now key (find_actual new key Evacuating)
+    aside-done = subst (IsKeptAside new after now key) (sym aside-same) (aside-row (find_actual rows key Evacuating) (g.cleared.planned.aside key))
+
+    -- a row that names a container goes on to name it
+    pub names-still : (instance : Instance) → row_names (ordinary rows) instance ≡ true → row_names (ordinary new) instance ≡ true
+    names-still instance named =
+        ⊎_elim
+        (λ (c : IsRowClaimed).
+        let old : is_holder (holder_of c.old.state) instance ≡ true = ap (λ (r : Option Actual). row_names r instance) (sym c.was) ∙ named in
+        ap (λ (r : Option Actual). row_names r instance) c.now_claimed.is
+        ∙ ⊎_elim
+        (λ (fresh : (c.old.state ≡ lrp.Unclaimed) × (c.now_claimed.new.state ≡ lrp.Claimed c.instance c.cell) × (c.now_claimed.new.key ≡ c.old.key)).
+        let none : is_holder (holder_of c.old.state) instance ≡ false = ap (λ (s : LrpState). is_holder (holder_of s) instance) fresh.0 in
+        absurd cc)
+        (λ (own : (c.now_claimed.new ≡ c.old) × (held : Instance) × (where' : List ℕ) × (c.old.state ≡ lrp.Claimed held where') × (is_same_instance c.instance held ≡ true)).
+        ap (λ (a : Actual). is_holder (holder_of a.state) instance) own.0 ∙ old)
+        c.now_claimed.how)
+        (λ (other : (ordinary new ≡ ordinary rows) × ((c : Command) → Contains cs c → subject_in c ≢ ordinary_of key)). ap (λ (r : Option Actual). row_names r instance) other.0 ∙ named)
+        row-fate
+
+    -- and a claimed row names its container
+    pub names-claimed : (c : Command) (instance : Instance) (cell : List ℕ) → Contains cs c → c.op ≡ op.Claim key instance cell → row_names (ordinary new) instance ≡ true
+    names-claimed c instance cell inside claims =
+        let r = row-claimed c instance cell inside claims in
+        let n = r.2 in
+        ap (λ (o : Option Actual). row_names o instance) n.is
+        ∙ ⊎_elim
+        (λ (fresh : (r.0.state ≡ lrp.Unclaimed) × (n.new.state ≡ lrp.Claimed instance cell) × (n.new.key ≡ r.0.key)).
+        ap (λ (s : LrpState). is_holder (holder_of s) instance) fresh.1 ∙ instance_itself instance)
+        (λ (own : (n.new ≡ r.0) × (held : Instance) × (where' : List ℕ) × (r.0.state ≡ lrp.Claimed held where') × (is_same_instance instance held ≡ true)).
+        ap (λ (a : Actual). is_holder (holder_of a.state) instance) own.0 ∙ ap (λ (s : LrpState). is_holder (holder_of s) instance) own.3 ∙ own.4)
+        n.how

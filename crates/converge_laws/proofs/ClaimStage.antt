@@ -1,0 +1,95 @@
+-- Once each row that waits for a place is claimed, all is as it should be.
+use Rattle.std.proofs.Common.{◌≡◌, ◌≢◌, ◌⊎◌, ℕ, Bool, true, false, ◌||◌, List, Option, Some, None, IsSome, refl, ap, sym, ◌∙◌, subst, inl, inr, ⊎_elim}
+use Rattle.std.specs.List.{AllZip, Contains}
+use Rattle.cell_records.specs.declared.answer.Answer.{Answer}
+use Rattle.cell_records.specs.declared.container.Container.{Container}
+use Rattle.cell_records.specs.declared.job_name.JobName.{JobName}
+use Rattle.cell_records.specs.declared.job_name.JobName.TheVariants as job
+use Rattle.container_store.specs.Changes.{is_uncompleted}
+use Rattle.crash_backoff.specs.declared.moment.Moment.{Moment}
+use Rattle.diego_names.proofs.Public.{IsKeyOrder-name_order}
+use Rattle.diego_names.specs.Order.{name_order}
+use Rattle.diego_names.specs.declared.instance.Instance.{Instance}
+use Rattle.diego_names.specs.declared.key.Key.{Key}
+use Rattle.lrp_records.specs.States.{holder_of, is_same_instance}
+use Rattle.lrp_records.specs.declared.actual.Actual.{Actual}
+use Rattle.lrp_records.specs.declared.presence.Presence.{Presence}
+use Rattle.lrp_records.specs.declared.presence.Presence.TheVariants.{Ordinary, Evacuating}
+use Rattle.lrp_records.specs.declared.state.LrpState.{LrpState}
+use Rattle.lrp_records.specs.declared.state.LrpState.TheVariants as lrp
+use Rattle.row_tables.proofs.Public.{find_row-Contains, key-find_row}
+use Rattle.task_records.specs.declared.state.TaskState.{TaskState}
+use Rattle.task_records.specs.declared.state.TaskState.TheVariants as task
+use Rattle.task_records.specs.declared.task.Task.{Task}
+use Rattle.bbs_model.specs.Runs.{state_after, state_after_all}
+use Rattle.bbs_model.specs.Step.{verdict_of}
+use Rattle.bbs_model.specs.Tables.{task_name_of, find_actual, find_task}
+use Rattle.bbs_model.specs.Valid.{IsValid}
+use Rattle.task_records.specs.States.{runner_of}
+use Rattle.bbs_model.specs.Work.{at, is_there, wants, is_due}
+use Rattle.bbs_model.specs.declared.command.Command.{Command}
+use Rattle.bbs_model.specs.declared.command.Op.{Op}
+use Rattle.bbs_model.specs.declared.command.Op.TheVariants as op
+use Rattle.bbs_model.specs.declared.rows.Rows.{Rows}
+use Rattle.convergence.specs.Containers.{is_answer_of, answer_from, is_container_of, row_names, task_names, is_holder, is_named_for, is_named}
+use Rattle.convergence.specs.Subjects.{Subject, OfPlace, OfTask, subject_of, subject_in, ordinary_of}
+use Rattle.convergence.proofs.Public.{find-passes, find-some, same_cell}
+use Rattle.converge_laws.specs.Accepted.{IsAccepted, AreAccepted, IsOfRound, AreApart}
+use Rattle.converge_laws.specs.Converged.{is_held, IsStateHeld, HasItsPlace, IsInstanceSettled, is_running, runs, IsKeptAside, IsTaskSettled, IsConverged}
+use Rattle.converge_laws.specs.Laws.{AreOfRound, KeepsGround}
+use Rattle.converge_laws.specs.Stages.{IsSameCell, IsClaimOf, IsClaimed, IsWith, AreWith, MayBePlaced, IsPlaceable, MayTaskBePlaced, IsTaskPlaceable, IsCleared, PlacesAll}
+use Rattle.converge_laws.proofs.Frames.{stays-ordinary, stays-evacuating, stays-task}
+use Rattle.converge_laws.proofs.Held.{it_is, held-from, held-in, held-ground, row-key}
+use Rattle.converge_laws.proofs.Lists.{zip_back, zip_find}
+use Rattle.converge_laws.proofs.MoveEnds.{IsNowClaimed, claimed}
+use Rattle.converge_laws.proofs.Moves.{left_by, after-claim}
+use Rattle.converge_laws.proofs.Naming.{or_left, or_right, instance_itself, same_instance, looked_for, looks_like}
+use Rattle.converge_laws.proofs.Runs.{about_some, run-other, run-took, run-ground, run-valid}
+use Rattle.converge_laws.proofs.StopStage.{alike}
+use Rattle.converge_laws.proofs.TaskMoves.{IsNowRunning, task_left_by, after-start, started}
+use Rattle.converge_laws.proofs.Claims.{subject_for, claim-about, same_job_as, same_task_as, not_aside, IsClaiming, of_round, ground, there-before, runs-there, held-any, held-more, held-new, claim-is}
+use Rattle.converge_laws.proofs.ClaimRows.{settled-ground, settled-rows, aside-done, aside-same, names-still, names-claimed}
+use Rattle.converge_laws.proofs.ClaimTasks.{IsTaskAt, task-done, task-names-still, task-names-claimed}
+
+module _ (rows : Rows) (before after : List Answer) (now : Moment) (cs : List Command) (g : IsClaiming rows before after now cs) where
+  abbrev new : Rows
+  new = state_after_all rows cs
+
+  one_of : (a b : Bool) → (a || b) ≡ true → (a ≡ true) ⊎ (b ≡ true)
+  one_of true b e = inl refl
+  one_of false b e = inr e
+
+  named-still : (j : JobName) (instance : Instance) → is_named_for j rows instance ≡ true → is_named_for j new instance ≡ true
+  named-still (job.Lrp key) instance named =
+      ⊎_elim
+      (λ (ordinary : row_names (find_actual rows key Ordinary) instance ≡ true).
+      or_left (row_names (find_actual new key Ordinary) instance) (row_names (find_actual new key Evacuating) instance) ((names-still rows before after now cs g) key instance ordinary))
+      (λ (aside : row_names (find_actual rows key Evacuating) instance ≡ true).
+      or_right (row_names (find_actual new key Ordinary) instance) (row_names (find_actual new key Evacuating) instance) (ap (λ (r : Option Actual). row_names r instance) ((aside-same rows before after now cs g) key) ∙ aside))
+      (one_of (row_names (find_actual rows key Ordinary) instance) (row_names (find_actual rows key Evacuating) instance) named)
+  named-still (job.Task name) instance named = (task-names-still rows before after now cs g) name instance named
+
+  named-claimed : (j : JobName) (instance : Instance) (cell : List ℕ) (c : Command) → Contains cs c → IsClaimOf j instance cell c.op → is_named_for j new instance ≡ true
+  named-claimed (job.Lrp key) instance cell c inside claims =
+      or_left (row_names (find_actual new key Ordinary) instance) (row_names (find_actual new key Evacuating) instance) ((names-claimed rows before after now cs g) key c instance cell inside claims)
+  named-claimed (job.Task name) instance cell c inside claims = (task-names-claimed rows before after now cs g) name c instance cell inside claims
+
+  all-named : (y : Answer) (c : Container) → Contains after y → is_there new now y.cell y.epoch ≡ true → Contains y.containers c → is_named new c ≡ true
+  all-named y c in_y there in_c =
+      let x = zip_back (IsWith cs) before after y g.with_claims in_y in
+      let here : is_there rows now y.cell y.epoch ≡ true = sym ((ground rows before after now cs g).there y.cell y.epoch) ∙ there in
+      ⊎_elim
+      (λ (old : Contains x.0.containers c). named-still c.job c.instance (g.cleared.clear x.0 c x.1 ((there-before rows before after now cs g) x.0 y x.2.same here) old).1)
+      (λ (fresh : IsClaimed cs c.job c.instance x.0.cell × (is_uncompleted c.state ≡ true)). named-claimed c.job c.instance x.0.cell fresh.0.command fresh.0.inside fresh.0.claims)
+      (x.2.new c in_c)
+
+  valid-new : IsValid new
+  valid-new = run-valid rows cs g.valid
+
+  pub claims-converge : IsConverged new after now
+  claims-converge = record {
+    ordinary = λ key. (settled-ground rows before after now cs g) key (find_actual new key Ordinary) ((settled-rows rows before after now cs g) key);
+    aside = λ key. (aside-done rows before after now cs g) key;
+    tasks = λ t inside. subst ((IsTaskAt rows before after now cs g) t.name) (find_row-Contains name_order task_name_of IsKeyOrder-name_order t new.tasks valid-new.tasks.rising inside) ((task-done rows before after now cs g) t.name);
+    containers = all-named;
+  }

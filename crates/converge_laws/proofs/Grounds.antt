@@ -1,0 +1,50 @@
+-- What is asked depends on which cells are there and which instances are wanted alone.
+use Rattle.std.proofs.Common.{◌≡◌, ℕ, Bool, true, false, cond, not, ◌||◌, List, Option, Some, None, refl, ap, sym, ◌∙◌}
+use Rattle.crash_backoff.specs.declared.moment.Moment.{Moment}
+use Rattle.diego_names.specs.declared.key.Key.{Key}
+use Rattle.lrp_records.specs.States.{holder_of}
+use Rattle.lrp_records.specs.declared.actual.Actual.{Actual}
+use Rattle.lrp_records.specs.declared.presence.Presence.TheVariants.{Ordinary}
+use Rattle.lrp_records.specs.declared.state.LrpState.{LrpState}
+use Rattle.lrp_records.specs.declared.state.LrpState.TheVariants as lrp
+use Rattle.task_records.specs.declared.state.TaskState.{TaskState}
+use Rattle.task_records.specs.declared.state.TaskState.TheVariants as task
+use Rattle.task_records.specs.declared.task.Task.{Task}
+use Rattle.bbs_model.specs.Tables.{find_actual}
+use Rattle.bbs_model.specs.Work as told
+use Rattle.bbs_model.specs.declared.command.Op.{Op}
+use Rattle.bbs_model.specs.declared.command.Op.TheVariants as op
+use Rattle.bbs_model.specs.declared.rows.Rows.{Rows}
+use Rattle.converge_laws.specs.Laws.{KeepsGround}
+
+module _ (now : Moment) (old new : Rows) (ground : KeepsGround now old new) where
+  pub lost-ground : (s : LrpState) → told.is_lost new now s ≡ told.is_lost old now s
+  lost-ground lrp.Unclaimed = refl
+  lost-ground (lrp.Claimed instance cell) = ap not (ground.there cell instance.epoch)
+  lost-ground (lrp.Running instance cell) = ap not (ground.there cell instance.epoch)
+  lost-ground lrp.Crashed = refl
+
+  runs_in-ground : (s : LrpState) → told.runs_in new now s ≡ told.runs_in old now s
+  runs_in-ground lrp.Unclaimed = refl
+  runs_in-ground (lrp.Claimed instance cell) = refl
+  runs_in-ground (lrp.Running instance cell) = ground.there cell instance.epoch
+  runs_in-ground lrp.Crashed = refl
+
+  pub runs_there-ground : (row : Option Actual) → told.runs_there new now row ≡ told.runs_there old now row
+  runs_there-ground None = refl
+  runs_there-ground (Some a) = runs_in-ground a.state
+
+  pub ordinary-ground : (key : Key) (row : Option Actual) → told.ordinary_work new now key row ≡ told.ordinary_work old now key row
+  ordinary-ground key None = ap (λ (b : Bool). told.asked_if b (op.Make key)) (ground.wanted key)
+  ordinary-ground key (Some a) =
+      ap (λ (b : Bool). cond (not b) (Some (op.Remove key (holder_of a.state))) (cond (told.is_lost new now a.state) (told.unclaim key a.state) (told.restart_if_due key a now a.state))) (ground.wanted key)
+      ∙ ap (λ (b : Bool). cond (not (told.wants old key)) (Some (op.Remove key (holder_of a.state))) (cond b (told.unclaim key a.state) (told.restart_if_due key a now a.state))) (lost-ground a.state)
+
+  state-ground : (t : Task) (s : TaskState) → told.asked_of_task new now t s ≡ told.asked_of_task old now t s
+  state-ground t task.Pending = refl
+  state-ground t (task.Running instance cell) = ap (λ (b : Bool). told.asked_if (not b) (op.CancelTask t.name)) (ground.there cell instance.epoch)
+  state-ground t (task.Completed failed) = refl
+  state-ground t (task.Resolving failed) = refl
+
+  pub task-ground : (t : Task) → told.task_work new now t ≡ told.task_work old now t
+  task-ground t = state-ground t t.state

@@ -1,0 +1,4 @@
+pub mod Converged
+pub mod Accepted
+pub mod Stages
+pub mod Laws

@@ -1,0 +1,5 @@
+pub mod Lists
+pub mod Eachs
+pub mod Owns
+pub mod RepLaws
+pub mod IndexLaws

@@ -1,0 +1,154 @@
+//! Each line of what is asked by answers, as a case.
+use super::answers::{answer, held, held_task, plans};
+use super::{Names, at, container, desire, first, join, make, read_names, start};
+use bbs_model::{Command, Op};
+use cell_records::{Container, ContainerState};
+use diego_names::OutOfMemory;
+use std::alloc::Global;
+use std::test::Fail;
+
+const RUNNING: ContainerState = ContainerState::Running;
+
+const ENDED: ContainerState = ContainerState::Completed { failed: true };
+
+/// What is asked where cell a joined as the third command and holds these.
+fn asked_of_a(
+    alloc: Global,
+    names: &Names,
+    done: &[Command],
+    holds: &[Container],
+    asked: &[Op],
+) -> Result<bool, OutOfMemory> {
+    let told = answer(alloc, names.a, 2, holds)?;
+    plans(alloc, done, told, asked)
+}
+
+#[test]
+fn a_row_whose_container_is_gone_is_unclaimed(rt: HostRuntime) -> Result<(), Fail> {
+    let alloc = rt.alloc();
+    let names = read_names()?;
+    let web = names.web;
+    let (key, instance) = (first(web), container(2));
+    let cell = names.a;
+    let claim = at(
+        0,
+        Op::Claim {
+            key,
+            instance,
+            cell,
+        },
+    );
+    let claimed = [desire(web, 1), make(web), join(cell, 90), claim];
+    let running = [claimed[0], claimed[1], claimed[2], start(web, 2, cell)];
+    let gone = [Op::Unclaim { key, instance }];
+    assert!(rt; asked_of_a(alloc, &names, &claimed, &[], &gone)?);
+    assert!(rt; asked_of_a(alloc, &names, &running, &[], &gone)?);
+    let others = [held(names.b, 2, 1, RUNNING), held(web, 2, 2, RUNNING)];
+    assert!(rt; asked_of_a(alloc, &names, &running, &others, &gone)?);
+    Ok(())
+}
+
+#[test]
+fn a_row_whose_container_ended_has_crashed(rt: HostRuntime) -> Result<(), Fail> {
+    let alloc = rt.alloc();
+    let names = read_names()?;
+    let (web, cell) = (names.web, names.a);
+    let (key, instance) = (first(web), container(2));
+    let running = [
+        desire(web, 1),
+        make(web),
+        join(cell, 90),
+        start(web, 2, cell),
+    ];
+    let crash = [Op::Crash { key, instance }];
+    assert!(rt; asked_of_a(alloc, &names, &running, &[held(web, 2, 1, ENDED)], &crash)?);
+    assert!(rt; asked_of_a(alloc, &names, &running, &[held(web, 2, 1, RUNNING)], &[])?);
+    let fallen = [held(names.b, 2, 7, RUNNING), held(web, 2, 1, ENDED)];
+    assert!(rt; asked_of_a(alloc, &names, &running, &fallen, &crash)?);
+    Ok(())
+}
+
+#[test]
+fn nothing_is_asked_of_a_row_whose_cell_gave_no_answer(rt: HostRuntime) -> Result<(), Fail> {
+    let alloc = rt.alloc();
+    let names = read_names()?;
+    let (web, cell) = (names.web, names.a);
+    let running = [
+        desire(web, 1),
+        make(web),
+        join(cell, 90),
+        start(web, 2, cell),
+    ];
+    let stale = answer(alloc, cell, 1, &[])?;
+    assert!(rt; plans(alloc, &running, stale, &[])?);
+    let other = answer(alloc, names.b, 2, &[])?;
+    assert!(rt; plans(alloc, &running, other, &[])?);
+    Ok(())
+}
+
+#[test]
+fn an_evacuating_row_without_its_container_is_dropped(rt: HostRuntime) -> Result<(), Fail> {
+    let alloc = rt.alloc();
+    let names = read_names()?;
+    let (web, cell) = (names.web, names.a);
+    let (key, instance) = (first(web), container(2));
+    let moved = [
+        desire(web, 1),
+        make(web),
+        join(cell, 90),
+        start(web, 2, cell),
+        at(0, Op::Evacuate { key, instance }),
+    ];
+    let dropped = [Op::DropEvacuating { key, instance }];
+    assert!(rt; asked_of_a(alloc, &names, &moved, &[], &dropped)?);
+    assert!(rt; asked_of_a(alloc, &names, &moved, &[held(web, 2, 1, ENDED)], &dropped)?);
+    assert!(rt; asked_of_a(alloc, &names, &moved, &[held(web, 2, 1, RUNNING)], &[])?);
+    Ok(())
+}
+
+#[test]
+fn a_task_is_given_up_or_has_the_outcome_of_its_container(rt: HostRuntime) -> Result<(), Fail> {
+    let alloc = rt.alloc();
+    let names = read_names()?;
+    let (name, cell) = (names.web, names.a);
+    let instance = container(2);
+    let (memory, disk, tag) = (64, 128, None);
+    let new = Op::NewTask {
+        name,
+        memory,
+        disk,
+        tag,
+    };
+    let begin = Op::StartTask {
+        name,
+        instance,
+        cell,
+    };
+    let running = [desire(names.b, 1), at(0, new), join(cell, 90), at(0, begin)];
+    assert!(rt; asked_of_a(alloc, &names, &running, &[], &[Op::CancelTask { name }])?);
+    let failed = true;
+    let outcome = [Op::CompleteTask {
+        name,
+        instance,
+        failed,
+    }];
+    assert!(rt;
+        asked_of_a(
+            alloc,
+            &names,
+            &running,
+            &[held_task(name, 2, 1, ENDED)],
+            &outcome
+        )?
+    );
+    assert!(rt;
+        asked_of_a(
+            alloc,
+            &names,
+            &running,
+            &[held_task(name, 2, 1, RUNNING)],
+            &[]
+        )?
+    );
+    Ok(())
+}
