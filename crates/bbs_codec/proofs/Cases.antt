@@ -5,15 +5,11 @@ use Rattle.std.specs.Int.{w8}
 use Rattle.std.proofs.lemmas.Bool.{cases_lt}
 use Rattle.std.proofs.lemmas.List.{take-append-le, drop_at, drop-drop}
 use Rattle.wire_fields.specs.Field.{field_number}
-use Rattle.wire_fields.specs.Laws.{IsBytes, StandsAt}
+use Rattle.wire_fields.specs.Laws.{IsBytes, TextStandsAt}
 use Rattle.wire_fields.specs.Reading.{◌>>=◌, number_at}
 use Rattle.wire_fields.specs.declared.fault.FieldFault.{FieldFault}
 use Rattle.wire_fields.specs.declared.fault.FieldFault.TheVariants.{Short, BadField}
-use Rattle.wire_fields.proofs.Fronts.{IsRead, IsRead-written, ok_is}
-use Rattle.wire_fields.proofs.Lengths.{length-field_u8}
-use Rattle.wire_fields.proofs.Numbers.{IsField-u8}
-use Rattle.wire_fields.proofs.Pairs.{bind_ok, take-append_back}
-use Rattle.wire_fields.proofs.Places.{StandsAt-append, StandsAt-front, StandsAt-back}
+use Rattle.wire_fields.proofs.Public.{IsRead, IsRead-written, ok_is, length-field_u8, IsField-u8, bind_ok, take-append_back, StandsAt-append, StandsAt-front, StandsAt-back}
 use Rattle.bbs_codec.specs.Format.{Format, IsFormat, seen_at}
 use Rattle.bbs_codec.specs.RowFormats.{Reads, Case, case_of, case_alone, alone, case_at, cases}
 use Rattle.bbs_codec.proofs.Records.{HasLaws, seen_found, seen_again}
@@ -25,7 +21,7 @@ none_at place _ _ = Err (BadField place)
 -- the fields of the value's case stand at the place, and the other place is behind them
 pub record Stands (n : ℕ) (bytes : List ℕ) (at : ℕ) (c : Case) (after : ℕ) : Type 0 where
   pub number : c.number ≡ n
-  pub stands : StandsAt bytes at c.fields
+  pub stands : TextStandsAt bytes at c.fields
   pub place : after ≡ at + length c.fields
   pub fits : c.Fits
 
@@ -35,7 +31,7 @@ pub record IsCase {X : Type 0} (case : X → Case) (n : ℕ) (read : Reads X) : 
 
 -- a value whose fields stand there is read, and it is told where they are cut off
 pub record IsAgain {X : Type 0} (c : Case) (x : X) (read : Reads X) : Type 0 where
-  pub again : (bytes : List ℕ) (at : ℕ) → c.Fits → StandsAt bytes at c.fields → read bytes at ≡ Ok (x, at + length c.fields)
+  pub again : (bytes : List ℕ) (at : ℕ) → c.Fits → TextStandsAt bytes at c.fields → read bytes at ≡ Ok (x, at + length c.fields)
   pub cut : (bytes : List ℕ) (at k : ℕ) → c.Fits → k < length c.fields → drop at bytes ≡ take k c.fields → read bytes at ≡ Err (Short (length bytes))
   pub most : c.Fits → length c.fields ≤ 93
   pub small : c.number < 2 ^ 8
@@ -106,9 +102,9 @@ IsFormat-cases {X} {case} {readers} are =
           let back = (are.found at n.0.0).spelled bytes n.0.1 x after ib n.2 in
           let a = field_number w8 (case x).number in
           let b = (case x).fields in
-          let first : StandsAt bytes at a = subst (λ (m : ℕ). StandsAt bytes at (field_number w8 m)) (sym back.number) front.0 in
+          let first : TextStandsAt bytes at a = subst (λ (m : ℕ). TextStandsAt bytes at (field_number w8 m)) (sym back.number) front.0 in
           let middle : n.0.1 ≡ at + length a = omega (arith, front.1, length-field_u8 n.0.0, length-field_u8 (case x).number) in
-          let second : StandsAt bytes (at + length a) b = subst (λ (m : ℕ). StandsAt bytes m b) middle back.stands in (
+          let second : TextStandsAt bytes (at + length a) b = subst (λ (m : ℕ). TextStandsAt bytes m b) middle back.stands in (
             StandsAt-append bytes at a b first second,
             omega (arith, back.place, middle, length-append a b),
             back.fits,

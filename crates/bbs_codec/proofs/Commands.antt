@@ -6,12 +6,9 @@ use Rattle.std.proofs.lemmas.Bool.Decides.{nat_tests}
 use Rattle.std.proofs.lemmas.List.{nil_from_length, drop_at}
 use Rattle.wire_fields.specs.declared.fault.FieldFault.{FieldFault}
 use Rattle.wire_fields.specs.Field.{field_number}
-use Rattle.wire_fields.specs.Laws.{IsBytes, StandsAt}
+use Rattle.wire_fields.specs.Laws.{IsBytes, TextStandsAt}
 use Rattle.wire_fields.specs.Reading.{◌>>=◌, number_at}
-use Rattle.wire_fields.proofs.Lengths.{length-field_u8, length-field_u32}
-use Rattle.wire_fields.proofs.Numbers.{IsField-u8, IsField-u32}
-use Rattle.wire_fields.proofs.Pairs.{bind_ok}
-use Rattle.wire_fields.proofs.Places.{StandsAt-append, StandsAt-front, StandsAt-back}
+use Rattle.wire_fields.proofs.Public.{length-field_u8, length-field_u32, IsField-u8, IsField-u32, bind_ok, StandsAt-append, StandsAt-front, StandsAt-back}
 use Rattle.bbs_model.specs.declared.command.Command.{Command}
 use Rattle.bbs_model.specs.declared.command.Op.{Op}
 use Rattle.bbs_codec.specs.Command.{FitsCommand, spelled, as_part, is_kind, kind_at, command_at, ended, reading}
@@ -38,7 +35,7 @@ abbrev behind_test : List ℕ → Result (ℕ × ℕ) CodecFault → Result (Com
 behind_test bytes read = read >>= λ kind. as_part (number_at w32 bytes kind.1) >>= behind_now bytes kind.0
 
 -- a command that is spelled in front is read there
-pub front_again : (bytes : List ℕ) (c : Command) → FitsCommand c → StandsAt bytes 0 (spelled c) → command_at bytes ≡ Ok (c, length (spelled c))
+pub front_again : (bytes : List ℕ) (c : Command) → FitsCommand c → TextStandsAt bytes 0 (spelled c) → command_at bytes ≡ Ok (c, length (spelled c))
 unfolding spelled kind_at command_at
 front_again bytes c fits stands =
     let kind : ℕ = (said c.op).kind in
@@ -79,7 +76,7 @@ command_again c fits =
 
 -- a command stands in front, and the place is behind it
 pub record Fronts (bytes : List ℕ) (c : Command) (after : ℕ) : Type 0 where
-  pub stands : StandsAt bytes 0 (spelled c)
+  pub stands : TextStandsAt bytes 0 (spelled c)
   pub place : after ≡ length (spelled c)
   pub fits : FitsCommand c
 
@@ -89,7 +86,7 @@ kind_found k l false e h = absurd cc
 
 -- the kind that was read stands in front
 record IsFirst (bytes : List ℕ) (k : ℕ × ℕ) : Type 0 where
-  stands : StandsAt bytes 0 (field_number w8 k.0)
+  stands : TextStandsAt bytes 0 (field_number w8 k.0)
   place : k.1 ≡ 0 + length (field_number w8 k.0)
   known : 1 ≤ k.0
 
@@ -105,7 +102,7 @@ kind_spelled bytes k ib e =
     from_one n e = grind (arith, nat_tests, e)
 
 -- a kind, a moment and an operation, one behind the other, are a command
-put_together : (bytes : List ℕ) (k n : ℕ × ℕ) (op : Op) (after : ℕ) → IsFirst bytes k → StandsAt bytes k.1 (field_number w32 n.0)
+put_together : (bytes : List ℕ) (k n : ℕ × ℕ) (op : Op) (after : ℕ) → IsFirst bytes k → TextStandsAt bytes k.1 (field_number w32 n.0)
     → n.1 ≡ k.1 + length (field_number w32 n.0) → n.0 < 2 ^ 32 → Stands k.0 bytes n.1 op after
     → Fronts bytes (record { now = record { 0 = n.0 }; op = op }) after
 unfolding spelled
@@ -113,11 +110,11 @@ put_together bytes k n op after kind stands place small is =
     let first : List ℕ = field_number w8 (said op).kind in
     let second : List ℕ = field_number w32 n.0 in
     let third : List ℕ = (said op).fields in
-    let front : StandsAt bytes 0 first = subst (λ (m : ℕ). StandsAt bytes 0 (field_number w8 m)) (sym is.kind) kind.stands in
+    let front : TextStandsAt bytes 0 first = subst (λ (m : ℕ). TextStandsAt bytes 0 (field_number w8 m)) (sym is.kind) kind.stands in
     let start : k.1 ≡ 0 + length first = omega (arith, kind.place, length-field_u8 k.0, length-field_u8 (said op).kind) in
-    let middle : StandsAt bytes (0 + length first) second = subst (λ (m : ℕ). StandsAt bytes m second) start stands in
+    let middle : TextStandsAt bytes (0 + length first) second = subst (λ (m : ℕ). TextStandsAt bytes m second) start stands in
     let next : n.1 ≡ 0 + length first + length second = omega (arith, place, start) in
-    let back : StandsAt bytes (0 + length first + length second) third = subst (λ (m : ℕ). StandsAt bytes m third) next is.stands in
+    let back : TextStandsAt bytes (0 + length first + length second) third = subst (λ (m : ℕ). TextStandsAt bytes m third) next is.stands in
     record {
       stands = StandsAt-append bytes 0 first (second ++ third) front (StandsAt-append bytes (0 + length first) second third middle back);
       place = omega (arith, is.place, next, length-append first (second ++ third), length-append second third);

@@ -10,8 +10,7 @@ use Rattle.std.proofs.lemmas.Bool.Decides.{nat_tests}
 use Rattle.std.proofs.lemmas.List.Elements.{All-nil, All-cons}
 use Rattle.std.proofs.lemmas.List.Sums.{sum_by-append, sum_by-cons, sum_by_push}
 use Rattle.row_tables.specs.Table.{IsKeyOrder, keyed, IsRising}
-use Rattle.row_tables.proofs.Parts.{IsRising-push}
-use Rattle.row_tables.proofs.Rising.{first_of_both, second_of_both, below_rest, IsRising-tail}
+use Rattle.row_tables.proofs.Public.{IsRising-push, first_of_both, second_of_both, below_rest, IsRising-tail}
 use Rattle.bbs_model.specs.Limits.{most_wanted}
 use Rattle.bbs_codec.specs.Head.{Keeps, is_fresh, is_above, has_room, may_follow}
 use Rattle.bbs_codec.proofs.Pushes.{both_true, true_both, not_true, each-push, each-at, distinct-push, distinct-fresh}

@@ -1,13 +1,9 @@
 -- The laws of each format that commands have.
 use Rattle.std.proofs.Common.{ℕ, ◌≤◌, List, length, Option, Some, None, refl, arith}
-use Rattle.wire_fields.proofs.Instances.{IsField-instance, IsField-optional_instance}
-use Rattle.wire_fields.proofs.Lengths.{length-field_u16, length-field_u32, length-field_u64, length-field_name, length-field_truth, length-field_instance, length-no_name, length-some_name, length-no_instance, length-some_instance}
-use Rattle.wire_fields.proofs.Names.{IsField-name, IsField-optional_name}
-use Rattle.wire_fields.proofs.Numbers.{IsField-u16, IsField-u32, IsField-u64}
-use Rattle.wire_fields.proofs.Truths.{IsField-truth}
+use Rattle.wire_fields.proofs.Public.{IsField-instance, IsField-optional_instance, length-field_u16, length-field_u32, length-field_u64, length-field_name, length-field_truth, length-field_instance, length-no_name, length-some_name, length-no_instance, length-some_instance, IsField-name, IsField-optional_name, IsField-u16, IsField-u32, IsField-u64, IsField-truth}
 use Rattle.diego_names.specs.declared.instance.Instance.{Instance}
 use Rattle.bbs_codec.specs.Format.{number16, number32, number64, truth, name, optional_name, instance, optional_instance}
-use Rattle.bbs_codec.specs.Formats.{key, amounts, desired, update, work, held, removal, new_task, task_work, outcome, joining, renewal, joined}
+use Rattle.bbs_codec.specs.Formats.{key, amounts, desired, update_fields, work_fields, held, removal, new_task_fields, task_work_fields, outcome, joining, renewal, joined}
 use Rattle.bbs_codec.proofs.Records.{HasLaws, laws-seen, laws-both, laws-three}
 
 laws-number16 : HasLaws number16 2 2
@@ -66,10 +62,10 @@ laws-desired =
     (laws-three (laws-both laws-name laws-name) (laws-three laws-number32 laws-number32 laws-number32)
     (laws-three laws-optional_name laws-optional_name laws-number16))
 
-pub laws-update : HasLaws update 9 168
+pub laws-update : HasLaws update_fields 9 168
 laws-update = laws-three laws-name laws-number32 (laws-both laws-optional_name laws-number16)
 
-pub laws-work : HasLaws work 20 178
+pub laws-work : HasLaws work_fields 20 178
 laws-work = laws-three laws-key laws-instance laws-name
 
 pub laws-held : HasLaws held 18 97
@@ -78,10 +74,10 @@ laws-held = laws-both laws-key laws-instance
 pub laws-removal : HasLaws removal 7 98
 laws-removal = laws-both laws-key laws-optional_instance
 
-pub laws-new_task : HasLaws new_task 11 170
+pub laws-new_task : HasLaws new_task_fields 11 170
 laws-new_task = laws-three laws-name (laws-both laws-number32 laws-number32) laws-optional_name
 
-pub laws-task_work : HasLaws task_work 16 174
+pub laws-task_work : HasLaws task_work_fields 16 174
 laws-task_work = laws-three laws-name laws-instance laws-name
 
 pub laws-outcome : HasLaws outcome 15 94

@@ -6,20 +6,20 @@ use Rattle.std.proofs.lemmas.Bool.Decides.{nat_tests}
 use Rattle.std.proofs.lemmas.List.{drop_at}
 use Rattle.cell_records.specs.declared.cell_row.CellRow.{CellRow}
 use Rattle.diego_names.specs.Order.{name_order}
-use Rattle.diego_names.proofs.Ties.{IsKeyOrder-name_order}
+use Rattle.diego_names.proofs.Public.{IsKeyOrder-name_order}
 use Rattle.lrp_records.specs.Place.{place_of, place_order}
 use Rattle.lrp_records.specs.declared.actual.Actual.{Actual}
 use Rattle.lrp_records.specs.declared.desired.Desired.{Desired}
-use Rattle.lrp_records.proofs.Ties.{IsKeyOrder-place_order}
+use Rattle.lrp_records.proofs.Public.{IsKeyOrder-place_order}
 use Rattle.task_records.specs.declared.task.Task.{Task}
-use Rattle.wire_fields.specs.Laws.{StandsAt}
-use Rattle.wire_fields.proofs.Places.{StandsAt-front, StandsAt-back}
+use Rattle.wire_fields.specs.Laws.{TextStandsAt}
+use Rattle.wire_fields.proofs.Public.{StandsAt-front, StandsAt-back}
 use Rattle.bbs_model.specs.Limits.{most_transitions}
 use Rattle.bbs_model.specs.Tables.{process_of, task_name_of, cell_name_of}
 use Rattle.bbs_model.specs.declared.rows.Rows.{Rows}
 use Rattle.bbs_codec.specs.Formats.{desired}
 use Rattle.bbs_codec.specs.RowFormats.{actual, task_row, cell_row}
-use Rattle.bbs_codec.specs.Head.{Counts, counts, counts_of, counts_read, head_spelled, FitsHead, desired_keep, actual_keep, tasks_keep, cells_keep, counts_at, desired_at, actual_at, tasks_at, cells_at, head_ended, head_reading}
+use Rattle.bbs_codec.specs.Head.{Counts, counts, head_counts, counts_read, head_spelled, FitsHead, desired_keep, actual_keep, tasks_keep, cells_keep, counts_at, desired_at, actual_at, tasks_at, cells_at, head_ended, head_reading}
 use Rattle.bbs_codec.specs.declared.fault.CodecFault.{CodecFault}
 use Rattle.bbs_codec.specs.declared.fault.CodecFault.TheVariants.{BadField, Trailing}
 use Rattle.bbs_codec.proofs.Formats.{laws-desired}
@@ -29,12 +29,12 @@ use Rattle.bbs_codec.proofs.RowLaws.{laws-counts, laws-actual, laws-task_row, la
 use Rattle.bbs_codec.proofs.Tables.{desired_table, actual_table, tasks_table, cells_table}
 
 -- the parts of a head that is spelled in front
-parts_again : (rows : Rows) (bytes : List ℕ) → FitsHead rows → StandsAt bytes 0 (head_spelled rows) → Parts bytes rows (length (head_spelled rows))
+parts_again : (rows : Rows) (bytes : List ℕ) → FitsHead rows → TextStandsAt bytes 0 (head_spelled rows) → Parts bytes rows (length (head_spelled rows))
 unfolding head_spelled counts_at desired_at actual_at tasks_at cells_at
 parts_again rows bytes fits s0 =
     let next : ℕ = rows.next in
     let v = fits.valid in
-    let ct : List ℕ = counts.spelling (counts_of rows) in
+    let ct : List ℕ = counts.spelling (head_counts rows) in
     let dt : List ℕ = flat_map desired.spelling rows.desired in
     let at : List ℕ = flat_map actual.spelling rows.actual in
     let kt : List ℕ = flat_map task_row.spelling rows.tasks in
@@ -43,17 +43,17 @@ parts_again rows bytes fits s0 =
     let s2 = StandsAt-back bytes (0 + length ct) dt (at ++ (kt ++ rt)) s1 in
     let s3 = StandsAt-back bytes (0 + length ct + length dt) at (kt ++ rt) s2 in
     let s4 = StandsAt-back bytes (0 + length ct + length dt + length at) kt rt s3 in
-    let small : counts.Fits (counts_of rows) = (
+    let small : counts.Fits (head_counts rows) = (
       omega (arith, v.next),
       ((omega (arith, v.desired.few), omega (arith, v.actual.few)), (omega (arith, v.tasks.few), omega (arith, v.cells.few))),
     ) in
     let in_range : nat_le next most_transitions ≡ true = grind (arith, nat_tests, v.next) in
-    let c : Counts × ℕ = (counts_of rows, 0 + length ct) in
+    let c : Counts × ℕ = (head_counts rows, 0 + length ct) in
     let d : List Desired × ℕ = (rows.desired, 0 + length ct + length dt) in
     let a : List Actual × ℕ = (rows.actual, 0 + length ct + length dt + length at) in
     let t : List Task × ℕ = (rows.tasks, 0 + length ct + length dt + length at + length kt) in
     let r : List CellRow × ℕ = (rows.cells, 0 + length ct + length dt + length at + length kt + length rt) in
-    let e0 : counts_at bytes ≡ Ok c = ap counts_read (laws-counts.field.again bytes 0 (counts_of rows) small (StandsAt-front bytes 0 ct (dt ++ (at ++ (kt ++ rt))) s0))
+    let e0 : counts_at bytes ≡ Ok c = ap counts_read (laws-counts.field.again bytes 0 (head_counts rows) small (StandsAt-front bytes 0 ct (dt ++ (at ++ (kt ++ rt))) s0))
     ∙ ap (λ (b : Bool). cond b (Ok c) (Err (BadField 0))) in_range in
     let e1 : desired_at next (length rows.desired) bytes c.1 ≡ Ok d = table_again name_order process_of IsKeyOrder-name_order desired_keep next desired laws-desired.field rows.desired bytes c.1
     (desired_table next rows.desired v.desired) fits.desired (StandsAt-front bytes c.1 dt (at ++ (kt ++ rt)) s1) in

@@ -3,11 +3,11 @@ use Rattle.std.proofs.Common.{◌≡◌, ℕ, ◌≤◌, List, [], ◌++◌, len
 use Rattle.std.specs.List.{flat_map}
 use Rattle.std.proofs.lemmas.List.{nil_from_length}
 use Rattle.diego_names.specs.Order.{name_order}
-use Rattle.diego_names.proofs.Ties.{IsKeyOrder-name_order}
+use Rattle.diego_names.proofs.Public.{IsKeyOrder-name_order}
 use Rattle.lrp_records.specs.Place.{place_of, place_order}
-use Rattle.lrp_records.proofs.Ties.{IsKeyOrder-place_order}
-use Rattle.wire_fields.specs.Laws.{IsBytes, StandsAt}
-use Rattle.wire_fields.proofs.Places.{StandsAt-append}
+use Rattle.lrp_records.proofs.Public.{IsKeyOrder-place_order}
+use Rattle.wire_fields.specs.Laws.{IsBytes, TextStandsAt}
+use Rattle.wire_fields.proofs.Public.{StandsAt-append}
 use Rattle.bbs_model.specs.Tables.{process_of, task_name_of, cell_name_of}
 use Rattle.bbs_model.specs.Valid.{IsValid}
 use Rattle.bbs_model.specs.declared.rows.Rows.{Rows}
@@ -58,10 +58,10 @@ head_one bytes rows ib e =
     let at : List ℕ = flat_map actual.spelling p.a.0 in
     let kt : List ℕ = flat_map task_row.spelling p.t.0 in
     let rt : List ℕ = flat_map cell_row.spelling p.r.0 in
-    let s3 = StandsAt-append bytes p.a.1 kt rt t.stands (subst (λ (n : ℕ). StandsAt bytes n rt) t.place r.stands) in
-    let s2 = StandsAt-append bytes p.d.1 at (kt ++ rt) a.stands (subst (λ (n : ℕ). StandsAt bytes n (kt ++ rt)) a.place s3) in
-    let s1 = StandsAt-append bytes p.c.1 dt (at ++ (kt ++ rt)) d.stands (subst (λ (n : ℕ). StandsAt bytes n (at ++ (kt ++ rt))) d.place s2) in
-    let s0 = StandsAt-append bytes 0 ct (dt ++ (at ++ (kt ++ rt))) k.0 (subst (λ (n : ℕ). StandsAt bytes n (dt ++ (at ++ (kt ++ rt)))) k.1 s1) in
+    let s3 = StandsAt-append bytes p.a.1 kt rt t.stands (subst (λ (n : ℕ). TextStandsAt bytes n rt) t.place r.stands) in
+    let s2 = StandsAt-append bytes p.d.1 at (kt ++ rt) a.stands (subst (λ (n : ℕ). TextStandsAt bytes n (kt ++ rt)) a.place s3) in
+    let s1 = StandsAt-append bytes p.c.1 dt (at ++ (kt ++ rt)) d.stands (subst (λ (n : ℕ). TextStandsAt bytes n (at ++ (kt ++ rt))) d.place s2) in
+    let s0 = StandsAt-append bytes 0 ct (dt ++ (at ++ (kt ++ rt))) k.0 (subst (λ (n : ℕ). TextStandsAt bytes n (dt ++ (at ++ (kt ++ rt)))) k.1 s1) in
     let text : List ℕ = ct ++ (dt ++ (at ++ (kt ++ rt))) in
     let long : length bytes ≤ length text = omega (
       arith,

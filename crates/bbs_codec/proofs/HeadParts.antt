@@ -8,7 +8,7 @@ use Rattle.lrp_records.specs.declared.desired.Desired.{Desired}
 use Rattle.task_records.specs.declared.task.Task.{Task}
 use Rattle.wire_fields.specs.Reading.{◌>>=◌}
 use Rattle.wire_fields.specs.declared.fault.FieldFault.{FieldFault}
-use Rattle.wire_fields.proofs.Pairs.{bind_ok}
+use Rattle.wire_fields.proofs.Public.{bind_ok}
 use Rattle.bbs_model.specs.Limits.{most_transitions}
 use Rattle.bbs_model.specs.declared.rows.Rows.{Rows}
 use Rattle.bbs_codec.specs.Head.{Counts, counts_read, counts_at, desired_at, actual_at, tasks_at, cells_at, head_ended, head_reading}

@@ -11,7 +11,7 @@ use Rattle.bbs_model.specs.Tables.{process_of, task_name_of, cell_name_of}
 use Rattle.bbs_model.specs.declared.rows.Rows.{Rows}
 use Rattle.bbs_codec.specs.Formats.{key, amounts, desired}
 use Rattle.bbs_codec.specs.RowFormats.{Reads, holder, lrp_readers, task_readers, actual, task_row, cell_row}
-use Rattle.bbs_codec.specs.Head.{Counts, counts, counts_read, desired_keep, actual_keep, tasks_keep, cells_keep, may_follow, row_kept, rows_at, counts_at, desired_at, actual_at, tasks_at, cells_at, head_ended, head_reading, fault_place}
+use Rattle.bbs_codec.specs.Head.{Counts, counts, counts_read, desired_keep, actual_keep, tasks_keep, cells_keep, may_follow, row_kept, head_rows_at, counts_at, desired_at, actual_at, tasks_at, cells_at, head_ended, head_reading, fault_place}
 use Rattle.bbs_codec.specs.declared.fault.CodecFault.{CodecFault}
 use Rattle.bbs_codec.specs.declared.fault.CodecFault.TheVariants.{BadField, Trailing}
 use Rattle.bbs_codec.proofs.Cases.{none_at}
@@ -89,10 +89,10 @@ row_lies follows bytes done (Ok x) le h =
 row_lies follows bytes done (Err fault) le h = le
 
 rows_lie : {X : Type 0} (read : Reads X) (follows : List X → X → Bool) → IsWithin read → (n : ℕ) (bytes : List ℕ) (done : List X × ℕ) → done.1 ≤ length bytes
-    → Lies (length bytes) (EndsIn bytes) (rows_at read follows n bytes done)
+    → Lies (length bytes) (EndsIn bytes) (head_rows_at read follows n bytes done)
 rows_lie read follows is zero bytes done le = le
 rows_lie read follows is (suc n) bytes done le =
-    bind_lies (length bytes) (EndsIn bytes) (EndsIn bytes) (row_kept follows done (read bytes done.1)) (λ more. rows_at read follows n bytes more)
+    bind_lies (length bytes) (EndsIn bytes) (EndsIn bytes) (row_kept follows done (read bytes done.1)) (λ more. head_rows_at read follows n bytes more)
     (row_lies follows bytes done (read bytes done.1) le (is.ends bytes done.1 le)) (λ more h. rows_lie read follows is n bytes more h)
 
 counts_lie : (bytes : List ℕ) (read : Result (Counts × ℕ) FieldFault) → IfOk read (λ r. r.1 ≤ length bytes) → Lies (length bytes) (EndsIn bytes) (counts_read read)

@@ -1,3 +1,4 @@
+pub mod Public
 pub mod Records
 pub mod Formats
 pub mod OpLaws

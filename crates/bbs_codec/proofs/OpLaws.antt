@@ -2,7 +2,7 @@
 use Rattle.std.proofs.Common.{◌≡◌, ℕ, zero, suc, ◌+◌, ◌-◌, List, [], ◌∷◌, length, Ok, Err, refl, sym, ap, subst, ◌∙◌, ◌≤◌, true, arith}
 use Rattle.std.specs.Prelude.{slice_index_or}
 use Rattle.wire_fields.specs.declared.fault.FieldFault.TheVariants.{BadField}
-use Rattle.wire_fields.specs.Laws.{IsBytes, StandsAt}
+use Rattle.wire_fields.specs.Laws.{IsBytes, TextStandsAt}
 use Rattle.bbs_model.specs.declared.command.Op.{Op}
 use Rattle.bbs_model.specs.declared.command.Op.TheVariants.{Desire, Update, Undesire, Make, Claim, Start, Crash, Unclaim, Restart, Remove, PlaceFail, Evacuate, DropEvacuating, NewTask, StartTask, CompleteTask, CancelTask, ResolveTask, DeleteTask, KickTask, ExpireTask, Join, Renew, Drain, Vanish}
 use Rattle.bbs_codec.specs.Command.{is_kind}
@@ -14,7 +14,7 @@ use Rattle.bbs_codec.proofs.Formats.{laws-name, laws-key, laws-desired, laws-upd
 -- the operation is of this kind, its fields stand at the place, and the other place is behind them
 pub record Stands (n : ℕ) (bytes : List ℕ) (at : ℕ) (op : Op) (after : ℕ) : Type 0 where
   pub kind : (said op).kind ≡ n
-  pub stands : StandsAt bytes at (said op).fields
+  pub stands : TextStandsAt bytes at (said op).fields
   pub place : after ≡ at + length (said op).fields
   pub fits : (said op).Fits
 
@@ -31,7 +31,7 @@ IsKind-seen {X} {n} {f = f} make laws says_so = record {
       let said-is : says n f x.value ≡ said op = sym (says_so x.value) ∙ ap said x.made in
       record {
         kind = sym (ap (λ (s : Said). s.kind) said-is);
-        stands = subst (λ (s : Said). StandsAt bytes at s.fields) said-is found.0;
+        stands = subst (λ (s : Said). TextStandsAt bytes at s.fields) said-is found.0;
         place = subst (λ (s : Said). after ≡ at + length s.fields) said-is found.1;
         fits = subst (λ (s : Said). s.Fits) said-is found.2;
       };
@@ -140,12 +140,12 @@ op_spelled n from_one =
 -- an operation that is spelled at a place is read there, and its fields take at least and at most so many bytes
 pub record IsOp (op : Op) : Type 0 where
   pub kind : is_kind (said op).kind ≡ true
-  pub again : (bytes : List ℕ) (at : ℕ) → (said op).Fits → StandsAt bytes at (said op).fields → op_at (said op).kind bytes at ≡ Ok (op, at + length (said op).fields)
+  pub again : (bytes : List ℕ) (at : ℕ) → (said op).Fits → TextStandsAt bytes at (said op).fields → op_at (said op).kind bytes at ≡ Ok (op, at + length (said op).fields)
   pub least : (said op).Fits → 2 ≤ length (said op).fields
   pub most : (said op).Fits → length (said op).fields ≤ 338
 
 again : {X : Type 0} {low high : ℕ} {f : Format X} (make : X → Op) (x : X) → HasLaws f low high → (bytes : List ℕ) (at : ℕ)
-    → f.Fits x → StandsAt bytes at (f.spelling x) → seen_at make f.read bytes at ≡ Ok (make x, at + length (f.spelling x))
+    → f.Fits x → TextStandsAt bytes at (f.spelling x) → seen_at make f.read bytes at ≡ Ok (make x, at + length (f.spelling x))
 again {f = f} make x laws bytes at fits stands =
     seen_again make f.read bytes at x (at + length (f.spelling x)) (laws.field.again bytes at x fits stands)
 

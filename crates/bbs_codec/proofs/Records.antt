@@ -1,10 +1,9 @@
 -- The laws of a field hold of a value seen otherwise, and of two and three values.
 use Rattle.std.proofs.Common.{◌≡◌, ℕ, ◌+◌, List, length, Result, Ok, refl, sym, ap, subst, ◌∙◌, ◌≤◌, arith, length-append}
 use Rattle.wire_fields.specs.declared.fault.FieldFault.{FieldFault}
-use Rattle.wire_fields.specs.Laws.{StandsAt}
+use Rattle.wire_fields.specs.Laws.{TextStandsAt}
 use Rattle.wire_fields.specs.Reading.{◌>>=◌}
-use Rattle.wire_fields.proofs.Fronts.{IsRead, IsRead-written, ok_is}
-use Rattle.wire_fields.proofs.Pairs.{bind_ok, IsField-pair}
+use Rattle.wire_fields.proofs.Public.{IsRead, IsRead-written, ok_is, bind_ok, IsField-pair}
 use Rattle.bbs_codec.specs.Format.{Format, IsFormat, seen_at, both, three, seen}
 
 -- a value that was read, where the other one was read
@@ -54,7 +53,7 @@ IsFormat-seen {X} {Y} {f} {make} {parts} same is =
           let x = seen_found make f.read bytes at y after e in
           let x-is : x.value ≡ parts y = sym (same.parted x.value) ∙ ap parts x.made in
           let found = is.spelled bytes at x.value after ib x.is_read in (
-            subst (λ (v : X). StandsAt bytes at (f.spelling v)) x-is found.0,
+            subst (λ (v : X). TextStandsAt bytes at (f.spelling v)) x-is found.0,
             subst (λ (v : X). after ≡ at + length (f.spelling v)) x-is found.1,
             subst f.Fits x-is found.2,
           );

@@ -3,7 +3,7 @@ use Rattle.std.proofs.Common.{◌≡◌, ℕ, ◌≤◌, length, zero, suc, true
 use Rattle.std.specs.Prelude.{slice_index_or, ◌++◌}
 use Rattle.std.specs.Int.{w32, w64}
 use Rattle.wire_fields.specs.Field.{field_number}
-use Rattle.wire_fields.proofs.Lengths.{length-field_u32, length-field_u64}
+use Rattle.wire_fields.proofs.Public.{length-field_u32, length-field_u64}
 use Rattle.cell_records.specs.declared.cell_row.CellRow.{CellRow}
 use Rattle.lrp_records.specs.declared.actual.Actual.{Actual}
 use Rattle.lrp_records.specs.declared.desired.Desired.{Desired}

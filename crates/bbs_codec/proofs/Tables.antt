@@ -17,9 +17,10 @@ use Rattle.lrp_records.specs.declared.state.LrpState.TheVariants as lrp
 use Rattle.task_records.specs.declared.task.Task.{Task}
 use Rattle.bbs_model.specs.Limits.{most_instances}
 use Rattle.bbs_model.specs.Tables.{process_of, task_name_of, cell_name_of}
-use Rattle.bbs_model.specs.Valid.{HasFewInstances, AreDesired, IsHeldBefore, IsRunning, SuitsPresence, IsActualRow, AreActual, runner_of, IsTaskRow, AreTasks, HasJoined, AreCells}
+use Rattle.bbs_model.specs.Valid.{HasFewInstances, AreDesired, IsHeldBefore, IsRunning, SuitsPresence, IsActualRow, AreActual, IsTaskRow, AreTasks, HasJoined, AreCells}
+use Rattle.task_records.specs.States.{runner_of}
 use Rattle.bbs_model.proofs.Public.{each_weaker}
-use Rattle.bbs_codec.specs.Head.{is_held_before, is_running, suits_presence, desired_keep, actual_keep, tasks_keep, cells_keep}
+use Rattle.bbs_codec.specs.Head.{is_held_before, row_is_running, suits_presence, desired_keep, actual_keep, tasks_keep, cells_keep}
 use Rattle.bbs_codec.proofs.Followers.{IsTable}
 use Rattle.bbs_codec.proofs.Pushes.{both_true, true_both, not_true}
 
@@ -47,13 +48,13 @@ is_held : (next : ℕ) (o : Option Instance) → IsHeldBefore next o → is_held
 is_held next None h = refl
 is_held next (Some container) h = is_below container.epoch next h
 
-running : (state : LrpState) → is_running state ≡ true → IsRunning state
+running : (state : LrpState) → row_is_running state ≡ true → IsRunning state
 running lrp.Unclaimed e = absurd cc
 running (lrp.Claimed container cell) e = absurd cc
 running (lrp.Running container cell) e = tt
 running lrp.Crashed e = absurd cc
 
-runs : (state : LrpState) → IsRunning state → is_running state ≡ true
+runs : (state : LrpState) → IsRunning state → row_is_running state ≡ true
 runs lrp.Unclaimed h = absurd h
 runs (lrp.Claimed container cell) h = absurd h
 runs (lrp.Running container cell) h = refl
@@ -62,12 +63,12 @@ runs lrp.Crashed h = absurd h
 suits : (p : Presence) (row : Actual) → suits_presence p row ≡ true → SuitsPresence p row
 suits Ordinary row e = tt
 suits Evacuating row e =
-    let parts = both_true (is_running row.state) (not row.error) e in
+    let parts = both_true (row_is_running row.state) (not row.error) e in
     (running row.state parts.0, not_true row.error parts.1)
 
 does_suit : (p : Presence) (row : Actual) → SuitsPresence p row → suits_presence p row ≡ true
 does_suit Ordinary row h = refl
-does_suit Evacuating row h = true_both (is_running row.state) (not row.error) (runs row.state h.0) (ap not h.1)
+does_suit Evacuating row h = true_both (row_is_running row.state) (not row.error) (runs row.state h.0) (ap not h.1)
 
 pub AreDesired-table : (next : ℕ) (rows : List Desired) → IsTable name_order process_of desired_keep next rows → AreDesired rows
 AreDesired-table next rows t = record {

@@ -6,7 +6,7 @@ use Rattle.std.specs.List.{list_all}
 use Rattle.std.proofs.lemmas.Bool.{ltb-false}
 use Rattle.diego_names.specs.Name.{is_name_byte}
 use Rattle.wire_fields.specs.Front.{Front, Holds, Ends, Bad, front_map, number_front, name_bytes_front, name_front, optional_name_front, truth_front}
-use Rattle.wire_fields.specs.Reading.{◌>>=◌, placed, number_at, name_at, optional_name_at, truth_at, instance_at}
+use Rattle.wire_fields.specs.Reading.{◌>>=◌, field_placed, number_at, name_at, optional_name_at, truth_at, instance_at}
 use Rattle.wire_fields.specs.declared.fault.FieldFault.{FieldFault}
 use Rattle.bbs_codec.specs.Format.{seen_at, both_at}
 use Rattle.bbs_codec.specs.RowFormats.{Reads, alone, case_at}
@@ -63,7 +63,7 @@ pub record IsWithin {X : Type 0} (read : Reads X) : Type 0 where
   pub ends : (bytes : List ℕ) (at : ℕ) → at ≤ length bytes → IfOk (read bytes at) (λ r. r.1 ≤ length bytes)
 
 placed_within : {X : Type 0} (bytes : List ℕ) (at : ℕ) (front : Front X) → at ≤ length bytes → TakesAtMost (length (drop at bytes)) front
-    → IfOk (placed bytes at front) (λ r. r.1 ≤ length bytes)
+    → IfOk (field_placed bytes at front) (λ r. r.1 ≤ length bytes)
 placed_within bytes at (Holds x n) le most = omega (arith, length-drop at bytes)
 placed_within bytes at Ends le most = tt
 placed_within bytes at Bad le most = tt

@@ -44,12 +44,12 @@ desired =
     (three (both name name) (three number32 number32 number32) (three optional_name optional_name number16))
 
 -- process, instances, and a route with its port
-abbrev pub update : Format (List ℕ × ℕ × (Option (List ℕ) × ℕ))
-update = three name number32 (both optional_name number16)
+abbrev pub update_fields : Format (List ℕ × ℕ × (Option (List ℕ) × ℕ))
+update_fields = three name number32 (both optional_name number16)
 
 -- an instance's key, its container and the cell of that
-abbrev pub work : Format (Key × Instance × List ℕ)
-work = three key instance name
+abbrev pub work_fields : Format (Key × Instance × List ℕ)
+work_fields = three key instance name
 
 -- an instance's key, and its container
 abbrev pub held : Format (Key × Instance)
@@ -60,12 +60,12 @@ abbrev pub removal : Format (Key × Option Instance)
 removal = both key optional_instance
 
 -- a task, its memory and disk, and its tag
-abbrev pub new_task : Format (List ℕ × (ℕ × ℕ) × Option (List ℕ))
-new_task = three name (both number32 number32) optional_name
+abbrev pub new_task_fields : Format (List ℕ × (ℕ × ℕ) × Option (List ℕ))
+new_task_fields = three name (both number32 number32) optional_name
 
 -- a task, its container and the cell of that
-abbrev pub task_work : Format (List ℕ × Instance × List ℕ)
-task_work = three name instance name
+abbrev pub task_work_fields : Format (List ℕ × Instance × List ℕ)
+task_work_fields = three name instance name
 
 -- a task, its container, and whether it failed
 abbrev pub outcome : Format (List ℕ × Instance × Bool)

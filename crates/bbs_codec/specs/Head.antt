@@ -19,7 +19,8 @@ use Rattle.wire_fields.specs.Reading.{◌>>=◌}
 use Rattle.wire_fields.specs.declared.fault.FieldFault.{FieldFault}
 use Rattle.bbs_model.specs.Limits.{most_processes, most_instances, most_wanted, most_actual, most_tasks, most_cells, most_transitions}
 use Rattle.bbs_model.specs.Tables.{process_of, task_name_of, cell_name_of}
-use Rattle.bbs_model.specs.Valid.{IsValid, runner_of}
+use Rattle.bbs_model.specs.Valid.{IsValid}
+use Rattle.task_records.specs.States.{runner_of}
 use Rattle.bbs_model.specs.declared.rows.Rows.{Rows}
 use Rattle.bbs_codec.specs.Format.{Format, both, number32, number64}
 use Rattle.bbs_codec.specs.Formats.{desired}
@@ -36,13 +37,13 @@ abbrev pub counts : Format Counts
 counts = both number64 (both (both number32 number32) (both number32 number32))
 
 -- the counts of these rows
-abbrev pub counts_of : Rows → Counts
-counts_of rows = (rows.next, ((length rows.desired, length rows.actual), (length rows.tasks, length rows.cells)))
+abbrev pub head_counts : Rows → Counts
+head_counts rows = (rows.next, ((length rows.desired, length rows.actual), (length rows.tasks, length rows.cells)))
 
 -- the rows in bytes: `next` and the counts, and then the rows of each table
 unfoldable pub head_spelled : Rows → List ℕ
 head_spelled rows =
-    counts.spelling (counts_of rows)
+    counts.spelling (head_counts rows)
     ++ (flat_map desired.spelling rows.desired
     ++ (flat_map actual.spelling rows.actual
     ++ (flat_map task_row.spelling rows.tasks
@@ -95,16 +96,16 @@ is_held_before next None = true
 is_held_before next (Some container) = nat_lt container.epoch next
 
 -- the state is RUNNING
-abbrev pub is_running : LrpState → Bool
-is_running lrp.Unclaimed = false
-is_running (lrp.Claimed container cell) = false
-is_running (lrp.Running container cell) = true
-is_running lrp.Crashed = false
+abbrev pub row_is_running : LrpState → Bool
+row_is_running lrp.Unclaimed = false
+row_is_running (lrp.Claimed container cell) = false
+row_is_running (lrp.Running container cell) = true
+row_is_running lrp.Crashed = false
 
 -- an EVACUATING row is RUNNING, and has no error
 abbrev pub suits_presence : Presence → Actual → Bool
 suits_presence Ordinary row = true
-suits_presence Evacuating row = is_running row.state && not row.error
+suits_presence Evacuating row = row_is_running row.state && not row.error
 
 -- desired rows
 abbrev pub desired_keep : Keeps Desired
@@ -138,10 +139,10 @@ row_kept follows done (Ok x) = if follows done.0 x.0 then Ok (done.0 ++ x.0 ∷ 
 row_kept follows done (Err fault) = Err (BadField done.1)
 
 -- so many rows more
-abbrev pub rows_at : {X : Type 0} → Reads X → (List X → X → Bool) → ℕ → List ℕ → List X × ℕ → Result (List X × ℕ) CodecFault
-rows_at read follows zero bytes done = Ok done
-rows_at read follows (suc n) bytes done =
-    row_kept follows done (read bytes done.1) >>= λ more. rows_at read follows n bytes more
+abbrev pub head_rows_at : {X : Type 0} → Reads X → (List X → X → Bool) → ℕ → List ℕ → List X × ℕ → Result (List X × ℕ) CodecFault
+head_rows_at read follows zero bytes done = Ok done
+head_rows_at read follows (suc n) bytes done =
+    row_kept follows done (read bytes done.1) >>= λ more. head_rows_at read follows n bytes more
 
 -- `next` and the counts; a fault of any of them is told at the front
 abbrev pub counts_read : Result (Counts × ℕ) FieldFault → Result (Counts × ℕ) CodecFault
@@ -158,19 +159,19 @@ Tables X = ℕ → ℕ → List ℕ → ℕ → Result (List X × ℕ) CodecFaul
 
 -- its desired rows
 unfoldable pub desired_at : Tables Desired
-desired_at next n bytes at = rows_at desired.read (may_follow name_order process_of desired_keep next) n bytes ([], at)
+desired_at next n bytes at = head_rows_at desired.read (may_follow name_order process_of desired_keep next) n bytes ([], at)
 
 -- its actual rows
 unfoldable pub actual_at : Tables Actual
-actual_at next n bytes at = rows_at actual.read (may_follow place_order place_of actual_keep next) n bytes ([], at)
+actual_at next n bytes at = head_rows_at actual.read (may_follow place_order place_of actual_keep next) n bytes ([], at)
 
 -- its tasks
 unfoldable pub tasks_at : Tables Task
-tasks_at next n bytes at = rows_at task_row.read (may_follow name_order task_name_of tasks_keep next) n bytes ([], at)
+tasks_at next n bytes at = head_rows_at task_row.read (may_follow name_order task_name_of tasks_keep next) n bytes ([], at)
 
 -- its cells
 unfoldable pub cells_at : Tables CellRow
-cells_at next n bytes at = rows_at cell_row.read (may_follow name_order cell_name_of cells_keep next) n bytes ([], at)
+cells_at next n bytes at = head_rows_at cell_row.read (may_follow name_order cell_name_of cells_keep next) n bytes ([], at)
 
 -- the rows that end where the bytes do
 abbrev pub head_ended : List ℕ → Rows → ℕ → Result Rows CodecFault

@@ -5,7 +5,7 @@ use Rattle.wire_fields.specs.declared.fault.FieldFault.TheVariants.{BadField}
 use Rattle.bbs_model.specs.declared.command.Op.{Op}
 use Rattle.bbs_model.specs.declared.command.Op.TheVariants.{Desire, Update, Undesire, Make, Claim, Start, Crash, Unclaim, Restart, Remove, PlaceFail, Evacuate, DropEvacuating, NewTask, StartTask, CompleteTask, CancelTask, ResolveTask, DeleteTask, KickTask, ExpireTask, Join, Renew, Drain, Vanish}
 use Rattle.bbs_codec.specs.Format.{Format, seen_at, name}
-use Rattle.bbs_codec.specs.Formats.{key, desired, update, work, held, removal, new_task, task_work, outcome, joining, renewal, joined}
+use Rattle.bbs_codec.specs.Formats.{key, desired, update_fields, work_fields, held, removal, new_task_fields, task_work_fields, outcome, joining, renewal, joined}
 
 -- the number of its kind, its fields in bytes, and that they have a spelling
 pub record Said : Type 1 where
@@ -20,11 +20,11 @@ says kind format x = record { kind = kind; fields = format.spelling x; Fits = fo
 -- what an operation says in bytes
 abbrev pub said : Op → Said
 said (Desire d) = says 1 desired d
-said (Update process instances route port) = says 2 update (process, instances, (route, port))
+said (Update process instances route port) = says 2 update_fields (process, instances, (route, port))
 said (Undesire process) = says 3 name process
 said (Make k) = says 4 key k
-said (Claim k container cell) = says 5 work (k, container, cell)
-said (Start k container cell) = says 6 work (k, container, cell)
+said (Claim k container cell) = says 5 work_fields (k, container, cell)
+said (Start k container cell) = says 6 work_fields (k, container, cell)
 said (Crash k container) = says 7 held (k, container)
 said (Unclaim k container) = says 8 held (k, container)
 said (Restart k) = says 9 key k
@@ -32,8 +32,8 @@ said (Remove k container) = says 10 removal (k, container)
 said (PlaceFail k) = says 11 key k
 said (Evacuate k container) = says 12 held (k, container)
 said (DropEvacuating k container) = says 13 held (k, container)
-said (NewTask task memory disk tag) = says 14 new_task (task, (memory, disk), tag)
-said (StartTask task container cell) = says 15 task_work (task, container, cell)
+said (NewTask task memory disk tag) = says 14 new_task_fields (task, (memory, disk), tag)
+said (StartTask task container cell) = says 15 task_work_fields (task, container, cell)
 said (CompleteTask task container failed) = says 16 outcome (task, container, failed)
 said (CancelTask task) = says 17 name task
 said (ResolveTask task) = says 18 name task
@@ -53,11 +53,11 @@ Reader = List ℕ → ℕ → Result (Op × ℕ) FieldFault
 abbrev pub readers : List Reader
 readers =
     seen_at Desire desired.read
-    ∷ seen_at (λ p. Update p.0 p.1 p.2.0 p.2.1) update.read
+    ∷ seen_at (λ p. Update p.0 p.1 p.2.0 p.2.1) update_fields.read
     ∷ seen_at Undesire name.read
     ∷ seen_at Make key.read
-    ∷ seen_at (λ p. Claim p.0 p.1 p.2) work.read
-    ∷ seen_at (λ p. Start p.0 p.1 p.2) work.read
+    ∷ seen_at (λ p. Claim p.0 p.1 p.2) work_fields.read
+    ∷ seen_at (λ p. Start p.0 p.1 p.2) work_fields.read
     ∷ seen_at (λ p. Crash p.0 p.1) held.read
     ∷ seen_at (λ p. Unclaim p.0 p.1) held.read
     ∷ seen_at Restart key.read
@@ -65,8 +65,8 @@ readers =
     ∷ seen_at PlaceFail key.read
     ∷ seen_at (λ p. Evacuate p.0 p.1) held.read
     ∷ seen_at (λ p. DropEvacuating p.0 p.1) held.read
-    ∷ seen_at (λ p. NewTask p.0 p.1.0 p.1.1 p.2) new_task.read
-    ∷ seen_at (λ p. StartTask p.0 p.1 p.2) task_work.read
+    ∷ seen_at (λ p. NewTask p.0 p.1.0 p.1.1 p.2) new_task_fields.read
+    ∷ seen_at (λ p. StartTask p.0 p.1 p.2) task_work_fields.read
     ∷ seen_at (λ p. CompleteTask p.0 p.1 p.2) outcome.read
     ∷ seen_at CancelTask name.read
     ∷ seen_at ResolveTask name.read

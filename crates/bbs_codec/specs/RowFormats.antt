@@ -164,8 +164,8 @@ abbrev pub CellParts : Type 0
 CellParts = (List ℕ × List ℕ × Option (List ℕ)) × Amounts × (ℕ × ℕ × Bool)
 
 -- the row of these parts
-abbrev pub cell_of : CellParts → CellRow
-cell_of p = record {
+abbrev pub cell_from : CellParts → CellRow
+cell_from p = record {
   cell = p.0.0;
   zone = p.0.1;
   tag = p.0.2;
@@ -182,5 +182,5 @@ cell_parts c = ((c.cell, c.zone, c.tag), c.totals, (c.epoch, c.until, c.evacuati
 -- the row of a cell
 abbrev pub cell_row : Format CellRow
 cell_row =
-    seen cell_of cell_parts
+    seen cell_from cell_parts
     (three (three name name optional_name) amounts (three number64 number64 truth))

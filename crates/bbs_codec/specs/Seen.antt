@@ -23,11 +23,11 @@ pub record IsSeen {K X : Type 0} (order : K → K → Ordering) (key : X → K) 
   pub stamped : (n : ℕ) → contains nat_cmp stamps n ≡ is_stamped keeps.stamp n rows
 
 -- the fault that a reader tells is the one told; want of memory says nothing of what is read
-abbrev pub Blames : {X : Type 0} → HeadFault → Result X CodecFault → Type 0
-Blames (Codec fault) told = told ≡ Err fault
-Blames OutOfMemory told = Unit {0}
+abbrev pub BlamesHead : {X : Type 0} → HeadFault → Result X CodecFault → Type 0
+BlamesHead (Codec fault) told = told ≡ Err fault
+BlamesHead OutOfMemory told = Unit {0}
 
 -- an answer of a reader: what is told is the value, or the fault
-abbrev pub Tells : {X : Type 0} → Result X HeadFault → Result X CodecFault → Type 0
-Tells (Ok x) told = told ≡ Ok x
-Tells (Err fault) told = Blames fault told
+abbrev pub TellsHead : {X : Type 0} → Result X HeadFault → Result X CodecFault → Type 0
+TellsHead (Ok x) told = told ≡ Ok x
+TellsHead (Err fault) told = BlamesHead fault told

@@ -1,6 +1,6 @@
 //! Values that stand in bytes as fields, one behind the other.
 ghost use Rattle.std.specs.Prelude.{◌≡◌, ◌+◌, ◌≤◌, length, IfOk};
-ghost use Rattle.wire_fields.specs.Field.{Puts};
+ghost use Rattle.wire_fields.specs.Field.{PutsText};
 ghost use Rattle.bbs_codec.specs.Format.{Format};
 
 mod board_rows;
@@ -25,7 +25,7 @@ pub trait Fields: Copy {
     /// Writes the value at a place, where there is room, and gives the place after it.
     fn put_at(self, out: &mut [u8], at: usize) -> usize
         requires { at + length (format.spelling self) ≤ length out.old }
-        ensures { Puts out.old at (format.spelling self) out.new result };
+        ensures { PutsText out.old at (format.spelling self) out.new result };
 
     /// Every value has a spelling, and this shows that it does. It does nothing.
     fn fits(self)

@@ -1,6 +1,6 @@
 //! A command is written in bytes.
 ghost use Rattle.std.specs.Prelude.{◌≡◌, ◌≤◌, length, take, drop};
-ghost use Rattle.wire_fields.specs.Field.{Puts};
+ghost use Rattle.wire_fields.specs.Field.{PutsText};
 ghost use Rattle.bbs_codec.specs.Command.{FitsCommand, spelled};
 
 use crate::ops::{kind_of, put_op};
@@ -10,7 +10,7 @@ use wire_fields::{put_u8, put_u32};
 #[tactic(auto, using(wire_fields::proofs::Rules::lengths))]
 fn put_command(out: &mut [u8], command: &Command) -> usize
     requires { length out.old ≡ 512 }
-    ensures bytes { Puts out.old 0 (spelled command.entry.now) out.new result }
+    ensures bytes { PutsText out.old 0 (spelled command.entry.now) out.new result }
     ensures fits { FitsCommand command.entry.now }
 {
     let at = put_u8(out, 0, kind_of(&command.op));

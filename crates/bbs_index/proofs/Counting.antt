@@ -1,10 +1,10 @@
 -- The count of wanted instances follows a put and a removal.
 use Rattle.std.proofs.Common.{◌≡◌, ℕ, ◌+◌, ◌-◌, ◌≤◌, List, arith}
 use Rattle.diego_names.specs.Order.{name_order}
-use Rattle.diego_names.proofs.Ties.{IsKeyOrder-name_order}
+use Rattle.diego_names.proofs.Public.{IsKeyOrder-name_order}
 use Rattle.lrp_records.specs.declared.desired.Desired.{Desired}
 use Rattle.row_tables.specs.Table.{find_row, put_row, without_row, IsRising}
-use Rattle.row_tables.proofs.Sums.{sum_by-put_row, sum_by-without_row}
+use Rattle.row_tables.proofs.Public.{sum_by-put_row, sum_by-without_row}
 use Rattle.bbs_model.specs.Tables.{process_of}
 use Rattle.bbs_index.specs.Index.{instances_in, instances_of}
 

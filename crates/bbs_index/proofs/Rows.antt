@@ -7,8 +7,7 @@ use Rattle.std.specs.List.{Contains}
 use Rattle.std.specs.Ordering.{ordering_reverse}
 use Rattle.std.proofs.lemmas.List.Elements.{All-contains}
 use Rattle.row_tables.specs.Table.{IsKeyOrder, put_row, IsRising}
-use Rattle.row_tables.proofs.Elements.{All-above}
-use Rattle.row_tables.proofs.Rising.{below_rest, IsRising-tail}
+use Rattle.row_tables.proofs.Public.{All-above, below_rest, IsRising-tail}
 
 module _ {K X : Type 0} (R : K → K → Ordering) (key : X → K) (o : IsKeyOrder R) where
   rows_before : (x : X) (xs : List X) (i : ℕ) → IsRising R key xs → i < length xs → x ≡ get_or xs i x → put_row R key x (take i xs) ≡ take (suc i) xs

@@ -7,10 +7,7 @@ use Rattle.std.specs.Map.{lookup}
 use Rattle.std.specs.Option.{unwrap_or}
 use Rattle.std.specs.Ordering.{is_eq, is_lt, eq_by_cmp}
 use Rattle.row_tables.specs.Table.{IsKeyOrder, find_row, put_row, without_row, keyed, IsRising}
-use Rattle.row_tables.proofs.Keyed.{less_from_test, ties_itself, same_from_tie, find_row-keyed}
-use Rattle.row_tables.proofs.Lengths.{length-put_row, length-without_row}
-use Rattle.row_tables.proofs.Lookups.{find_row-put_row, find_row-without_row, same_rows}
-use Rattle.row_tables.proofs.Rising.{first_of_both, second_of_both, IsRising-put_row, IsRising-without_row}
+use Rattle.row_tables.proofs.Public.{less_from_test, ties_itself, same_from_tie, find_row-keyed, length-put_row, length-without_row, find_row-put_row, find_row-without_row, same_rows, first_of_both, second_of_both, IsRising-put_row, IsRising-without_row}
 use Rattle.bbs_index.specs.Shelf.{in_order, table_of, IsShelf}
 
 module _ {K X : Type 0} (R : K → K → Ordering) (o : IsKeyOrder R) where

@@ -6,11 +6,10 @@ use Rattle.std.specs.Option.{option_map_or}
 use Rattle.diego_names.specs.Order.{name_order}
 use Rattle.diego_names.specs.declared.key.Key.{Key}
 use Rattle.lrp_records.specs.Place.{place_of, place_order}
+use Rattle.lrp_records.specs.States.{cell_of}
 use Rattle.lrp_records.specs.declared.actual.Actual.{Actual}
 use Rattle.lrp_records.specs.declared.desired.Desired.{Desired}
 use Rattle.lrp_records.specs.declared.presence.Presence.{Presence}
-use Rattle.lrp_records.specs.declared.state.LrpState.{LrpState}
-use Rattle.lrp_records.specs.declared.state.LrpState.TheVariants as lrp
 use Rattle.row_tables.specs.Table.{IsRising}
 use Rattle.bbs_model.specs.Tables.{process_of, task_name_of, cell_name_of}
 use Rattle.bbs_model.specs.declared.rows.Rows.{Rows}
@@ -31,13 +30,6 @@ instances_in rows = sum_by (λ (d : Desired). d.instances) rows
 -- the instances that a row wants, if there is one
 abbrev pub instances_of : Option Desired → ℕ
 instances_of row = option_map_or (λ (d : Desired). d.instances) row 0
-
--- the cell on which a container has a row in that state
-abbrev pub cell_of : LrpState → Option (List ℕ)
-cell_of lrp.Unclaimed = None
-cell_of (lrp.Claimed instance cell) = Some cell
-cell_of (lrp.Running instance cell) = Some cell
-cell_of lrp.Crashed = None
 
 -- a container on that cell has the row
 abbrev pub is_on : List ℕ → Actual → Bool

@@ -1,27 +1,17 @@
 //! Which rows the containers of a cell have.
 ghost use Rattle.std.specs.Prelude.{◌≡◌, IfOk};
 ghost use Rattle.std.specs.List.{filter_map};
-ghost use Rattle.bbs_index.specs.Index.{cell_of, place_on};
+ghost use Rattle.bbs_index.specs.Index.{place_on};
 
 use diego_names::{Key, Name};
-use lrp_records::{Actual, LrpState, Presence};
+use lrp_records::{Actual, Presence};
 use std::alloc::{AllocError, Global};
-
-// The cell on which a container has a row in that state.
-fn cell_of(state: &LrpState) -> Option<Name>
-    ensures { result ≡ cell_of state.now }
-{
-    match state {
-        LrpState::Claimed { cell, .. } | LrpState::Running { cell, .. } => Some(*cell),
-        LrpState::Unclaimed | LrpState::Crashed => None,
-    }
-}
 
 // The place of the row, if a container on that cell has it.
 fn place_on(row: &Actual, cell: &Name) -> Option<(Key, Presence)>
     ensures { result ≡ place_on cell.now row.now }
 {
-    match cell_of(&row.state) {
+    match row.state.cell() {
         Some(other) if *cell == other => Some(row.place()),
         _ => None,
     }

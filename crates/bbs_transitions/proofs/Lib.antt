@@ -1,2 +1,2 @@
 mod Doable
-mod Boards
+mod After

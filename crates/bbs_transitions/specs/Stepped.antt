@@ -13,10 +13,10 @@ use Rattle.bbs_transitions.specs.declared.stepped.Stepped.{Stepped}
 use Rattle.bbs_transitions.specs.declared.stepped.Stepped.TheVariants.{Done, Same, Refused}
 
 -- the command was legal and these are its events, or this is its verdict
-abbrev pub Tells : Stepped → Rows → Command → Type 0
-Tells (Done events) rows c = IsLegal rows c × (Some events ≡ events_of rows c)
-Tells Same rows c = verdict_of rows c ≡ verdict.Same
-Tells (Refused why) rows c = verdict_of rows c ≡ verdict.Refused why
+abbrev pub TellsStep : Stepped → Rows → Command → Type 0
+TellsStep (Done events) rows c = IsLegal rows c × (Some events ≡ events_of rows c)
+TellsStep Same rows c = verdict_of rows c ≡ verdict.Same
+TellsStep (Refused why) rows c = verdict_of rows c ≡ verdict.Refused why
 
 -- edits that leave a board, and after the first of which what all processes want together fits
 pub record LeaveABoard (rows : Rows) (first : Edit) (second : Option Edit) : Type 0 where

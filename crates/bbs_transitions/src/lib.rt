@@ -3,11 +3,10 @@
 
 mod edits;
 mod looks;
+mod redoing;
 mod stepped;
 mod steps;
 
+pub use redoing::redo;
 pub use stepped::Stepped;
 pub use steps::{apply, decide, step_in};
-
-#[cfg(test)]
-mod tests;

@@ -3,7 +3,7 @@ ghost use Rattle.std.specs.Prelude.{◌≡◌, ◌+◌, ◌≤◌, Some};
 ghost use Rattle.bbs_model.specs.Runs.{state_after};
 ghost use Rattle.bbs_model.specs.Step.{verdict_of, IsLegal, rows_after, events_of, events_in, changed_by};
 ghost use Rattle.bbs_model.specs.Valid.{IsValid};
-ghost use Rattle.bbs_transitions.specs.Stepped.{Tells, IsDoable};
+ghost use Rattle.bbs_transitions.specs.Stepped.{TellsStep, IsDoable};
 
 use crate::Stepped;
 use crate::edits::{perform, perform_again};
@@ -40,7 +40,7 @@ pub fn apply<T: RowStore>(store: &mut T, command: &Command) -> Events
 pub fn step_in<T: RowStore>(store: &mut T, command: &Command) -> Stepped
     requires valid { IsValid (T.state store.old) }
     requires room { IsLegal (T.state store.old) command.now → 2 ≤ T.spare store.old }
-    ensures tells { Tells result (T.state store.old) command.entry.now }
+    ensures tells { TellsStep result (T.state store.old) command.entry.now }
     ensures state { T.state store.new ≡ state_after (T.state store.old) command.entry.now }
     ensures valid { IsValid (T.state store.new) }
     ensures spare { T.spare store.old ≤ T.spare store.new + 2 }

@@ -1,7 +1,7 @@
 //! What the rows of each of the four tables keep.
 ghost use Rattle.std.specs.Prelude.{◌≡◌};
-ghost use Rattle.bbs_codec.specs.Head.{is_held_before, is_running, suits_presence, desired_keep, actual_keep, tasks_keep, cells_keep};
-ghost use Rattle.bbs_model.specs.Valid.{runner_of};
+ghost use Rattle.bbs_codec.specs.Head.{is_held_before, row_is_running, suits_presence, desired_keep, actual_keep, tasks_keep, cells_keep};
+ghost use Rattle.task_records.specs.States.{runner_of};
 
 use crate::fields::Fields;
 use crate::head::kept::HeadRow;
@@ -22,7 +22,7 @@ fn is_held_before(next: u64, container: Option<Instance>) -> bool
 }
 
 fn is_running(state: LrpState) -> bool
-    ensures { result ≡ is_running state }
+    ensures { result ≡ row_is_running state }
 {
     match state {
         LrpState::Running { .. } => true,

@@ -4,7 +4,7 @@
 ghost use Rattle.std.specs.Prelude.{◌≡◌, ◌≤◌, length, IfOk};
 ghost use Rattle.bbs_model.specs.Valid.{IsValid};
 ghost use Rattle.bbs_codec.specs.Head.{counts_at, head_reading};
-ghost use Rattle.bbs_codec.specs.Seen.{Tells};
+ghost use Rattle.bbs_codec.specs.Seen.{TellsHead};
 
 use crate::fault::CodecFault;
 use crate::fields::Fields;
@@ -33,7 +33,7 @@ fn read_counts(bytes: &[u8]) -> Result<(Counts, usize), CodecFault>
 
 /// The rows that these bytes are.
 fn read_tables(alloc: Global, bytes: &[u8]) -> Result<Rows, HeadFault>
-    ensures { Tells result (head_reading bytes.now) }
+    ensures { TellsHead result (head_reading bytes.now) }
 {
     let (counts, at) = read_counts(bytes)?;
     let (next, ((desired, actual), (tasks, cells))) = counts;
@@ -56,7 +56,7 @@ fn read_tables(alloc: Global, bytes: &[u8]) -> Result<Rows, HeadFault>
 /// The rows that these bytes are, all of them, with the keys of each table in order and all limits
 /// kept. Otherwise it answers the first fault from the left, or that there was no memory.
 pub fn read_head(alloc: Global, bytes: &[u8]) -> Result<Rows, HeadFault>
-    ensures told { Tells result (head_reading bytes.now) }
+    ensures told { TellsHead result (head_reading bytes.now) }
     ensures valid { IfOk result IsValid }
 {
     read_tables(alloc, bytes)

@@ -1,7 +1,7 @@
 //! The rows of one table, read one by one.
 ghost use Rattle.std.specs.Prelude.{◌≡◌, ◌≤◌, ◌++◌, ◌∷◌, [], true, Ok, length, IfOk, IfErr};
-ghost use Rattle.bbs_codec.specs.Head.{may_follow, row_kept, rows_at};
-ghost use Rattle.bbs_codec.specs.Seen.{IsSeen, Blames, Tells};
+ghost use Rattle.bbs_codec.specs.Head.{may_follow, row_kept, head_rows_at};
+ghost use Rattle.bbs_codec.specs.Seen.{IsSeen, BlamesHead, TellsHead};
 
 use crate::fault::CodecFault;
 use crate::head::fault::HeadFault;
@@ -54,7 +54,7 @@ fn read_row<X: HeadRow>(
         table.old.rows table.old.last table.old.wanted table.old.stamps }
     ensures ok { IfOk result (λ after. row_kept (may_follow X.Key.cmp X.key X.keeps next)
         (table.old.rows, at) (X.format.read bytes.now at) ≡ Ok (table.new.rows, after)) }
-    ensures err { IfErr result (λ fault. Blames fault
+    ensures err { IfErr result (λ fault. BlamesHead fault
         (row_kept (may_follow X.Key.cmp X.key X.keeps next)
         (table.old.rows, at) (X.format.read bytes.now at))) }
     ensures seen { IfOk result (λ after. IsSeen X.Key.cmp X.key X.keeps
@@ -82,7 +82,7 @@ pub fn read_rows<X: HeadRow>(
     at: usize,
 ) -> Result<(List<X>, usize), HeadFault>
     requires { at ≤ length bytes.now }
-    ensures told { Tells result (rows_at X.format.read (may_follow X.Key.cmp X.key X.keeps next)
+    ensures told { TellsHead result (head_rows_at X.format.read (may_follow X.Key.cmp X.key X.keeps next)
         count bytes.now ([], at)) }
     ensures within { IfOk result (λ read. read.1 ≤ length bytes.now) }
 {

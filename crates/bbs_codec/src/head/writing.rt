@@ -2,7 +2,7 @@
 ghost use Rattle.std.specs.Prelude.{◌≡◌, ◌≤◌, ◌++◌, length, IfOk, OnOk};
 ghost use Rattle.std.specs.List.{flat_map, AllByRecursion};
 ghost use Rattle.bbs_model.specs.Valid.{IsValid};
-ghost use Rattle.bbs_codec.specs.Head.{counts, counts_of, head_spelled, FitsHead};
+ghost use Rattle.bbs_codec.specs.Head.{counts, head_counts, head_spelled, FitsHead};
 
 use crate::fields::Fields;
 use crate::head::kept::HeadRow;
@@ -40,7 +40,7 @@ fn append_rows<X: HeadRow>(out: &mut Vec<u8>, rows: &[X]) -> Result<(), OutOfMem
 
 fn counts(rows: &Rows) -> Counts
     requires { IsValid rows.now }
-    ensures { result ≡ counts_of rows.now }
+    ensures { result ≡ head_counts rows.now }
 {
     (
         rows.next,

@@ -1,6 +1,6 @@
 //! An operation is written field by field.
 ghost use Rattle.std.specs.Prelude.{◌+◌, ◌≤◌, length};
-ghost use Rattle.wire_fields.specs.Field.{Puts};
+ghost use Rattle.wire_fields.specs.Field.{PutsText};
 ghost use Rattle.bbs_codec.specs.Ops.{said};
 
 use crate::fields::Fields;
@@ -10,7 +10,7 @@ use bbs_model::Op;
 /// Writes a value at a place, where there is room for one that fits, and gives the place after it.
 fn put<T: Fields>(out: &mut [u8], at: usize, value: T) -> usize
     requires { T.format.Fits value → at + length (T.format.spelling value) ≤ length out.old }
-    ensures bytes { Puts out.old at (T.format.spelling value) out.new result }
+    ensures bytes { PutsText out.old at (T.format.spelling value) out.new result }
     ensures fits { T.format.Fits value }
 {
     value.fits();
@@ -21,7 +21,7 @@ fn put<T: Fields>(out: &mut [u8], at: usize, value: T) -> usize
 fn put_cell_op(out: &mut [u8], at: usize, op: &Op) -> usize
     requires kind { 22 ≤ (said op.now).kind }
     requires room { (said op.now).Fits → at + length (said op.now).fields ≤ length out.old }
-    ensures bytes { Puts out.old at (said op.entry.now).fields out.new result }
+    ensures bytes { PutsText out.old at (said op.entry.now).fields out.new result }
     ensures fits { (said op.entry.now).Fits }
 {
     match *op {
@@ -43,7 +43,7 @@ fn put_cell_op(out: &mut [u8], at: usize, op: &Op) -> usize
 fn put_task_op(out: &mut [u8], at: usize, op: &Op) -> usize
     requires kind { (14 ≤ (said op.now).kind) × ((said op.now).kind ≤ 21) }
     requires room { (said op.now).Fits → at + length (said op.now).fields ≤ length out.old }
-    ensures bytes { Puts out.old at (said op.entry.now).fields out.new result }
+    ensures bytes { PutsText out.old at (said op.entry.now).fields out.new result }
     ensures fits { (said op.entry.now).Fits }
 {
     match *op {
@@ -76,7 +76,7 @@ fn put_task_op(out: &mut [u8], at: usize, op: &Op) -> usize
 fn put_lrp_op(out: &mut [u8], at: usize, op: &Op) -> usize
     requires kind { (4 ≤ (said op.now).kind) × ((said op.now).kind ≤ 13) }
     requires room { (said op.now).Fits → at + length (said op.now).fields ≤ length out.old }
-    ensures bytes { Puts out.old at (said op.entry.now).fields out.new result }
+    ensures bytes { PutsText out.old at (said op.entry.now).fields out.new result }
     ensures fits { (said op.entry.now).Fits }
 {
     match *op {
@@ -104,7 +104,7 @@ fn put_lrp_op(out: &mut [u8], at: usize, op: &Op) -> usize
 fn put_process_op(out: &mut [u8], at: usize, op: &Op) -> usize
     requires kind { (said op.now).kind ≤ 3 }
     requires room { (said op.now).Fits → at + length (said op.now).fields ≤ length out.old }
-    ensures bytes { Puts out.old at (said op.entry.now).fields out.new result }
+    ensures bytes { PutsText out.old at (said op.entry.now).fields out.new result }
     ensures fits { (said op.entry.now).Fits }
 {
     match *op {
@@ -124,7 +124,7 @@ fn put_process_op(out: &mut [u8], at: usize, op: &Op) -> usize
 /// place after them.
 pub fn put_op(out: &mut [u8], at: usize, op: &Op) -> usize
     requires { (said op.now).Fits → at + length (said op.now).fields ≤ length out.old }
-    ensures bytes { Puts out.old at (said op.entry.now).fields out.new result }
+    ensures bytes { PutsText out.old at (said op.entry.now).fields out.new result }
     ensures fits { (said op.entry.now).Fits }
 {
     match kind_of(op) {

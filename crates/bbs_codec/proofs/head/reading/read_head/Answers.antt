@@ -2,12 +2,12 @@ use Rattle.std.proofs.Common.{List, ℕ, Result, Ok, Err, IfOk}
 use Rattle.bbs_model.specs.Valid.{IsValid}
 use Rattle.bbs_model.specs.declared.rows.Rows.{Rows}
 use Rattle.bbs_codec.specs.Head.{head_reading}
-use Rattle.bbs_codec.specs.Seen.{Tells}
+use Rattle.bbs_codec.specs.Seen.{TellsHead}
 use Rattle.bbs_codec.specs.declared.head.fault.HeadFault.{HeadFault}
 use Rattle.bbs_codec.proofs.HeadLaws.{head_valid}
 use Rattle.bbs_codec.proofs.head.reading.read_head.Goals as goal
 
-valid_told : (bytes : List ℕ) (r : Result Rows HeadFault) → Tells r (head_reading bytes) → IfOk r IsValid
+valid_told : (bytes : List ℕ) (r : Result Rows HeadFault) → TellsHead r (head_reading bytes) → IfOk r IsValid
 valid_told bytes (Ok rows) told = head_valid bytes rows told
 valid_told bytes (Err fault) told = tt
 

@@ -1,5 +1,5 @@
 use Rattle.std.proofs.Common.{arith}
-use Rattle.wire_fields.proofs.Places.{Puts-then}
+use Rattle.wire_fields.proofs.Public.{Puts-then}
 use Rattle.bbs_codec.proofs.fields.records.Tuple3Fields.put_at.Goals as goal
 
 pub returns : goal.returns

@@ -1,5 +1,5 @@
 use Rattle.std.proofs.Common.{arith}
-use Rattle.wire_fields.proofs.Places.{Puts-then}
+use Rattle.wire_fields.proofs.Public.{Puts-then}
 use Rattle.bbs_codec.proofs.fields.states.TaskStateFields.put_at.Goals as goal
 
 pub returns-in-Running : goal.returns-in-Running
