@@ -18,6 +18,15 @@ doubts-doubt [] by c = refl
 doubts-doubt (Done b d ∷ log) by c = doubts-doubt log by c
 doubts-doubt (Doubt b d ∷ log) by c = ap (λ (n : ℕ). n + 1) (doubts-doubt log by c)
 
+doubts-append : (xs ys : List Item) → doubts_in (xs ++ ys) ≡ doubts_in xs + doubts_in ys
+doubts-append [] ys = omega arith
+doubts-append (Done b d ∷ xs) ys = doubts-append xs ys
+doubts-append (Doubt b d ∷ xs) ys = let rest = doubts-append xs ys in omega (arith, rest)
+
+-- a log without doubts has none in its parts
+pub no_doubts : (xs ys : List Item) → doubts_in (xs ++ ys) ≡ 0 → (doubts_in xs ≡ 0) × (doubts_in ys ≡ 0)
+no_doubts xs ys none = let parts = doubts-append xs ys in (omega (arith, none, parts), omega (arith, none, parts))
+
 -- a call that adds a doubt has met a fault, and no call takes one back
 pub rose_more : (log : List Item) (ok : Bool) (by : ℕ) (c : Command) (faults before after : ℕ) → RoseForEach (doubts_in log) faults before → HasCause (not ok) before after
     → RoseForEach (doubts_in (log ++ item_of ok by c ∷ [])) faults after

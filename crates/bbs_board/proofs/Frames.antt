@@ -1,10 +1,10 @@
 -- Following frames, one after another.
 use Rattle.std.proofs.Common.{◌≡◌, ℕ, ◌+◌, List, [], ◌∷◌, ◌++◌, length, Option, Some, None, Result, Ok, Err, refl, sym, ap, ◌∙◌, arith}
 use Rattle.wire_fields.specs.Reading.{◌>>=◌}
-use Rattle.wire_fields.proofs.Pairs.{bind_ok}
+use Rattle.wire_fields.proofs.Public.{bind_ok}
 use Rattle.disk_trait.specs.declared.area.Area.{Area}
 use Rattle.bbs_codec.specs.Command.{reading, spelled, FitsCommand}
-use Rattle.bbs_codec.proofs.Commands.{command_again}
+use Rattle.bbs_codec.proofs.Public.{command_again}
 use Rattle.bbs_codec.specs.declared.fault.CodecFault.{CodecFault}
 use Rattle.bbs_journal.specs.declared.load_fault.LoadFault.{LoadFault}
 use Rattle.bbs_model.specs.Runs.{if_legal}

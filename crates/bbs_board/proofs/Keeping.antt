@@ -3,12 +3,12 @@ use Rattle.std.proofs.Common.{◌≡◌, inl, inr, ⊎_elim, ℕ, ◌+◌, ◌<�
 use Rattle.disk_trait.specs.Held.{Held, Leaves, Has}
 use Rattle.disk_trait.specs.Past.{Past, Image, ImagesSince, now, other}
 use Rattle.disk_trait.specs.declared.area.Area.{Area}
-use Rattle.disk_trait.proofs.Steps.{images_split, runs_image, runs_there}
+use Rattle.disk_trait.proofs.Public.{images_split, runs_image, runs_there}
 use Rattle.bbs_codec.specs.Command.{spelled, FitsCommand}
 use Rattle.bbs_journal.specs.Areas.{IsArea, Ready}
 use Rattle.bbs_journal.specs.Grammar.{heading}
 use Rattle.bbs_journal.specs.Other.{Yields}
-use Rattle.bbs_journal.proofs.Accepted.{accepted}
+use Rattle.bbs_journal.proofs.Public.{accepted}
 use Rattle.bbs_model.specs.Replay.{replay_log, IsLawful, IsReached}
 use Rattle.bbs_model.specs.Step.{IsLegal, rows_after}
 use Rattle.bbs_model.specs.declared.command.Command.{Command}
@@ -35,7 +35,7 @@ found_more base log more from image found = record {
   reached = reached_more base log more from found.rows found.reached;
 }
 
-module _ (base : Rows) (log : List Item) (marks : List ℕ) (since : ℕ) (area : Area) (generation end : ℕ) (waits : Bool) (p : Past) (h : Holds base log marks since area generation end waits p) (lawful : IsLawful base log) where
+module _ (base : Rows) (log : List Item) (marks : List ℕ) (since : ℕ) (area : Area) (generation end frames : ℕ) (waits : Bool) (p : Past) (h : Holds base log marks since area generation end frames waits p) (lawful : IsLawful base log) where
   abbrev front : List ℕ
   front = h.gate ∷ heading generation h.head
 

@@ -2,7 +2,9 @@ pub mod Frames
 pub mod Loaded
 pub mod Logs
 pub mod Mending
+pub mod Public
 pub mod Storing
+pub mod Writing
 pub mod Keeping
 pub mod Doubting
 pub mod Held

@@ -3,13 +3,11 @@ use Rattle.std.proofs.Common.{◌≡◌, inl, inr, ℕ, false, ◌+◌, ◌≤�
 use Rattle.std.specs.Int.{w32, w64}
 use Rattle.std.specs.Option.{ForSome}
 use Rattle.wire_fields.specs.Field.{field_number}
-use Rattle.wire_fields.proofs.Lengths.{length-field_number}
-use Rattle.wire_fields.proofs.Pairs.{bind_ok}
+use Rattle.wire_fields.proofs.Public.{length-field_number, bind_ok}
 use Rattle.disk_trait.specs.Held.{Has, Leaves}
 use Rattle.disk_trait.specs.Past.{Past, Image, Images, ImagesSince, now, other, content}
 use Rattle.disk_trait.specs.Steps.{Goes}
-use Rattle.disk_trait.proofs.Steps.{settled_has}
-use Rattle.disk_trait.proofs.Told.{goes_back}
+use Rattle.disk_trait.proofs.Public.{settled_has, goes_back}
 use Rattle.disk_trait.specs.declared.area.Area.{Area}
 use Rattle.bbs_journal.specs.Areas.{Ready}
 use Rattle.bbs_journal.specs.Grammar.{heading}
@@ -17,11 +15,9 @@ use Rattle.bbs_journal.specs.Header.{mark}
 use Rattle.bbs_journal.specs.Opening.{IsOpening}
 use Rattle.bbs_journal.specs.Other.{Yields}
 use Rattle.bbs_journal.specs.Reading.{bytes_of}
-use Rattle.bbs_journal.specs.Shows.{Shows, Secures}
+use Rattle.disk_trait.specs.Shows.{Shows, Secures}
 use Rattle.bbs_journal.specs.declared.load_fault.LoadFault.{LoadFault}
-use Rattle.bbs_journal.proofs.Accepted.{accepted}
-use Rattle.bbs_journal.proofs.Once.{opens_once}
-use Rattle.bbs_journal.proofs.Recovered.{recovered, ready}
+use Rattle.bbs_journal.proofs.Public.{accepted, opens_once, recovered, ready}
 use Rattle.bbs_model.specs.declared.rows.Rows.{Rows}
 use Rattle.bbs_board.specs.Opening.{rows_in, followed, board_of, IsBoard, IsRefused}
 use Rattle.bbs_board.specs.Kept.{IsFound, Kept}
@@ -86,7 +82,7 @@ module _ (base : Rows) (since : ℕ) (q : Past) (since_is : q.clock ≡ since) (
 pub loaded_holds : (t0 t1 : Option Past) (area : Area) (generation : ℕ) (head : List ℕ) (payloads : List (List ℕ)) (broken : Option ℕ) (end : ℕ) (rows : Rows) (since : ℕ) → Goes t0 t1 Secures
     → ((q : Past) → t1 ≡ Some q → q.clock ≡ since)
     → ((c : Image) → Shows t1 c → IsOpening c area generation head payloads broken end) → end ≡ 23 + length head + bytes_of payloads → board_of area head payloads broken ≡ Ok rows
-    → ForSome t1 (Holds rows [] [] since area generation end false)
+    → ForSome t1 (Holds rows [] [] since area generation end (length payloads) false)
 loaded_holds t0 t1 area generation head payloads broken end rows since goes timed found place is q told =
     let back = goes_back t0 t1 Secures goes q told in
     let shows : Shows t1 (content q) = subst (λ (t : Option Past). Shows t (content q)) (sym told) (λ a. refl) in
@@ -104,6 +100,7 @@ loaded_holds t0 t1 area generation head payloads broken end rows since goes time
       is_open = r.is_open;
       head = head;
       payloads = payloads;
+      count = refl;
       doubt = None;
       goes_with = r.goes_with;
       waits_is = refl;

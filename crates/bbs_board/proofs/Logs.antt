@@ -7,7 +7,7 @@ use Rattle.bbs_model.specs.declared.item.Item.{Item}
 use Rattle.bbs_model.specs.declared.item.Item.TheVariants.{Doubt}
 use Rattle.bbs_model.specs.declared.rows.Rows.{Rows}
 use Rattle.bbs_laws.proofs.Public.{replay_log-append, place-within}
-use Rattle.bbs_board.specs.Kept.{AreRising}
+use Rattle.bbs_board.specs.Kept.{RiseBetween}
 
 -- ---- places in a list
 
@@ -76,6 +76,6 @@ reached_end base log from le = inl (record { place = length log; low = le; high 
 
 -- ---- marks
 
-pub rising_more : (low : ℕ) (marks : List ℕ) (high mark : ℕ) → AreRising low marks high → high ≤ mark → AreRising low (marks ++ mark ∷ []) mark
+pub rising_more : (low : ℕ) (marks : List ℕ) (high mark : ℕ) → RiseBetween low marks high → high ≤ mark → RiseBetween low (marks ++ mark ∷ []) mark
 rising_more low [] high mark rising le = (omega (arith, rising, le), omega arith)
 rising_more low (m ∷ marks) high mark rising le = (rising.0, rising_more m marks high mark rising.1 le)

@@ -5,10 +5,9 @@ use Rattle.disk_trait.specs.Held.{Held}
 use Rattle.disk_trait.specs.Past.{Past, now}
 use Rattle.disk_trait.specs.Steps.{Goes}
 use Rattle.disk_trait.specs.declared.area.Area.{Area}
-use Rattle.disk_trait.proofs.Steps.{runs_then, runs_weaker}
-use Rattle.disk_trait.proofs.Told.{goes_then, goes_weaker}
+use Rattle.disk_trait.proofs.Public.{runs_then, runs_weaker, goes_then, goes_weaker}
 use Rattle.bbs_journal.specs.Areas.{BeforeOrAfter, Stands}
-use Rattle.bbs_journal.specs.Calls.{Appended, Appends, Adds, Mends, Closes, Grows, Settles, left_of}
+use Rattle.bbs_journal.specs.Calls.{Appended, Appends, AddsFrame, Mends, Closes, GrowsBy, Settles, left_of}
 use Rattle.bbs_journal.specs.View.{View as JournalView}
 use Rattle.bbs_board.specs.Puts.{MayHold, IsLeft, PutsOne, Puts}
 
@@ -64,13 +63,13 @@ calm_none waits None is same = refl
 calm_none waits (Some one) is same = absurd (cc)
 
 module _ (area : Area) (payload : List ℕ) (end : ℕ) where
-  puts_from_calm : (ok waits after : Bool) (p q : Past) → waits ≡ false → (ok ≡ true → after ≡ false) → Adds area ok after payload end p q → Puts area ok waits after payload end p q
+  puts_from_calm : (ok waits after : Bool) (p q : Past) → waits ≡ false → (ok ≡ true → after ≡ false) → AddsFrame area ok after payload end p q → Puts area ok waits after payload end p q
   puts_from_calm ok waits after p q is calm adds head payloads doubt same stands =
       let none = calm_none waits doubt is same in
       puts_calm area head payloads payload end ok after doubt p q calm
       (adds head payloads (subst (λ (d : Option (List ℕ)). Stands head payloads d end (now p area)) none stands))
 
-  puts_from_mended : (ok waits after : Bool) (p q r : Past) → waits ≡ true → (ok ≡ true → after ≡ false) → Closes area true end p q → Adds area ok after payload end q r
+  puts_from_mended : (ok waits after : Bool) (p q r : Past) → waits ≡ true → (ok ≡ true → after ≡ false) → Closes area true end p q → AddsFrame area ok after payload end q r
       → Puts area ok waits after payload end p r
   puts_from_mended ok waits after p q r is calm closes adds head payloads doubt same stands =
       let one = waiting waits doubt is same in
@@ -86,20 +85,20 @@ module _ (area : Area) (payload : List ℕ) (end : ℕ) where
   -- ---- the same, where the disk may tell nothing
 
   pub puts_both : (t0 t1 t2 : Option Past) (ok waits after : Bool) → (ok ≡ true → after ≡ false) → (waits ≡ true → Goes t0 t1 (Closes area true end)) → (waits ≡ false → t1 ≡ t0)
-      → Goes t1 t2 (Adds area ok after payload end) → Goes t0 t2 (Puts area ok waits after payload end)
+      → Goes t1 t2 (AddsFrame area ok after payload end) → Goes t0 t2 (Puts area ok waits after payload end)
   puts_both t0 t1 t2 ok true after calm mended idle adds =
-      goes_then t0 t1 t2 (Closes area true end) (Adds area ok after payload end) (Puts area ok true after payload end)
+      goes_then t0 t1 t2 (Closes area true end) (AddsFrame area ok after payload end) (Puts area ok true after payload end)
       (λ p q r i j k closes a. puts_from_mended ok true after p q r refl calm closes a) (mended refl) adds
   puts_both t0 t1 t2 ok false after calm mended idle adds =
-      goes_weaker t0 t2 (Adds area ok after payload end) (Puts area ok false after payload end) (λ p q i j a. puts_from_calm ok false after p q refl calm a)
-      (subst (λ (t : Option Past). Goes t t2 (Adds area ok after payload end)) (idle refl) adds)
+      goes_weaker t0 t2 (AddsFrame area ok after payload end) (Puts area ok false after payload end) (λ p q i j a. puts_from_calm ok false after p q refl calm a)
+      (subst (λ (t : Option Past). Goes t t2 (AddsFrame area ok after payload end)) (idle refl) adds)
 
   pub puts_not : (t0 t1 : Option Past) (waits after : Bool) → waits ≡ true → after ≡ true → Goes t0 t1 (Closes area false end) → Goes t0 t1 (Puts area false waits after payload end)
   puts_not t0 t1 waits after is still closes =
       goes_weaker t0 t1 (Closes area false end) (Puts area false waits after payload end) (λ p q i j c. puts_from_failed waits after p q is still c) closes
 
   -- an append that failed, and the mend that closes its gate where that is in doubt
-  adds_mended : (ok : Bool) (p q r : Past) → Adds area false true payload end p q → Closes area ok end q r → Adds area false (not ok) payload end p r
+  adds_mended : (ok : Bool) (p q r : Past) → AddsFrame area false true payload end p q → Closes area ok end q r → AddsFrame area false (not ok) payload end p r
   adds_mended ok p q r adds closes head payloads ready =
       let appends = adds head payloads ready in
       let mends = closes head payloads payload appends.leaves in
@@ -113,40 +112,40 @@ module _ (area : Area) (payload : List ℕ) (end : ℕ) where
       mended_so false head payloads held stands = stands
 
   pub adds_closed : (t0 t1 t2 : Option Past) (waits ok after : Bool) → after ≡ (if ok then false else true) → (waits ≡ true → Goes t1 t2 (Closes area ok end)) → (waits ≡ false → (ok ≡ true) × (t2 ≡ t1))
-      → Goes t0 t1 (Adds area false waits payload end) → Goes t0 t2 (Adds area false after payload end)
+      → Goes t0 t1 (AddsFrame area false waits payload end) → Goes t0 t2 (AddsFrame area false after payload end)
   adds_closed t0 t1 t2 true true after is closes idle adds =
-      subst (λ (b : Bool). Goes t0 t2 (Adds area false b payload end)) (sym is)
-      (goes_then t0 t1 t2 (Adds area false true payload end) (Closes area true end) (Adds area false false payload end) (λ p q r i j k a c. adds_mended true p q r a c) adds (closes refl))
+      subst (λ (b : Bool). Goes t0 t2 (AddsFrame area false b payload end)) (sym is)
+      (goes_then t0 t1 t2 (AddsFrame area false true payload end) (Closes area true end) (AddsFrame area false false payload end) (λ p q r i j k a c. adds_mended true p q r a c) adds (closes refl))
   adds_closed t0 t1 t2 true false after is closes idle adds =
-      subst (λ (b : Bool). Goes t0 t2 (Adds area false b payload end)) (sym is)
-      (goes_then t0 t1 t2 (Adds area false true payload end) (Closes area false end) (Adds area false true payload end) (λ p q r i j k a c. adds_mended false p q r a c) adds (closes refl))
+      subst (λ (b : Bool). Goes t0 t2 (AddsFrame area false b payload end)) (sym is)
+      (goes_then t0 t1 t2 (AddsFrame area false true payload end) (Closes area false end) (AddsFrame area false true payload end) (λ p q r i j k a c. adds_mended false p q r a c) adds (closes refl))
   adds_closed t0 t1 t2 false true after is closes idle adds =
-      subst (λ (b : Bool). Goes t0 t2 (Adds area false b payload end)) (sym is)
-      (subst (λ (t : Option Past). Goes t0 t (Adds area false false payload end)) (sym (idle refl).1) adds)
+      subst (λ (b : Bool). Goes t0 t2 (AddsFrame area false b payload end)) (sym is)
+      (subst (λ (t : Option Past). Goes t0 t (AddsFrame area false false payload end)) (sym (idle refl).1) adds)
   adds_closed t0 t1 t2 false false after is closes idle adds = absurd (let never = (idle refl).0 in cc)
 
 -- ---- the calls of a put, each at the journal that the one before it left
 
 module _ {D : Type 0} (told : D → Option Past) (v0 v1 v2 : JournalView D) (payload : List ℕ) (mended : Settles true v0 v1) (closes : v0.waits ≡ true → Goes (told v0.disk) (told v1.disk) (Closes v0.area true v0.end)) where
-  as_before : (ok waits : Bool) (t : Option Past) → Goes (told v1.disk) t (Adds v1.area ok waits payload v1.end) → Goes (told v1.disk) t (Adds v0.area ok waits payload v0.end)
+  as_before : (ok waits : Bool) (t : Option Past) → Goes (told v1.disk) t (AddsFrame v1.area ok waits payload v1.end) → Goes (told v1.disk) t (AddsFrame v0.area ok waits payload v0.end)
   as_before ok waits t adds =
-      subst (λ (a : Area). Goes (told v1.disk) t (Adds a ok waits payload v0.end)) mended.stays.area
-      (subst (λ (n : ℕ). Goes (told v1.disk) t (Adds v1.area ok waits payload n)) mended.end adds)
+      subst (λ (a : Area). Goes (told v1.disk) t (AddsFrame a ok waits payload v0.end)) mended.stays.area
+      (subst (λ (n : ℕ). Goes (told v1.disk) t (AddsFrame v1.area ok waits payload n)) mended.end adds)
 
   idle_told : v0.waits ≡ false → told v1.disk ≡ told v0.disk
   idle_told idle = let still = mended.idle idle in ap (λ (v : JournalView D). told v.disk) still.1
 
-  pub put_made : (v2.waits ≡ false) → Goes (told v1.disk) (told v2.disk) (Adds v1.area true v2.waits payload v1.end) → Goes (told v0.disk) (told v2.disk) (Puts v0.area true v0.waits v2.waits payload v0.end)
+  pub put_made : (v2.waits ≡ false) → Goes (told v1.disk) (told v2.disk) (AddsFrame v1.area true v2.waits payload v1.end) → Goes (told v0.disk) (told v2.disk) (Puts v0.area true v0.waits v2.waits payload v0.end)
   put_made calm adds = puts_both v0.area payload v0.end (told v0.disk) (told v1.disk) (told v2.disk) true v0.waits v2.waits (λ is. calm) closes idle_told (as_before true v2.waits (told v2.disk) adds)
 
-  module _ (v3 : JournalView D) (ok : Bool) (adds : Goes (told v1.disk) (told v2.disk) (Adds v1.area false v2.waits payload v1.end)) (grows : Grows false (length payload) v1 v2) (settles : Settles ok v2 v3)
+  module _ (v3 : JournalView D) (ok : Bool) (adds : Goes (told v1.disk) (told v2.disk) (AddsFrame v1.area false v2.waits payload v1.end)) (grows : GrowsBy false (length payload) v1 v2) (settles : Settles ok v2 v3)
       (shuts : v2.waits ≡ true → Goes (told v2.disk) (told v3.disk) (Closes v2.area ok v2.end)) where
     shuts_there : v2.waits ≡ true → Goes (told v2.disk) (told v3.disk) (Closes v1.area ok v1.end)
     shuts_there is =
         subst (λ (a : Area). Goes (told v2.disk) (told v3.disk) (Closes a ok v1.end)) grows.stays.area
         (subst (λ (n : ℕ). Goes (told v2.disk) (told v3.disk) (Closes v2.area ok n)) grows.end (shuts is))
 
-    adds_there : Goes (told v1.disk) (told v3.disk) (Adds v0.area false v3.waits payload v0.end)
+    adds_there : Goes (told v1.disk) (told v3.disk) (AddsFrame v0.area false v3.waits payload v0.end)
     adds_there = as_before false v3.waits (told v3.disk)
         (adds_closed v1.area payload v1.end (told v1.disk) (told v2.disk) (told v3.disk) v2.waits ok v3.waits settles.waits shuts_there
         (λ idle. let still = settles.idle idle in (still.0, ap (λ (v : JournalView D). told v.disk) still.1)) adds)
@@ -154,8 +153,8 @@ module _ {D : Type 0} (told : D → Option Past) (v0 v1 v2 : JournalView D) (pay
     pub put_failed : Goes (told v0.disk) (told v3.disk) (Puts v0.area false v0.waits v3.waits payload v0.end)
     put_failed = puts_both v0.area payload v0.end (told v0.disk) (told v1.disk) (told v3.disk) false v0.waits v3.waits (λ is. absurd (cc)) closes idle_told adds_there
 
-    pub adds_failed : v0.waits ≡ false → Goes (told v0.disk) (told v3.disk) (Adds v0.area false v3.waits payload v0.end)
-    adds_failed idle = subst (λ (t : Option Past). Goes t (told v3.disk) (Adds v0.area false v3.waits payload v0.end)) (idle_told idle) adds_there
+    pub adds_failed : v0.waits ≡ false → Goes (told v0.disk) (told v3.disk) (AddsFrame v0.area false v3.waits payload v0.end)
+    adds_failed idle = subst (λ (t : Option Past). Goes t (told v3.disk) (AddsFrame v0.area false v3.waits payload v0.end)) (idle_told idle) adds_there
 
 -- ---- said of what was written
 
@@ -164,10 +163,10 @@ module _ (ok done : Bool) (payload text : List ℕ) (done_is : ok ≡ done) (is 
   puts_as t0 t1 area waits after end goes =
       subst (λ (l : List ℕ). Goes t0 t1 (Puts area done waits after l end)) is (subst (λ (b : Bool). Goes t0 t1 (Puts area b waits after payload end)) done_is goes)
 
-  pub adds_as : (t0 t1 : Option Past) (area : Area) (after : Bool) (end : ℕ) → Goes t0 t1 (Adds area ok after payload end) → Goes t0 t1 (Adds area done after text end)
+  pub adds_as : (t0 t1 : Option Past) (area : Area) (after : Bool) (end : ℕ) → Goes t0 t1 (AddsFrame area ok after payload end) → Goes t0 t1 (AddsFrame area done after text end)
   adds_as t0 t1 area after end goes =
-      subst (λ (l : List ℕ). Goes t0 t1 (Adds area done after l end)) is (subst (λ (b : Bool). Goes t0 t1 (Adds area b after payload end)) done_is goes)
+      subst (λ (l : List ℕ). Goes t0 t1 (AddsFrame area done after l end)) is (subst (λ (b : Bool). Goes t0 t1 (AddsFrame area b after payload end)) done_is goes)
 
-  pub grows_as : {D : Type 0} (old new : JournalView D) → Grows ok (length payload) old new → Grows done (length text) old new
+  pub grows_as : {D : Type 0} (old new : JournalView D) → GrowsBy ok (length payload) old new → GrowsBy done (length text) old new
   grows_as old new grows =
-      subst (λ (l : List ℕ). Grows done (length l) old new) is (subst (λ (b : Bool). Grows b (length payload) old new) done_is grows)
+      subst (λ (l : List ℕ). GrowsBy done (length l) old new) is (subst (λ (b : Bool). GrowsBy b (length payload) old new) done_is grows)

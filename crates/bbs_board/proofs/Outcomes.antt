@@ -3,8 +3,7 @@ use Rattle.std.proofs.Common.{◌≡◌, ◌⊎◌, inl, inr, Result, Ok, Err, r
 use Rattle.disk_trait.specs.Past.{Image}
 use Rattle.bbs_journal.specs.Outcomes.{IsHeadless, IsOpened}
 use Rattle.bbs_journal.specs.declared.load_fault.LoadFault.{LoadFault}
-use Rattle.bbs_journal.proofs.Once.{opens_once}
-use Rattle.bbs_journal.proofs.Outcomes.{opens_or_not}
+use Rattle.bbs_journal.proofs.Public.{opens_once, opens_or_not}
 use Rattle.bbs_model.specs.declared.rows.Rows.{Rows}
 use Rattle.bbs_board.specs.Laws.{RefusesOnce, IsSomeBoard, IsNoBoard, OpensOrIsRefused}
 use Rattle.bbs_board.specs.Opening.{board_of, IsDamaged}

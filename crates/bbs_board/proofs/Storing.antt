@@ -1,21 +1,19 @@
 -- What a stop leaves of a board while a command is stored where nothing waits, and after it.
-use Rattle.std.proofs.Common.{◌≡◌, ⊎_elim, inl, inr, ℕ, Bool, false, List, [], ◌∷◌, ◌++◌, Option, Some, None, Ok, refl, subst, arith}
+use Rattle.std.proofs.Common.{◌≡◌, ⊎_elim, inl, inr, ℕ, Bool, false, List, [], ◌∷◌, ◌++◌, Option, Some, None, Ok, refl, subst, ◌∙◌, arith}
 use Rattle.std.specs.Prelude.{is_some}
 use Rattle.std.specs.Option.{ForSome}
 use Rattle.disk_trait.specs.Held.{Held, Leaves}
-use Rattle.disk_trait.specs.Past.{Past, Image, now, other, Images}
+use Rattle.disk_trait.specs.Past.{Past, Image, now, other, content, Images}
 use Rattle.disk_trait.specs.Steps.{Goes}
 use Rattle.disk_trait.specs.Runs.{Extends}
-use Rattle.disk_trait.proofs.Steps.{extends_same}
-use Rattle.disk_trait.proofs.Told.{goes_same, goes_weaker}
+use Rattle.disk_trait.proofs.Public.{extends_same, goes_same, goes_weaker}
 use Rattle.disk_trait.specs.declared.area.Area.{Area}
 use Rattle.bbs_codec.specs.Command.{spelled, FitsCommand}
 use Rattle.bbs_journal.specs.Areas.{Ready, Stands}
-use Rattle.bbs_journal.specs.Calls.{Appends, Adds}
+use Rattle.bbs_journal.specs.Calls.{Appends, AddsFrame}
 use Rattle.bbs_journal.specs.Grammar.{heading}
 use Rattle.bbs_journal.specs.Stops.{OpensAs}
-use Rattle.bbs_journal.proofs.Accepted.{accepted}
-use Rattle.bbs_journal.proofs.Stops.{stops_opened, acknowledged_opened}
+use Rattle.bbs_journal.proofs.Public.{accepted, stops_opened, acknowledged_opened}
 use Rattle.bbs_model.specs.Replay.{replay_log}
 use Rattle.bbs_model.specs.Step.{IsLegal, rows_after}
 use Rattle.bbs_model.specs.declared.command.Command.{Command}
@@ -24,6 +22,8 @@ use Rattle.bbs_model.specs.declared.rows.Rows.{Rows}
 use Rattle.bbs_model.specs.declared.verdict.Verdict.TheVariants as verdict
 use Rattle.bbs_board.specs.Calls.{Passes}
 use Rattle.bbs_board.specs.Opening.{board_of, IsBoard}
+use Rattle.bbs_board.specs.KeptIn.{IsKeptIn}
+use Rattle.bbs_board.specs.declared.kept_in.KeptIn.{KeptIn}
 use Rattle.bbs_board.specs.Laws.{StopsLeaveBoards}
 use Rattle.bbs_board.specs.Stops.{Stores}
 use Rattle.bbs_board.specs.View.{Holds}
@@ -35,7 +35,7 @@ ready_where : (waits : Bool) (doubt : Option (List ℕ)) (head : List ℕ) (payl
 ready_where waits None head payloads end held calm is stands = stands
 ready_where waits (Some payload) head payloads end held calm is stands = absurd (cc)
 
-module _ (base : Rows) (log : List Item) (marks : List ℕ) (since : ℕ) (area : Area) (generation end : ℕ) (p : Past) (h : Holds base log marks since area generation end false p) where
+module _ (base : Rows) (log : List Item) (marks : List ℕ) (since : ℕ) (area : Area) (generation end frames : ℕ) (p : Past) (h : Holds base log marks since area generation end frames false p) where
   abbrev front : List ℕ
   front = h.gate ∷ heading generation h.head
 
@@ -67,6 +67,7 @@ module _ (base : Rows) (log : List Item) (marks : List ℕ) (since : ℕ) (area 
       payloads = h.payloads;
       before = h.rows_are;
       after = after_is;
+      reads = holds_images (content p) (p.possible p.clock);
       each = λ image since. stops_opened p q area h.gate generation h.head h.payloads (spelled c) h.beside ok after end h.is_open h.goes_with h.yields appends image since;
       done = λ is image leaves.
           acknowledged_opened p q area h.gate generation h.head h.payloads (spelled c) h.beside after end h.is_open h.goes_with h.yields
@@ -82,6 +83,7 @@ module _ (base : Rows) (log : List Item) (marks : List ℕ) (since : ℕ) (area 
       payloads = h.payloads;
       before = h.rows_are;
       after = after_is;
+      reads = holds_images (content p) (p.possible p.clock);
       each = λ image since.
           let here : since.moment ≡ p.clock = let from = since.from in let to = since.to in omega (arith, from, to) in
           inl (holds_images image (λ a. subst (λ (m : ℕ). Leaves (p.held m a) (image a)) here (since.leaves a)));
@@ -90,22 +92,22 @@ module _ (base : Rows) (log : List Item) (marks : List ℕ) (since : ℕ) (area 
 
 -- ---- the same, where the disk may tell nothing
 
-module _ (told : Option Past) (base : Rows) (log : List Item) (marks : List ℕ) (since : ℕ) (area : Area) (generation end : ℕ) (waits : Bool) (holds : ForSome told (Holds base log marks since area generation end waits)) (calm : waits ≡ false)
+module _ (told : Option Past) (base : Rows) (log : List Item) (marks : List ℕ) (since : ℕ) (area : Area) (generation end frames : ℕ) (waits : Bool) (holds : ForSome told (Holds base log marks since area generation end frames waits)) (calm : waits ≡ false)
     (c : Command) (fits : FitsCommand c) (legal : IsLegal (replay_log base log) c) where
-  calmly : (p : Past) → told ≡ Some p → Holds base log marks since area generation end false p
-  calmly p is = subst (λ (b : Bool). Holds base log marks since area generation end b p) calm (holds p is)
+  calmly : (p : Past) → told ≡ Some p → Holds base log marks since area generation end frames false p
+  calmly p is = subst (λ (b : Bool). Holds base log marks since area generation end frames b p) calm (holds p is)
 
   -- where nothing is done, nothing changes
   pub stores_nothing : Goes told told (Stores false (replay_log base log) c)
-  stores_nothing = goes_same told (Stores false (replay_log base log) c) (λ p is. stores_none base log marks since area generation end p (calmly p is) c fits legal)
+  stores_nothing = goes_same told (Stores false (replay_log base log) c) (λ p is. stores_none base log marks since area generation end frames p (calmly p is) c fits legal)
 
-  pub stores_by : (later : Option Past) (ok after : Bool) → Goes told later (Adds area ok after (spelled c) end) → Goes told later (Stores ok (replay_log base log) c)
+  pub stores_by : (later : Option Past) (ok after : Bool) → Goes told later (AddsFrame area ok after (spelled c) end) → Goes told later (Stores ok (replay_log base log) c)
   stores_by later ok after goes =
-      goes_weaker told later (Adds area ok after (spelled c) end) (Stores ok (replay_log base log) c)
+      goes_weaker told later (AddsFrame area ok after (spelled c) end) (Stores ok (replay_log base log) c)
       (λ p q i j adds.
       let h = calmly p i in
-      stores base log marks since area generation end p h c fits legal q ok after
-      (adds (h.gate ∷ heading generation h.head) h.payloads (ready base log marks since area generation end p h))) goes
+      stores base log marks since area generation end frames p h c fits legal q ok after
+      (adds (h.gate ∷ heading generation h.head) h.payloads (ready base log marks since area generation end frames p h))) goes
 
 -- time goes on, and where nothing waits the rest is known
 passes_both : (t0 t1 : Option Past) (waits ok : Bool) (rows : Rows) (c : Command) → Goes t0 t1 Extends → (waits ≡ false → Goes t0 t1 (Stores ok rows c)) → Goes t0 t1 (Passes waits verdict.Ok ok rows c)
@@ -114,15 +116,27 @@ passes_both None (Some q) waits ok rows c extends stores = extends
 passes_both (Some p) None waits ok rows c extends stores = extends
 passes_both (Some p) (Some q) waits ok rows c extends stores = record { extends = extends; stores = stores }
 
-module _ (told : Option Past) (base : Rows) (log : List Item) (marks : List ℕ) (since : ℕ) (area : Area) (generation end : ℕ) (waits : Bool) (holds : ForSome told (Holds base log marks since area generation end waits))
+module _ (told : Option Past) (base : Rows) (log : List Item) (marks : List ℕ) (since : ℕ) (area : Area) (generation end frames : ℕ) (waits : Bool) (holds : ForSome told (Holds base log marks since area generation end frames waits))
     (c : Command) (fits : FitsCommand c) (legal : IsLegal (replay_log base log) c) where
   pub passes_nothing : Goes told told (Passes waits verdict.Ok false (replay_log base log) c)
   passes_nothing = passes_both told told waits false (replay_log base log) c (goes_same told Extends (λ p is. extends_same p))
-      (λ calm. stores_nothing told base log marks since area generation end waits holds calm c fits legal)
+      (λ calm. stores_nothing told base log marks since area generation end frames waits holds calm c fits legal)
 
-  pub passes_by : (later : Option Past) (ok after : Bool) → Goes told later Extends → (waits ≡ false → Goes told later (Adds area ok after (spelled c) end)) → Goes told later (Passes waits verdict.Ok ok (replay_log base log) c)
+  pub passes_by : (later : Option Past) (ok after : Bool) → Goes told later Extends → (waits ≡ false → Goes told later (AddsFrame area ok after (spelled c) end)) → Goes told later (Passes waits verdict.Ok ok (replay_log base log) c)
   passes_by later ok after extends adds = passes_both told later waits ok (replay_log base log) c extends
-      (λ calm. stores_by told base log marks since area generation end waits holds calm c fits legal later ok after (adds calm))
+      (λ calm. stores_by told base log marks since area generation end frames waits holds calm c fits legal later ok after (adds calm))
+
+-- where nothing waits it is known where the board is kept
+pub kept_where : (told : Option Past) (base : Rows) (log : List Item) (marks : List ℕ) (since : ℕ) (area : Area) (generation end frames : ℕ) (waits : Bool) → ForSome told (Holds base log marks since area generation end frames waits) → waits ≡ false
+    → (place : KeptIn) → place.area ≡ area → place.generation ≡ generation → place.frames ≡ frames → ForSome told (IsKeptIn place)
+kept_where told base log marks since area generation end frames waits holds calm place area_is generation_is frames_is p is =
+    let h : Holds base log marks since area generation end frames false p = subst (λ (b : Bool). Holds base log marks since area generation end frames b p) calm (holds p is) in
+    record {
+      head = h.head;
+      payloads = h.payloads;
+      opens = rw (area_is, generation_is) (holds_images base log marks since area generation end frames p h (content p) (p.possible p.clock));
+      count = frames_is ∙ h.count;
+    }
 
 -- ---- and every stop leaves a board
 

@@ -1,5 +1,5 @@
 -- What a call of a board does to its log and to a disk.
-use Rattle.std.specs.Prelude.{◌≡◌, ℕ, Bool, true, false, List, [], ◌++◌, map}
+use Rattle.std.specs.Prelude.{◌≡◌, ◌≤◌, ℕ, ◌+◌, Bool, true, false, List, [], ◌++◌, length, map}
 use Rattle.disk_trait.specs.Past.{Past}
 use Rattle.disk_trait.specs.Runs.{Extends}
 use Rattle.bbs_model.specs.declared.command.Command.{Command}
@@ -10,14 +10,16 @@ use Rattle.bbs_model.specs.declared.verdict.Verdict.TheVariants as verdict
 use Rattle.bbs_board.specs.Stops.{Stores}
 use Rattle.bbs_board.specs.View.{View}
 
--- the log gained these items, each with this moment for a mark; without one nothing has changed
+-- the log gained these items, each with this moment for a mark and at most one of the spare room; without
+-- one nothing but that has changed
 pub record Grows {D : Type 0} (done : Bool) (items : List Item) (moment : ℕ) (old new : View D) : Type 0 where
   pub base : new.base ≡ old.base
   pub since : new.since ≡ old.since
   pub faults : new.faults ≡ old.faults
   pub log : new.log ≡ old.log ++ items
   pub marks : new.marks ≡ old.marks ++ map (λ item. moment) items
-  pub idle : items ≡ [] → new ≡ old
+  pub room : old.spare ≤ new.spare + length items
+  pub idle : items ≡ [] → new ≡ record old { spare = new.spare }
   pub calm : done ≡ true → new.waits ≡ false
 
 -- what a call does to a disk, by the verdict of its command at these rows

@@ -17,15 +17,16 @@ pub record IsFound (base : Rows) (log : List Item) (from : ℕ) (image : Image) 
   pub reached : IsReached base log from rows
 
 -- the numbers never fall, and lie between these two
-abbrev pub AreRising : ℕ → List ℕ → ℕ → Type 0
-AreRising low [] high = low ≤ high
-AreRising low (mark ∷ marks) high = (low ≤ mark) × AreRising mark marks high
+abbrev pub RiseBetween : ℕ → List ℕ → ℕ → Type 0
+RiseBetween low [] high = low ≤ high
+RiseBetween low (mark ∷ marks) high = (low ≤ mark) × RiseBetween mark marks high
 
 -- each item has a mark, and whatever a stop since that moment left is a board that the log reaches,
 -- with each item that was done when its mark was reached
 pub record Kept (base : Rows) (log : List Item) (marks : List ℕ) (since : ℕ) (p : Past) : Type 0 where
   pub count : length marks ≡ length log
-  pub rising : AreRising since marks p.clock
+  pub rising : RiseBetween since marks p.clock
   pub found : (image : Image) → ImagesSince p since image → IsFound base log 0 image
-  pub acknowledged : (place mark by : ℕ) (command : Command) → slice_get log place ≡ Some (Done by command) → slice_get marks place ≡ Some mark
+  pub acknowledged : (place mark by : ℕ) (command : Command) → slice_get log place ≡ Some (Done by command)
+      → slice_get marks place ≡ Some mark
       → (image : Image) → ImagesSince p mark image → IsFound base log (place + 1) image

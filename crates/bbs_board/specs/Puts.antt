@@ -22,7 +22,8 @@ abbrev pub MayHold : List ℕ → List (List ℕ) → Option (List ℕ) → List
 MayHold head payloads doubt payload bytes = IsArea head payloads bytes ⊎ HasOneMore head payloads doubt payload bytes
 
 -- the payload was refused, and one may be in doubt now
-pub record LeftOut (waits : Bool) (head : List ℕ) (payloads : List (List ℕ)) (doubt : Option (List ℕ)) (payload : List ℕ) (end : ℕ) (held : Held) : Type 0 where
+pub record LeftOut (waits : Bool) (head : List ℕ) (payloads : List (List ℕ)) (doubt : Option (List ℕ))
+    (payload : List ℕ) (end : ℕ) (held : Held) : Type 0 where
   pub left : Option (List ℕ)
   pub waits_is : waits ≡ is_some left
   pub which : (one : List ℕ) → left ≡ Some one → IsOneOf doubt payload one
@@ -35,14 +36,16 @@ IsLeft true waits head payloads doubt payload end held =
 IsLeft false waits head payloads doubt payload end held = LeftOut waits head payloads doubt payload end held
 
 -- a put into an area that holds these payloads and this doubt
-pub record PutsOne (area : Area) (ok waits : Bool) (head : List ℕ) (payloads : List (List ℕ)) (doubt : Option (List ℕ)) (payload : List ℕ) (end : ℕ) (p q : Past) : Type 0 where
+pub record PutsOne (area : Area) (ok waits : Bool) (head : List ℕ) (payloads : List (List ℕ))
+    (doubt : Option (List ℕ)) (payload : List ℕ) (end : ℕ) (p q : Past) : Type 0 where
   pub runs : Runs area (MayHold head payloads doubt payload) p q
   pub leaves : IsLeft ok waits head payloads doubt payload end (now q area)
 
 -- whatever the area holds, this payload is put into it; `before` and `after` tell whether something waits
 abbrev pub Puts : Area → Bool → Bool → Bool → List ℕ → ℕ → Past → Past → Type 0
 Puts area ok before after payload end p q =
-    (head : List ℕ) (payloads : List (List ℕ)) (doubt : Option (List ℕ)) → before ≡ is_some doubt → Stands head payloads doubt end (now p area)
+    (head : List ℕ) (payloads : List (List ℕ)) (doubt : Option (List ℕ)) → before ≡ is_some doubt
+    → Stands head payloads doubt end (now p area)
     → PutsOne area ok after head payloads doubt payload end p q
 
 -- the device calls of a put: four where it succeeds, behind the two of a mend where a gate waited; where it fails

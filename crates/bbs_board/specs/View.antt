@@ -1,5 +1,5 @@
 -- A board as its callers see it, and what it rests on.
-use Rattle.std.specs.Prelude.{◌≡◌, ℕ, ◌<◌, ◌≤◌, Bool, false, is_some, Option, Some, None, List, [], ◌∷◌, Ok}
+use Rattle.std.specs.Prelude.{◌≡◌, ℕ, ◌<◌, ◌≤◌, Bool, false, is_some, Option, Some, None, List, [], ◌∷◌, length, Ok}
 use Rattle.std.specs.List.{slice_get}
 use Rattle.std.specs.Option.{ForSome}
 use Rattle.disk_trait.specs.Held.{Has}
@@ -12,8 +12,10 @@ use Rattle.bbs_journal.specs.Other.{Yields}
 use Rattle.bbs_journal.specs.View.{View as JournalView}
 use Rattle.bbs_journal.specs.declared.other_gate.OtherGate.{OtherGate}
 use Rattle.bbs_model.specs.Replay.{replay_log, rows_at, IsLawful}
+use Rattle.bbs_model.specs.Told.{told_in}
 use Rattle.bbs_model.specs.Valid.{IsValid}
 use Rattle.bbs_model.specs.declared.command.Command.{Command}
+use Rattle.bbs_model.specs.declared.event.Events.{Events}
 use Rattle.bbs_model.specs.declared.item.Item.{Item}
 use Rattle.bbs_model.specs.declared.item.Item.TheVariants.{Done, Doubt}
 use Rattle.bbs_model.specs.declared.rows.Rows.{Rows}
@@ -22,8 +24,8 @@ use Rattle.bbs_board.specs.Kept.{Kept}
 use Rattle.bbs_board.specs.Opening.{board_of}
 
 -- its disk, the rows that it was opened with, the items since then with the disk's clock at the end of
--- the call of each, the clock and the count of faults at the end of its load, and whether a gate has to be
--- mended
+-- the call of each, the clock and the count of faults at the end of its load, whether a gate has to be
+-- mended, and how many legal calls it has the memory for
 pub record View (D : Type 0) : Type 0 where
   pub disk : D
   pub base : Rows
@@ -32,6 +34,7 @@ pub record View (D : Type 0) : Type 0 where
   pub since : ℕ
   pub faults : ℕ
   pub waits : Bool
+  pub spare : ℕ
 
 -- it has done nothing since its load, and nothing waits
 pub record IsFresh {D : Type 0} (board : View D) : Type 0 where
@@ -54,13 +57,15 @@ pub record MayShow (base : Rows) (log : List Item) (payload : List ℕ) : Type 0
   pub payload_is : payload ≡ spelled command
   pub fits : FitsCommand command
 
--- whatever a stop leaves, the area holds a head and payloads that leave the board's rows, and perhaps a
+-- whatever a stop leaves, the area holds a head and so many payloads that leave the board's rows, and perhaps a
 -- doubt, the other area gives way to it, and the board is kept
-pub record Holds (base : Rows) (log : List Item) (marks : List ℕ) (since : ℕ) (area : Area) (generation end : ℕ) (waits : Bool) (p : Past) : Type 0 where
+pub record Holds (base : Rows) (log : List Item) (marks : List ℕ) (since : ℕ) (area : Area)
+    (generation end frames : ℕ) (waits : Bool) (p : Past) : Type 0 where
   pub gate : ℕ
   pub is_open : 0 < gate
   pub head : List ℕ
   pub payloads : List (List ℕ)
+  pub count : frames ≡ length payloads
   pub doubt : Option (List ℕ)
   pub goes_with : GoesWith generation head
   pub waits_is : waits ≡ is_some doubt
@@ -72,14 +77,17 @@ pub record Holds (base : Rows) (log : List Item) (marks : List ℕ) (since : ℕ
   pub kept : Kept base log marks since p
 
 -- so stands each board: it was opened with valid rows, its log is lawful and leads to its rows, which are
--- valid, each of its doubts has a fault for its cause, and its journal has no defect and no more frames than
--- the board has made transitions
-pub record IsSound {D : Type 0} (told : D → Option Past) (fault_count : D → ℕ) (rows base : Rows) (log : List Item) (marks : List ℕ) (since faults : ℕ) (journal : JournalView D) : Type 0 where
+-- valid, it is kept what each item told, each of its doubts has a fault for its cause, and its journal has
+-- no defect and no more frames than the board has made transitions
+pub record IsSound {D : Type 0} (told : D → Option Past) (fault_count : D → ℕ) (rows base : Rows) (log : List Item)
+    (marks : List ℕ) (events : List (Option Events)) (since faults : ℕ) (journal : JournalView D) : Type 0 where
   pub opened : IsValid base
   pub valid : IsValid rows
   pub lawful : IsLawful base log
   pub rows_are : rows ≡ replay_log base log
+  pub events_are : events ≡ told_in base log
   pub whole : journal.broken ≡ false
   pub counted : journal.frames ≤ rows.next
   pub doubted : RoseForEach (doubts_in log) faults (fault_count journal.disk)
-  pub holds : ForSome (told journal.disk) (Holds base log marks since journal.area journal.generation journal.end journal.waits)
+  pub holds : ForSome (told journal.disk)
+      (Holds base log marks since journal.area journal.generation journal.end journal.frames journal.waits)

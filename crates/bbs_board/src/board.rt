@@ -1,10 +1,10 @@
 //! A board over a disk, for one caller: each transition is on the disk before it is acknowledged, and
 //! whatever a stop leaves is opened as the board after a prefix of its log.
-ghost use Rattle.std.specs.Prelude.{◌≡◌, ◌≤◌, false, true, length, IfOk};
+ghost use Rattle.std.specs.Prelude.{◌≡◌, ◌<◌, ◌≤◌, false, true, length, OnOk};
 ghost use Rattle.std.specs.Option.{ForSome};
 ghost use Rattle.byte_ports.specs.Cause.{HasCause};
 ghost use Rattle.disk_trait.specs.Steps.{Goes};
-ghost use Rattle.bbs_model.specs.Calls.{Ends, added, is_done, is_disk_fault};
+ghost use Rattle.bbs_model.specs.Calls.{Ends, added, is_done, is_disk_fault, is_starved};
 ghost use Rattle.bbs_model.specs.Replay.{IsLawful};
 ghost use Rattle.bbs_model.specs.Step.{verdict_of, IsLegal};
 ghost use Rattle.bbs_model.specs.Valid.{IsValid};
@@ -14,6 +14,7 @@ ghost use Rattle.bbs_board.specs.Kept.{Kept};
 ghost use Rattle.bbs_board.specs.Puts.{PutTakes};
 ghost use Rattle.bbs_board.specs.View.{rows_of};
 
+use crate::history::History;
 use crate::putting::put;
 use crate::room::make_room;
 use bbs_codec::write_command;
@@ -23,7 +24,6 @@ use bbs_model::{CallFault, Command, Item, Reply, RowStore, Rows, Verdict};
 use bbs_transitions::{apply, decide};
 use diego_names::OutOfMemory;
 use disk_trait::Disk;
-use std::alloc::Global;
 use std::marker::Model;
 
 /// The rows of a board under their index, and the journal that keeps them.
@@ -33,15 +33,14 @@ pub struct Board<D: Disk> {
     pub(crate) index: Index,
     // The rows that the disk held when it was loaded.
     pub(crate) base: Rows,
-    pub(crate) log: Vec<Item>,
-    // The disk's clock at the end of the call of each item.
-    pub(crate) marks: Vec<u64>,
+    pub(crate) history: History,
     // The disk's clock and its count of faults at the end of the load.
     pub(crate) since: u64,
     pub(crate) faults: u64,
 }
 
 impl<D: Disk> Model for Board<D> {
+    ghost use Rattle.bbs_board.specs.History.{calls_for};
     ghost use Rattle.bbs_board.specs.View.{View, IsSound};
 
     ghost Value = { View D };
@@ -49,15 +48,16 @@ impl<D: Disk> Model for Board<D> {
     ghost view = { λ b. record {
       disk = b.journal.disk;
       base = b.base;
-      log = b.log.items;
-      marks = b.marks.items;
+      log = b.history.log;
+      marks = b.history.marks;
       since = b.since;
       faults = b.faults;
       waits = b.journal.waits;
+      spare = calls_for b.index.spare b.history.room;
     } };
 
-    ghost invariant = { λ b. IsSound D.told D.fault_count b.index.rows b.base b.log.items
-        b.marks.items b.since b.faults b.journal };
+    ghost invariant = { λ b. IsSound D.told D.fault_count b.index.rows b.base b.history.log
+        b.history.marks b.history.told b.since b.faults b.journal };
 }
 
 /// What is left of a board that was closed.
@@ -77,6 +77,7 @@ impl<D: Disk> Board<D> {
         ensures ends { Ends Verdict.Ok (length self.old.log) (rows_of self.old).next result }
         ensures grows { Grows (is_done result) (added result by command.entry.now)
             (D.moment self.new.disk) self.old self.new }
+        ensures fed { 0 < self.old.spare → is_starved result ≡ false }
         ensures does { Goes (D.told self.old.disk) (D.told self.new.disk)
             (Passes self.old.waits Verdict.Ok (is_done result) (rows_of self.old) command.entry.now) }
         ensures closes { self.old.waits ≡ false → self.new.waits ≡ true →
@@ -86,23 +87,21 @@ impl<D: Disk> Board<D> {
         ensures cause { HasCause (is_disk_fault result)
             (D.fault_count self.old.disk) (D.fault_count self.new.disk) }
     {
-        let place = self.log.len() as u64;
+        let place = self.history.place();
         let stamp = self.index.next();
         let mut payload = [0u8; 512];
         let len = write_command(&mut payload, command);
-        if make_room(&mut self.index, &mut self.log, &mut self.marks).is_err() {
+        if make_room(&mut self.index, &mut self.history, 1).is_err() {
             return Err(CallFault::OutOfMemory);
         }
         let stored = put(&mut self.journal, &payload[..len]);
         let mark = self.journal.clock();
         if stored.is_err() {
-            self.log.push_reserved(Item::Doubt(by, *command));
-            self.marks.push_reserved(mark);
+            self.history.add(by, command, mark, &None);
             return Err(CallFault::Disk { place });
         }
-        let _events = apply(&mut self.index, command);
-        self.log.push_reserved(Item::Done(by, *command));
-        self.marks.push_reserved(mark);
+        let events = apply(&mut self.index, command);
+        self.history.add(by, command, mark, &Some(events));
         Ok(Reply::Ok { place, stamp })
     }
 
@@ -115,6 +114,7 @@ impl<D: Disk> Board<D> {
             (rows_of self.old).next result }
         ensures grows { Grows (is_done result) (added result by command)
             (D.moment self.new.disk) self.old self.new }
+        ensures fed { 0 < self.old.spare → is_starved result ≡ false }
         ensures does { Goes (D.told self.old.disk) (D.told self.new.disk)
             (Passes self.old.waits (verdict_of (rows_of self.old) command) (is_done result)
             (rows_of self.old) command) }
@@ -125,7 +125,7 @@ impl<D: Disk> Board<D> {
         ensures cause { HasCause (is_disk_fault result)
             (D.fault_count self.old.disk) (D.fault_count self.new.disk) }
     {
-        let place = self.log.len() as u64;
+        let place = self.history.place();
         match decide(&self.index, &command) {
             Verdict::Ok => self.transition(by, &command),
             Verdict::Same => Ok(Reply::Same { place }),
@@ -133,48 +133,14 @@ impl<D: Disk> Board<D> {
         }
     }
 
-    /// What the step of a command comes to, by a constant number of look-ups. It touches no device and
-    /// takes no memory.
-    pub fn verdict(&self, command: &Command) -> Verdict
-        ensures { result ≡ verdict_of (rows_of self.now) command.entry.now }
+    /// Has the memory of the next `n` legal calls at hand: none of them can want any. Where there is
+    /// none now, nothing but the room has changed.
+    pub fn reserve(&mut self, n: u32) -> Result<(), OutOfMemory>
+        ensures stays { self.new ≡ record self.old { spare = self.new.spare } }
+        ensures room { OnOk result (n ≤ self.new.spare) }
+        ensures kept { self.old.spare ≤ self.new.spare }
     {
-        decide(&self.index, command)
-    }
-
-    /// The rows. They are copied, in the time and the memory of all of them.
-    pub fn rows(&self, alloc: Global) -> Result<Rows, OutOfMemory>
-        ensures { IfOk result (λ rows. rows ≡ rows_of self.now) }
-    {
-        self.index.rows(alloc)
-    }
-
-    /// What the board did since its load, oldest first.
-    pub fn log(&self) -> &[Item]
-        ensures { result.now ≡ self.now.log }
-    {
-        &self.log
-    }
-
-    /// For each item of the log the disk's clock at the end of its call.
-    pub fn marks(&self) -> &[u64]
-        ensures { result.now ≡ self.now.marks }
-    {
-        &self.marks
-    }
-
-    /// The number of transitions in the board's life.
-    pub fn next(&self) -> u64
-        ensures value { result ≡ (rows_of self.now).next }
-        ensures most { result ≤ 1000000 }
-    {
-        self.index.next()
-    }
-
-    /// The number of device calls so far.
-    pub fn clock(&self) -> u64
-        ensures { result ≡ D.moment self.now.disk }
-    {
-        self.journal.clock()
+        make_room(&mut self.index, &mut self.history, n)
     }
 
     /// Gives the disk back, with what the board did on it.
@@ -189,11 +155,15 @@ impl<D: Disk> Board<D> {
             journal,
             index: _,
             base: _,
-            log,
-            marks,
+            history,
             since: _,
             faults: _,
         } = self;
+        let History {
+            log,
+            marks,
+            told: _,
+        } = history;
         Closed {
             disk: journal.into_disk(),
             log,

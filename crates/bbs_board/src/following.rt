@@ -9,7 +9,7 @@ use bbs_codec::read_command;
 use bbs_index::Index;
 use bbs_journal::LoadFault;
 use bbs_model::{Command, RowStore};
-use bbs_transitions::{Stepped, step_in};
+use bbs_transitions::redo;
 use diego_names::OutOfMemory;
 use disk_trait::Area;
 
@@ -21,10 +21,7 @@ fn follow_command(index: &mut Index, command: &Command) -> Result<bool, OutOfMem
     ensures valid { IsValid index.new.rows }
 {
     index.reserve(2)?;
-    match step_in(index, command) {
-        Stepped::Done(_) => Ok(true),
-        Stepped::Same | Stepped::Refused(_) => Ok(false),
-    }
+    Ok(redo(index, command))
 }
 
 /// Does the command of a payload, and tells whether it is one that is legal there.

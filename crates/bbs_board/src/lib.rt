@@ -4,14 +4,18 @@
 mod board;
 mod following;
 mod head;
+mod history;
+mod kept_in;
 mod laws;
 mod loading;
 mod memory_loading;
 mod putting;
+mod reading;
 mod room;
 
 pub use bbs_journal::{LoadFault, PrepareFault, prepare};
 pub use board::{Board, Closed};
+pub use kept_in::KeptIn;
 pub use laws::{
     a_board_is_not_refused, a_board_is_opened_in_one_way, a_refusal_is_one_refusal,
     a_stop_leaves_the_board_before_or_after, an_image_is_a_board_or_refused,

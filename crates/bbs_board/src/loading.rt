@@ -4,7 +4,8 @@ ghost use Rattle.byte_ports.specs.Cause.{HasCause};
 ghost use Rattle.disk_trait.specs.Past.{Image};
 ghost use Rattle.disk_trait.specs.Steps.{Goes};
 ghost use Rattle.bbs_journal.specs.Reading.{payloads_of, bytes_of};
-ghost use Rattle.bbs_journal.specs.Shows.{Shows, Keeps, Secures, is_disk_fault};
+ghost use Rattle.bbs_journal.specs.LoadFaults.{is_load_disk_fault};
+ghost use Rattle.disk_trait.specs.Shows.{Shows, KeepsContent, Secures};
 ghost use Rattle.bbs_model.specs.Valid.{IsValid};
 ghost use Rattle.bbs_board.specs.Opening.{board_of, IsBoard, Refuses, Gives};
 ghost use Rattle.bbs_board.specs.View.{IsFresh};
@@ -12,6 +13,7 @@ ghost use Rattle.bbs_board.specs.View.{IsFresh};
 use crate::Board;
 use crate::following::follow;
 use crate::head::{HEAD, rows_in};
+use crate::history::History;
 use bbs_index::Index;
 use bbs_journal::{LoadFault, Loaded};
 use disk_trait::{Area, Disk};
@@ -43,9 +45,9 @@ pub fn load<D: Disk>(alloc: Global, disk: D) -> Result<Board<D>, (D, LoadFault)>
     ensures faults { IfOk result (λ b. b.faults ≡ D.fault_count b.disk) }
     ensures refused { IfErr result (λ e. (c : Image) → Shows (D.told e.0) c → Refuses e.1 c) }
     ensures ok { IfOk result (λ b. Goes (D.told disk) (D.told b.disk) Secures) }
-    ensures err { IfErr result (λ e. Goes (D.told disk) (D.told e.0) Keeps) }
+    ensures err { IfErr result (λ e. Goes (D.told disk) (D.told e.0) KeepsContent) }
     ensures stood { IfOk result (λ b. D.fault_count b.disk ≡ D.fault_count disk) }
-    ensures cause { IfErr result (λ e. HasCause (is_disk_fault e.1)
+    ensures cause { IfErr result (λ e. HasCause (is_load_disk_fault e.1)
         (D.fault_count disk) (D.fault_count e.0)) }
 {
     // A load that succeeds meets none.
@@ -70,8 +72,7 @@ pub fn load<D: Disk>(alloc: Global, disk: D) -> Result<Board<D>, (D, LoadFault)>
             journal,
             index,
             base,
-            log: Vec::new(alloc),
-            marks: Vec::new(alloc),
+            history: History::new(alloc),
         }),
         Err(_) => Err((journal.into_disk(), LoadFault::OutOfMemory)),
     }

@@ -4,7 +4,8 @@ ghost use Rattle.byte_ports.specs.Cause.{HasCause};
 ghost use Rattle.disk_trait.specs.Memory.{memory_past, calls_of, faults_of};
 ghost use Rattle.disk_trait.specs.Past.{Image};
 ghost use Rattle.disk_trait.specs.Steps.{Goes};
-ghost use Rattle.bbs_journal.specs.Shows.{Shows, Keeps, Secures, is_disk_fault};
+ghost use Rattle.bbs_journal.specs.LoadFaults.{is_load_disk_fault};
+ghost use Rattle.disk_trait.specs.Shows.{Shows, KeepsContent, Secures};
 ghost use Rattle.bbs_board.specs.Opening.{IsBoard, Refuses};
 ghost use Rattle.bbs_board.specs.View.{IsFresh};
 
@@ -28,9 +29,9 @@ pub fn load_from_memory(
         Refuses e.1 c) }
     ensures ok { IfOk result (λ b. Goes (Some (memory_past disk)) (Some (memory_past b.disk))
         Secures) }
-    ensures err { IfErr result (λ e. Goes (Some (memory_past disk)) (Some (memory_past e.0)) Keeps) }
+    ensures err { IfErr result (λ e. Goes (Some (memory_past disk)) (Some (memory_past e.0)) KeepsContent) }
     ensures stood { IfOk result (λ b. faults_of b.disk ≡ faults_of disk) }
-    ensures cause { IfErr result (λ e. HasCause (is_disk_fault e.1)
+    ensures cause { IfErr result (λ e. HasCause (is_load_disk_fault e.1)
         (faults_of disk) (faults_of e.0)) }
 {
     load(alloc, disk)

@@ -2,7 +2,7 @@
 ghost use Rattle.std.specs.Prelude.{◌≡◌, ◌<◌, ◌^◌, true, false, length, is_ok, is_err};
 ghost use Rattle.byte_ports.specs.Cause.{HasCause};
 ghost use Rattle.disk_trait.specs.Steps.{Goes};
-ghost use Rattle.bbs_journal.specs.Calls.{Adds, Grows};
+ghost use Rattle.bbs_journal.specs.Calls.{AddsFrame, GrowsBy};
 ghost use Rattle.bbs_journal.specs.Frames.{IsPayload};
 ghost use Rattle.bbs_board.specs.Doubts.{RoseForEach};
 ghost use Rattle.bbs_board.specs.Puts.{Puts, PutTakes};
@@ -23,14 +23,14 @@ pub fn put<D: Disk>(journal: &mut Journal<D>, payload: &[u8]) -> Result<(), Disk
         journal.old.end) }
     ensures appends { journal.old.waits ≡ false → Goes (D.told journal.old.disk)
         (D.told journal.new.disk)
-        (Adds journal.old.area (is_ok result) journal.new.waits payload.now journal.old.end) }
+        (AddsFrame journal.old.area (is_ok result) journal.new.waits payload.now journal.old.end) }
     ensures closes { journal.old.waits ≡ false → journal.new.waits ≡ true →
         RoseForEach 2 (D.fault_count journal.old.disk) (D.fault_count journal.new.disk) }
     ensures calls { PutTakes (is_ok result) journal.old.waits
         (D.moment journal.old.disk) (D.moment journal.new.disk) }
     ensures cause { HasCause (is_err result)
         (D.fault_count journal.old.disk) (D.fault_count journal.new.disk) }
-    ensures grows { Grows (is_ok result) (length payload.now) journal.old journal.new }
+    ensures grows { GrowsBy (is_ok result) (length payload.now) journal.old journal.new }
 {
     journal.mend()?;
     match journal.append(payload) {

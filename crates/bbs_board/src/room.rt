@@ -1,24 +1,26 @@
-//! The memory that a transition needs, had before the first device call.
-ghost use Rattle.std.specs.Prelude.{◌≡◌, ◌+◌, ◌≤◌, OnOk, vec_len, vec_capacity};
+//! The memory that calls need, had before their first device call.
+ghost use Rattle.std.specs.Prelude.{◌≡◌, ◌≤◌, ◌<◌, ◌*◌, ◌^◌, OnOk, IsOk};
+ghost use Rattle.bbs_board.specs.History.{calls_for};
 
+use crate::history::History;
 use bbs_index::Index;
-use bbs_model::{Item, RowStore};
+use bbs_model::RowStore;
 use diego_names::OutOfMemory;
 
-/// Makes room for one more item with its mark, and for the rows that one command may add.
-pub fn make_room(
-    index: &mut Index,
-    log: &mut Vec<Item>,
-    marks: &mut Vec<u64>,
-) -> Result<(), OutOfMemory>
+/// Makes room for `n` more calls: for an item of each, and for the two rows that each may put. More
+/// rows than a u32 can say count as want of memory.
+pub fn make_room(index: &mut Index, history: &mut History, n: u32) -> Result<(), OutOfMemory>
     ensures rows { index.new.rows ≡ index.old.rows }
-    ensures lists { (log.new.items ≡ log.old.items) × (marks.new.items ≡ marks.old.items) }
-    ensures room { OnOk result (vec_len log.new + 1 ≤ vec_capacity log.new)
-        × OnOk result (vec_len marks.new + 1 ≤ vec_capacity marks.new) }
-    ensures spare { OnOk result (2 ≤ index.new.spare) }
+    ensures history { history.new ≡ record history.old { room = history.new.room } }
+    ensures room { OnOk result (n ≤ calls_for index.new.spare history.new.room) }
+    ensures succeeds { n < 2 ^ 31 → n ≤ calls_for index.old.spare history.old.room → IsOk result }
+    ensures kept { calls_for index.old.spare history.old.room
+        ≤ calls_for index.new.spare history.new.room }
 {
-    index.reserve(2)?;
-    log.reserve(1)?;
-    marks.reserve(1)?;
+    let Some(rows) = n.checked_mul(2) else {
+        return Err(OutOfMemory);
+    };
+    index.reserve(rows)?;
+    history.reserve(n as usize)?;
     Ok(())
 }

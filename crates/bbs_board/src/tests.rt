@@ -5,6 +5,7 @@ mod calls;
 mod defects;
 mod failing;
 mod heads;
+mod hearing;
 mod stops;
 
 use super::*;

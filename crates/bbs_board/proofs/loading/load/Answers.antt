@@ -4,6 +4,7 @@ use Rattle.std.proofs.lemmas.List.{length-map}
 use Rattle.disk_trait.specs.Past.{Past}
 use Rattle.bbs_journal.specs.Reading.{payloads_of}
 use Rattle.bbs_model.specs.Replay.{replay_log, IsLawful}
+use Rattle.bbs_model.specs.Told.{told_in}
 use Rattle.bbs_model.specs.Valid.{IsValid}
 use Rattle.bbs_model.specs.declared.rows.Rows.{Rows}
 use Rattle.bbs_model.specs.declared.item.Item.{Item}
@@ -20,19 +21,21 @@ invariant_of-result g c =
     let fresh = c.in-Ok.ensures.fresh in
     let count = counted c.in-Ok.loaded.journal.area c.in-Ok.loaded.head.items payloads c.in-Ok-board_of.index.rows (subst (λ (b : Option ℕ). board_of c.in-Ok.loaded.journal.area c.in-Ok.loaded.head.items payloads b ≡ Ok c.in-Ok-board_of.index.rows) none is) in
     let base_is : c.in-Ok-rows.base ≡ c.in-Ok-board_of.index.rows = c.in-Ok-rows.ensures.rows in
-    let log_is : c.new.result.items ≡ [] = c.new.ensures.items in
-    let marks_is : c.new-in-Ok-rows.result.items ≡ [] = c.new-in-Ok-rows.ensures.items in
+    let log_is : c.new.result.log ≡ [] = c.new.ensures.log in
+    let marks_is : c.new.result.marks ≡ [] = c.new.ensures.marks in
+    let frames_are = fresh.count ∙ sym (length-map c.in-Ok.loaded.frames.items (λ v. v.items)) in
     let timed : (q : Past) → g.D.Disk.told c.in-Ok.loaded.journal.disk ≡ Some q → q.clock ≡ c.clock.result = λ q told. g.met.D.Disk.timed c.in-Ok.loaded.journal.disk q told ∙ sym c.clock.ensures in
     record {
       opened = subst IsValid (sym base_is) c.in-Ok-board_of.ensures.valid;
       valid = c.in-Ok-board_of.ensures.valid;
       lawful = subst (IsLawful c.in-Ok-rows.base) (sym log_is) tt;
       rows_are = sym base_is ∙ ap (replay_log c.in-Ok-rows.base) (sym log_is);
+      events_are = c.new.ensures.told ∙ ap (told_in c.in-Ok-rows.base) (sym log_is);
       whole = fresh.broken ∙ ap is_some none;
       counted = omega (arith, fresh.count, count, length-map c.in-Ok.loaded.frames.items (λ v. v.items));
       doubted = subst (λ (l : List Item). RoseForEach (doubts_in l) c.faults-faults.result (g.D.Disk.fault_count c.in-Ok.loaded.journal.disk)) (sym log_is)
           (omega (arith, c.faults-faults.ensures, c.in-Ok.ensures.stood));
-      holds = rw (base_is, log_is, marks_is, fresh.mended)
+      holds = rw (base_is, log_is, marks_is, fresh.mended, frames_are)
           (loaded_holds _ _ c.in-Ok.loaded.journal.area c.in-Ok.loaded.journal.generation c.in-Ok.loaded.head.items payloads c.in-Ok.loaded.broken c.in-Ok.loaded.journal.end c.in-Ok-board_of.index.rows c.clock.result
           c.in-Ok.ensures.ok timed c.in-Ok.ensures.found c.in-Ok.ensures.end is);
     }
