@@ -9,6 +9,10 @@ use Rattle.task_records.specs.declared.refusal.TaskRefusal.{TaskRefusal}
 use Rattle.task_records.specs.declared.refusal.TaskRefusal.TheVariants as task
 use Rattle.bbs_model.specs.declared.verdict.BoardRefusal.{BoardRefusal}
 use Rattle.bbs_model.specs.declared.verdict.BoardRefusal.TheVariants as board
+use Rattle.container_store.specs.declared.refusal.StoreRefusal.{StoreRefusal}
+use Rattle.container_store.specs.declared.refusal.StoreRefusal.TheVariants as store
+use Rattle.cell_rep.specs.declared.call_end.RepRefusal.{RepRefusal}
+use Rattle.cell_rep.specs.declared.call_end.RepRefusal.TheVariants.{Down, Store}
 use Rattle.record_print.specs.Words.{state_word}
 use Rattle.record_print.specs.Spelled.{instance_text}
 
@@ -55,3 +59,16 @@ why_text board.BoardFull = codes "board full"
 why_text (board.LeaseHolds until) = codes "lease holds " ++ decimal until
 why_text (board.Lrp why) = lrp_why_text why
 why_text (board.Task why) = task_why_text why
+
+-- why the store of a cell refuses; no act of a cell meets the last of these
+abbrev pub store_why_text : StoreRefusal → List ℕ
+store_why_text store.NoMemoryLeft = codes "no memory left"
+store_why_text store.NoDiskLeft = codes "no disk left"
+store_why_text store.NoSlot = codes "no slot"
+store_why_text store.Unknown = codes "no container"
+store_why_text store.WrongState = codes "wrong state"
+
+-- why a rep makes no call
+abbrev pub rep_why_text : RepRefusal → List ℕ
+rep_why_text Down = codes "down"
+rep_why_text (Store why) = store_why_text why

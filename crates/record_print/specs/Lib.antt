@@ -3,3 +3,4 @@ pub mod Spelled
 pub mod Causes
 pub mod PrintedRows
 pub mod Printed
+pub mod PrintedRounds

@@ -5,31 +5,16 @@ use Rattle.lrp_records.specs.declared.actual.Actual.{Actual}
 use Rattle.lrp_records.specs.declared.desired.Desired.{Desired}
 use Rattle.lrp_records.specs.declared.state.LrpState.{LrpState}
 use Rattle.lrp_records.specs.declared.state.LrpState.TheVariants as lrp
-use Rattle.lrp_records.specs.States.{holder_of, name_of as lrp_name_of}
+use Rattle.lrp_records.specs.States.{holder_of, name_of as lrp_name_of, cell_of}
 use Rattle.task_records.specs.declared.state.TaskState.{TaskState}
 use Rattle.task_records.specs.declared.state.TaskState.TheVariants as task
 use Rattle.task_records.specs.declared.task.Task.{Task}
-use Rattle.task_records.specs.States.{name_of as task_name_of}
+use Rattle.task_records.specs.States.{task_state_name as task_name_of, runner_of, task_cell_of}
 use Rattle.cell_records.specs.declared.cell_row.CellRow.{CellRow}
 use Rattle.bbs_model.specs.declared.event.Row.{Row}
 use Rattle.bbs_model.specs.declared.event.Row.TheVariants as row
-use Rattle.bbs_model.specs.Valid.{runner_of}
 use Rattle.record_print.specs.Words.{presence_word, state_word}
 use Rattle.record_print.specs.Spelled.{whole, optional_name_data, optional_instance_data, optional_truth_data}
-
--- the cell that has an instance in that state
-abbrev pub lrp_cell_of : LrpState → Option (List ℕ)
-lrp_cell_of lrp.Unclaimed = None
-lrp_cell_of (lrp.Claimed instance cell) = Some cell
-lrp_cell_of (lrp.Running instance cell) = Some cell
-lrp_cell_of lrp.Crashed = None
-
--- the cell that runs a task in that state
-abbrev pub task_cell_of : TaskState → Option (List ℕ)
-task_cell_of task.Pending = None
-task_cell_of (task.Running instance cell) = Some cell
-task_cell_of (task.Completed failed) = None
-task_cell_of (task.Resolving failed) = None
 
 -- whether a task failed, once it has its outcome
 abbrev pub failed_of : TaskState → Option Bool
@@ -55,7 +40,7 @@ desired_data d =
 abbrev pub actual_data : Actual → Data
 actual_data a =
     object
-    (member (codes "cell") (optional_name_data (lrp_cell_of a.state))
+    (member (codes "cell") (optional_name_data (cell_of a.state))
     (member (codes "count") (whole a.count)
     (member (codes "error") (boolean a.error)
     (member (codes "index") (whole a.key.index)

@@ -4,8 +4,12 @@ use Rattle.std.specs.Fmt.{decimal}
 use Rattle.serde_json.specs.Data.{Data, null, boolean, number, unsigned, string}
 use Rattle.diego_names.specs.declared.instance.Instance.{Instance}
 use Rattle.diego_names.specs.declared.key.Key.{Key}
+use Rattle.cell_records.specs.declared.job_name.JobName.{JobName}
+use Rattle.cell_records.specs.declared.job_name.JobName.TheVariants as job
 use Rattle.bbs_model.specs.declared.command.Op.{Op}
 use Rattle.bbs_model.specs.declared.command.Op.TheVariants as op
+use Rattle.record_print.specs.declared.asked.Asked.{Asked}
+use Rattle.record_print.specs.declared.asked.Asked.TheVariants as asked
 
 -- an instance: the epoch of its cell, a point, and its number there
 abbrev pub instance_text : Instance → List ℕ
@@ -14,6 +18,11 @@ instance_text instance = decimal instance.epoch ++ (codes "." ++ decimal instanc
 -- a key: the process, a slash, and the index
 abbrev pub key_text : Key → List ℕ
 key_text key = key.process ++ (codes "/" ++ decimal key.index)
+
+-- a job: the key of an instance, or the name of a task
+abbrev pub job_text : JobName → List ℕ
+job_text (job.Lrp key) = key_text key
+job_text (job.Task name) = name
 
 -- what a command names: a process, an instance of one by its key, a task, or a cell
 abbrev pub subject_text : Op → List ℕ
@@ -42,6 +51,12 @@ subject_text (op.Join cell zone tag totals ttl) = cell
 subject_text (op.Renew cell epoch ttl) = cell
 subject_text (op.Drain cell epoch) = cell
 subject_text (op.Vanish cell) = cell
+
+-- what an actor asked about: what its command names, or the job that its line names, or else itself
+abbrev pub asked_subject : List ℕ → Asked → List ℕ
+asked_subject actor (asked.Command op) = subject_text op
+asked_subject actor (asked.Word word (Some job)) = job_text job
+asked_subject actor (asked.Word word None) = actor
 
 -- a whole number
 abbrev pub whole : ℕ → Data

@@ -10,10 +10,29 @@ use Rattle.bbs_model.specs.declared.event.Change.{Change}
 use Rattle.bbs_model.specs.declared.event.Change.TheVariants.{Created, Changed, Removed}
 use Rattle.bbs_model.specs.declared.event.Row.{Row}
 use Rattle.bbs_model.specs.declared.event.Row.TheVariants as row
-use Rattle.bbs_model.specs.declared.reply.CallEnd.{CallEnd}
-use Rattle.bbs_model.specs.declared.reply.CallEnd.TheVariants.{Got, Fault}
 use Rattle.bbs_model.specs.declared.reply.CallFault.TheVariants as fault
 use Rattle.bbs_model.specs.declared.reply.Reply.TheVariants as reply
+use Rattle.cell_rep.specs.declared.call_end.CallEnd.{CallEnd}
+use Rattle.cell_rep.specs.declared.call_end.CallEnd.TheVariants.{Got, Fault, CallLost, ReplyLost, Local, Idle}
+use Rattle.disk_trait.specs.declared.area.Area.{Area}
+use Rattle.disk_trait.specs.declared.area.Area.TheVariants.{A, B}
+use Rattle.record_print.specs.declared.asked.ActWord.{ActWord}
+use Rattle.record_print.specs.declared.asked.ActWord.TheVariants as act
+use Rattle.record_print.specs.declared.asked.Asked.{Asked}
+use Rattle.record_print.specs.declared.asked.Asked.TheVariants as asked
+
+-- the word of a cell's line
+abbrev pub act_word : ActWord → List ℕ
+act_word act.Join = codes "join"
+act_word act.Renew = codes "renew"
+act_word act.Claim = codes "claim"
+act_word act.Run = codes "run"
+act_word act.Up = codes "up"
+act_word act.Crash = codes "crash"
+act_word act.Finish = codes "finish"
+act_word act.Settle = codes "settle"
+act_word act.Evacuate = codes "evacuate"
+act_word act.Die = codes "die"
 
 -- the word of a command
 abbrev pub call_word : Op → List ℕ
@@ -43,6 +62,11 @@ call_word (op.Renew cell epoch ttl) = codes "renew"
 call_word (op.Drain cell epoch) = codes "drain"
 call_word (op.Vanish cell) = codes "vanish"
 
+-- the word of what was asked: that of the command, or that of the line where none was made
+abbrev pub asked_word : Asked → List ℕ
+asked_word (asked.Command op) = call_word op
+asked_word (asked.Word word job) = act_word word
+
 -- the word for how a call ended; the text of a phase that wants memory isn't printed
 abbrev pub end_word : CallEnd → List ℕ
 end_word (Got (reply.Ok place stamp)) = codes "ok"
@@ -50,6 +74,10 @@ end_word (Got (reply.Same place)) = codes "same"
 end_word (Got (reply.Refused why place)) = codes "refused"
 end_word (Fault (fault.Disk place)) = codes "disk"
 end_word (Fault fault.OutOfMemory) = []
+end_word CallLost = codes "lost call"
+end_word (ReplyLost answer) = codes "lost reply"
+end_word (Local why) = codes "refused"
+end_word Idle = codes "none"
 
 -- the word of a change
 abbrev pub change_word : Change → List ℕ
@@ -78,3 +106,8 @@ state_word Crashed = codes "crashed"
 state_word Pending = codes "pending"
 state_word Completed = codes "completed"
 state_word Resolving = codes "resolving"
+
+-- the word of an area
+abbrev pub check_area_word : Area → List ℕ
+check_area_word A = codes "a"
+check_area_word B = codes "b"

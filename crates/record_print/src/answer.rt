@@ -1,29 +1,32 @@
-//! The line that tells how a call ended.
+//! The line that tells how a call ended, or that none was made.
 ghost use Rattle.std.specs.Prelude.{◌≡◌, IfOk};
 ghost use Rattle.serde_json.specs.View.{view};
 ghost use Rattle.serde_json.specs.Data.{no_members as nothing_more};
 ghost use Rattle.record_print.specs.Printed.{line_text, answer_data, answer_members, refused_data};
 
+use crate::asked::Asked;
 use crate::line::text_line;
-use crate::spelled::subject_text;
-use crate::why::why_text;
-use crate::word::{call_word, end_word};
-use bbs_model::{BoardRefusal, CallEnd, Op, Reply};
+use crate::spelled::asked_subject;
+use crate::why::{rep_why_text, why_text};
+use crate::word::{asked_word, end_word};
+use bbs_model::Reply;
+use cell_rep::CallEnd;
 use diego_names::Name;
 use serde_json::{Value, json};
 use std::alloc::{AllocError, Global};
 
-/// The answer to an actor's command at a line of the scenario.
+/// The answer to an actor at a line of the scenario.
 pub fn answer_text(
     alloc: Global,
     actor: &Name,
     line: u32,
-    op: &Op,
+    asked: &Asked,
     end: &CallEnd,
 ) -> Result<Vec<u8>, AllocError>
-    ensures { IfOk result (λ v. v.items ≡ line_text (answer_data actor.now line op.now end.now)) }
+    ensures { IfOk result
+        (λ v. v.items ≡ line_text (answer_data actor.now line asked.now end.now)) }
 {
-    let answer = answer_value(alloc, actor, line, op, end)?;
+    let answer = answer_value(alloc, actor, line, asked, end)?;
     text_line(alloc, &answer)
 }
 
@@ -31,16 +34,17 @@ fn answer_value(
     alloc: Global,
     actor: &Name,
     line: u32,
-    op: &Op,
+    asked: &Asked,
     end: &CallEnd,
 ) -> Result<Value, AllocError>
-    ensures { IfOk result (λ v. view v ≡ answer_data actor.now line op.now end.now) }
+    ensures { IfOk result (λ v. view v ≡ answer_data actor.now line asked.now end.now) }
 {
     match end {
         CallEnd::Got(Reply::Refused { why, place: _ }) => {
-            refused_value(alloc, actor, line, op, why)
+            refused_value(alloc, actor, line, asked, &why_text(alloc, why)?)
         }
-        _ => plain_value(alloc, actor, line, op, end_word(end)),
+        CallEnd::Local(why) => refused_value(alloc, actor, line, asked, rep_why_text(*why)),
+        _ => plain_value(alloc, actor, line, asked, end_word(end)),
     }
 }
 
@@ -48,18 +52,18 @@ fn plain_value(
     alloc: Global,
     actor: &Name,
     line: u32,
-    op: &Op,
+    asked: &Asked,
     word: &str,
 ) -> Result<Value, AllocError>
     ensures { IfOk result
-        (λ v. view v ≡ answer_members actor.now word.now line op.now nothing_more) }
+        (λ v. view v ≡ answer_members actor.now word.now line asked.now nothing_more) }
 {
     json!(in alloc; {
         "actor": actor.as_str(),
         "answer": word,
-        "call": call_word(op),
+        "call": asked_word(asked),
         "line": line,
-        "subject": subject_text(alloc, op)?
+        "subject": asked_subject(alloc, actor, asked)?
     })
 }
 
@@ -67,17 +71,17 @@ fn refused_value(
     alloc: Global,
     actor: &Name,
     line: u32,
-    op: &Op,
-    why: &BoardRefusal,
+    asked: &Asked,
+    why: &str,
 ) -> Result<Value, AllocError>
-    ensures { IfOk result (λ v. view v ≡ refused_data actor.now line op.now why.now) }
+    ensures { IfOk result (λ v. view v ≡ refused_data actor.now line asked.now why.now) }
 {
     json!(in alloc; {
         "actor": actor.as_str(),
         "answer": "refused",
-        "call": call_word(op),
+        "call": asked_word(asked),
         "line": line,
-        "subject": subject_text(alloc, op)?,
-        "why": why_text(alloc, why)?
+        "subject": asked_subject(alloc, actor, asked)?,
+        "why": why
     })
 }

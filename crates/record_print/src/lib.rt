@@ -1,10 +1,13 @@
-//! Answers, events, rows and counts as lines of text.
+//! Answers, reports, events, rows and counts as lines of text.
 #![tactic(auto)]
 
 mod answer;
+mod asked;
+mod check;
 mod event;
 mod line;
 mod optional;
+mod round;
 mod rows;
 mod spelled;
 mod summary;
@@ -12,11 +15,14 @@ mod why;
 mod word;
 
 pub use answer::answer_text;
+pub use asked::{ActWord, Asked};
+pub use check::{Check, check_text};
 pub use event::{event_text, row_text};
-pub use spelled::subject_text;
+pub use round::{failed_round_text, report_text};
+pub use spelled::{job_text, subject_text};
 pub use summary::{Summary, summary_text};
-pub use why::why_text;
-pub use word::call_word;
+pub use why::{rep_why_text, why_text};
+pub use word::{act_word, call_word};
 
 #[cfg(test)]
 mod tests;

@@ -1,9 +1,11 @@
 //! How an instance and a key are spelled, and what a command names.
 ghost use Rattle.std.specs.Prelude.{◌≡◌, IfOk, string_bytes};
-ghost use Rattle.record_print.specs.Spelled.{instance_text, key_text, subject_text};
+ghost use Rattle.record_print.specs.Spelled.{asked_subject, instance_text, job_text, key_text, subject_text};
 
+use crate::asked::Asked;
 use bbs_model::Op;
-use diego_names::{Instance, Key};
+use cell_records::JobName;
+use diego_names::{Instance, Key, Name};
 use std::alloc::{AllocError, Global};
 
 /// The epoch of its cell, a point, and its number there.
@@ -22,6 +24,16 @@ pub fn key_text(alloc: Global, key: &Key) -> Result<String, AllocError>
     let process = key.process;
     let index = key.index;
     format!(in alloc; "{process}/{index}")
+}
+
+/// The key of an instance, or the name of a task.
+pub fn job_text(alloc: Global, job: &JobName) -> Result<String, AllocError>
+    ensures { IfOk result (λ s. string_bytes s ≡ job_text job.now) }
+{
+    match job {
+        JobName::Lrp(key) => key_text(alloc, key),
+        JobName::Task(name) => name.to_string(alloc),
+    }
 }
 
 /// What a command names: a process, an instance by its key, as `web/0`, a task, or a cell.
@@ -53,5 +65,16 @@ pub fn subject_text(alloc: Global, op: &Op) -> Result<String, AllocError>
         | Op::Renew { cell, .. }
         | Op::Drain { cell, .. }
         | Op::Vanish { cell } => cell.to_string(alloc),
+    }
+}
+
+/// What an actor asked about: what its command names, or the job that its line names, or else itself.
+pub fn asked_subject(alloc: Global, actor: &Name, asked: &Asked) -> Result<String, AllocError>
+    ensures { IfOk result (λ s. string_bytes s ≡ asked_subject actor.now asked.now) }
+{
+    match asked {
+        Asked::Command(op) => subject_text(alloc, op),
+        Asked::Word(_, Some(job)) => job_text(alloc, job),
+        Asked::Word(_, None) => actor.to_string(alloc),
     }
 }

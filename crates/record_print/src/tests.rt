@@ -1,11 +1,13 @@
 //! The printed text, at lines that were worked out by hand.
 mod answers;
 mod events;
+mod rounds;
 mod tables;
 
-use crate::{Summary, summary_text};
+use crate::{Check, Summary, check_text, summary_text};
 use cell_records::Amounts;
 use diego_names::{Instance, Key, Name};
+use disk_trait::Area;
 use lrp_records::Desired;
 use std::process::Abort;
 use std::test::Fail;
@@ -73,6 +75,35 @@ fn a_run_ends_with_its_counts(rt: HostRuntime) -> Result<(), Fail> {
             phases,
         };
         reads(&rt, summary_text(rt.alloc(), summary)?.as_slice(), want);
+    }
+    Ok(())
+}
+
+#[test]
+fn a_check_tells_the_area_that_holds_the_board(rt: HostRuntime) -> Result<(), Fail> {
+    for (area, frames, generation, next, want) in [
+        (
+            Area::A,
+            1,
+            1,
+            1,
+            r#"{"area":"a","frames":1,"generation":1,"next":1}"#,
+        ),
+        (
+            Area::B,
+            1,
+            2,
+            4097,
+            r#"{"area":"b","frames":1,"generation":2,"next":4097}"#,
+        ),
+    ] {
+        let check = Check {
+            area,
+            frames,
+            generation,
+            next,
+        };
+        reads(&rt, check_text(rt.alloc(), check)?.as_slice(), want);
     }
     Ok(())
 }

@@ -1,10 +1,12 @@
 //! Why a command was refused, in words.
 ghost use Rattle.std.specs.Prelude.{◌≡◌, IfOk, string_bytes};
-ghost use Rattle.record_print.specs.Causes.{held_text, lrp_why_text, not_due_text, task_why_text, why_text, wrong_instance_text, wrong_state_text};
+ghost use Rattle.record_print.specs.Causes.{held_text, lrp_why_text, not_due_text, rep_why_text, store_why_text, task_why_text, why_text, wrong_instance_text, wrong_state_text};
 
 use crate::spelled::instance_text;
 use crate::word::state_word;
 use bbs_model::BoardRefusal;
+use cell_rep::RepRefusal;
+use container_store::StoreRefusal;
 use diego_names::{Instance, StateName};
 use lrp_records::LrpRefusal;
 use std::alloc::{AllocError, Global};
@@ -48,6 +50,28 @@ fn task_why_text(alloc: Global, why: &TaskRefusal) -> Result<String, AllocError>
         TaskRefusal::WrongState { state } => wrong_state_text(alloc, *state),
         TaskRefusal::WrongInstance { have } => wrong_instance_text(alloc, have),
         TaskRefusal::NotDue { at } => not_due_text(alloc, *at),
+    }
+}
+
+/// Why a rep makes no call.
+pub fn rep_why_text(why: RepRefusal) -> &'static str
+    ensures { result.now ≡ rep_why_text why }
+{
+    match why {
+        RepRefusal::Down => "down",
+        RepRefusal::Store(why) => store_why_text(why),
+    }
+}
+
+fn store_why_text(why: StoreRefusal) -> &'static str
+    ensures { result.now ≡ store_why_text why }
+{
+    match why {
+        StoreRefusal::NoMemoryLeft => "no memory left",
+        StoreRefusal::NoDiskLeft => "no disk left",
+        StoreRefusal::NoSlot => "no slot",
+        StoreRefusal::Unknown => "no container",
+        StoreRefusal::WrongState => "wrong state",
     }
 }
 

@@ -1,9 +1,12 @@
 //! The words that stand in printed lines.
 ghost use Rattle.std.specs.Prelude.{◌≡◌};
-ghost use Rattle.record_print.specs.Words.{call_word, change_word, end_word, presence_word, state_word, table_word};
+ghost use Rattle.record_print.specs.Words.{act_word, check_area_word, asked_word, call_word, change_word, end_word, presence_word, state_word, table_word};
 
-use bbs_model::{CallEnd, CallFault, Change, Op, Reply, Row};
+use crate::asked::{ActWord, Asked};
+use bbs_model::{CallFault, Change, Op, Reply, Row};
+use cell_rep::CallEnd;
 use diego_names::StateName;
+use disk_trait::Area;
 use lrp_records::Presence;
 
 /// The word of a command. A scenario's own words for what a client asks are among them.
@@ -39,6 +42,33 @@ pub fn call_word(op: &Op) -> &'static str
     }
 }
 
+/// The word of a cell's line that made no command.
+pub fn act_word(word: ActWord) -> &'static str
+    ensures { result.now ≡ act_word word }
+{
+    match word {
+        ActWord::Join => "join",
+        ActWord::Renew => "renew",
+        ActWord::Claim => "claim",
+        ActWord::Run => "run",
+        ActWord::Up => "up",
+        ActWord::Crash => "crash",
+        ActWord::Finish => "finish",
+        ActWord::Settle => "settle",
+        ActWord::Evacuate => "evacuate",
+        ActWord::Die => "die",
+    }
+}
+
+pub fn asked_word(asked: &Asked) -> &'static str
+    ensures { result.now ≡ asked_word asked.now }
+{
+    match asked {
+        Asked::Command(op) => call_word(op),
+        Asked::Word(word, _) => act_word(*word),
+    }
+}
+
 /// Empty for a call that wanted memory, whose phase isn't printed.
 pub fn end_word(end: &CallEnd) -> &'static str
     ensures { result.now ≡ end_word end.now }
@@ -49,6 +79,10 @@ pub fn end_word(end: &CallEnd) -> &'static str
         CallEnd::Got(Reply::Refused { .. }) => "refused",
         CallEnd::Fault(CallFault::Disk { .. }) => "disk",
         CallEnd::Fault(CallFault::OutOfMemory) => "",
+        CallEnd::CallLost => "lost call",
+        CallEnd::ReplyLost(_) => "lost reply",
+        CallEnd::Local(_) => "refused",
+        CallEnd::Idle => "none",
     }
 }
 
@@ -93,5 +127,14 @@ pub fn state_word(state: StateName) -> &'static str
         StateName::Pending => "pending",
         StateName::Completed => "completed",
         StateName::Resolving => "resolving",
+    }
+}
+
+pub fn area_word(area: Area) -> &'static str
+    ensures { result.now ≡ check_area_word area }
+{
+    match area {
+        Area::A => "a",
+        Area::B => "b",
     }
 }

@@ -1,7 +1,7 @@
 ghost use Rattle.std.specs.Prelude.{◌≡◌, IfOk};
 ghost use Rattle.serde_json.specs.View.{view};
-ghost use Rattle.lrp_records.specs.States.{holder_of, name_of};
-ghost use Rattle.record_print.specs.PrintedRows.{actual_data, lrp_cell_of};
+ghost use Rattle.lrp_records.specs.States.{holder_of, name_of, cell_of};
+ghost use Rattle.record_print.specs.PrintedRows.{actual_data};
 ghost use Rattle.record_print.specs.Spelled.{optional_instance_data, optional_name_data};
 ghost use Rattle.record_print.specs.Words.{state_word};
 
@@ -28,19 +28,10 @@ pub fn actual_value(alloc: Global, row: &Actual) -> Result<Value, AllocError>
     })
 }
 
-fn cell_of(state: &LrpState) -> Option<Name>
-    ensures { result ≡ lrp_cell_of state.now }
-{
-    match state {
-        LrpState::Claimed { cell, .. } | LrpState::Running { cell, .. } => Some(*cell),
-        LrpState::Unclaimed | LrpState::Crashed => None,
-    }
-}
-
 fn cell_value(alloc: Global, state: &LrpState) -> Result<Value, AllocError>
-    ensures { IfOk result (λ v. view v ≡ optional_name_data (lrp_cell_of state.now)) }
+    ensures { IfOk result (λ v. view v ≡ optional_name_data (cell_of state.now)) }
 {
-    optional_name_value(alloc, &cell_of(state))
+    optional_name_value(alloc, &state.cell())
 }
 
 fn instance_value(alloc: Global, state: &LrpState) -> Result<Value, AllocError>

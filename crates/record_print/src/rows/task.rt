@@ -1,8 +1,7 @@
 ghost use Rattle.std.specs.Prelude.{◌≡◌, IfOk};
 ghost use Rattle.serde_json.specs.View.{view};
-ghost use Rattle.bbs_model.specs.Valid.{runner_of};
-ghost use Rattle.task_records.specs.States.{name_of};
-ghost use Rattle.record_print.specs.PrintedRows.{failed_of, task_cell_of, task_data};
+ghost use Rattle.task_records.specs.States.{task_state_name, runner_of, task_cell_of};
+ghost use Rattle.record_print.specs.PrintedRows.{failed_of, task_data};
 ghost use Rattle.record_print.specs.Spelled.{optional_instance_data, optional_name_data, optional_truth_data};
 ghost use Rattle.record_print.specs.Words.{state_word};
 
@@ -32,21 +31,13 @@ pub fn task_value(alloc: Global, row: &Task) -> Result<Value, AllocError>
 fn cell_value(alloc: Global, state: &TaskState) -> Result<Value, AllocError>
     ensures { IfOk result (λ v. view v ≡ optional_name_data (task_cell_of state.now)) }
 {
-    let cell = match state {
-        TaskState::Running { cell, .. } => Some(*cell),
-        _ => None,
-    };
-    optional_name_value(alloc, &cell)
+    optional_name_value(alloc, &state.cell())
 }
 
 fn instance_value(alloc: Global, state: &TaskState) -> Result<Value, AllocError>
     ensures { IfOk result (λ v. view v ≡ optional_instance_data (runner_of state.now)) }
 {
-    let instance = match state {
-        TaskState::Running { instance, .. } => Some(*instance),
-        _ => None,
-    };
-    optional_instance_value(alloc, &instance)
+    optional_instance_value(alloc, &state.runner())
 }
 
 // Only a task that has its outcome has failed or not.
@@ -60,7 +51,7 @@ fn failed_value(state: &TaskState) -> Value
 }
 
 fn word_of(state: &TaskState) -> &'static str
-    ensures { result.now ≡ state_word (name_of state.now) }
+    ensures { result.now ≡ state_word (task_state_name state.now) }
 {
     state_word(state.name())
 }

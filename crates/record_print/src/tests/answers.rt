@@ -1,84 +1,108 @@
+//! Answers: each way in which a call ends, and lines that made none.
 use super::{desired, instance, key, name, reads};
-use crate::answer_text;
-use bbs_model::{BoardRefusal, CallEnd, CallFault, Op, Reply};
-use diego_names::StateName;
+use crate::{ActWord, Asked, answer_text};
+use bbs_model::{BoardRefusal, CallFault, Op, Reply};
+use cell_records::JobName;
+use cell_rep::{CallEnd, RepRefusal};
+use container_store::StoreRefusal;
+use diego_names::{Instance, StateName};
 use lrp_records::LrpRefusal;
+use std::alloc::Global;
+use std::process::Abort;
 use std::test::Fail;
 use task_records::TaskRefusal;
 
-const OK: CallEnd = CallEnd::Got(Reply::Ok { place: 0, stamp: 0 });
+const OK: Reply = Reply::Ok { place: 0, stamp: 0 };
 
-const SAME: CallEnd = CallEnd::Got(Reply::Same { place: 0 });
+const SAME: Reply = Reply::Same { place: 0 };
 
-const DISK: CallEnd = CallEnd::Fault(CallFault::Disk { place: 0 });
+const DISK: CallFault = CallFault::Disk { place: 0 };
 
-const fn refused(why: BoardRefusal) -> CallEnd {
-    CallEnd::Got(Reply::Refused { why, place: 0 })
+const HELD: BoardRefusal = BoardRefusal::Lrp(LrpRefusal::Held {
+    by: Instance {
+        epoch: 0,
+        number: 1,
+    },
+});
+
+const fn refused(why: BoardRefusal) -> Reply {
+    Reply::Refused { why, place: 0 }
 }
 
-fn desire() -> Result<Op, Fail> {
+fn desire() -> Result<Asked, Fail> {
     let desired = desired()?;
-    Ok(Op::Desire { desired })
+    Ok(Asked::Command(Op::Desire { desired }))
 }
 
-fn claim() -> Result<Op, Fail> {
-    Ok(Op::Claim {
+fn claim() -> Result<Asked, Fail> {
+    Ok(Asked::Command(Op::Claim {
         key: key("web", 0)?,
         instance: instance(1, 1),
         cell: name("c2")?,
-    })
+    }))
 }
 
-fn complete() -> Result<Op, Fail> {
-    Ok(Op::CompleteTask {
+fn complete() -> Result<Asked, Fail> {
+    Ok(Asked::Command(Op::CompleteTask {
         name: name("job")?,
         instance: instance(1, 1),
         failed: false,
-    })
+    }))
+}
+
+fn answer_reads(
+    rt: &impl Abort,
+    alloc: Global,
+    actor: &str,
+    line: u32,
+    asked: &Asked,
+    end: &CallEnd,
+    want: &str,
+) -> Result<(), Fail> {
+    let text = answer_text(alloc, &name(actor)?, line, asked, end)?;
+    reads(rt, text.as_slice(), want);
+    Ok(())
 }
 
 #[test]
-fn an_answer_tells_who_asked_and_what_came_of_it(rt: HostRuntime) -> Result<(), Fail> {
-    let (key, cell, instance) = (key("web", 0)?, name("c1")?, instance(1, 1));
-    for (actor, line, op, end, want) in [
+fn an_answer_tells_what_came_of_a_call_that_was_heard(rt: HostRuntime) -> Result<(), Fail> {
+    for (actor, line, asked, end, want) in [
         (
-            "c1",
-            6,
-            Op::Drain { cell, epoch: 0 },
-            SAME,
-            r#"{"actor":"c1","answer":"same","call":"drain","line":6,"subject":"c1"}"#,
+            "cli",
+            2,
+            desire()?,
+            CallEnd::Got(OK),
+            r#"{"actor":"cli","answer":"ok","call":"desire","line":2,"subject":"web"}"#,
         ),
         (
             "c1",
             10,
-            Op::Evacuate { key, instance },
-            OK,
-            r#"{"actor":"c1","answer":"ok","call":"evacuate","line":10,"subject":"web/0"}"#,
+            claim()?,
+            CallEnd::Got(SAME),
+            r#"{"actor":"c1","answer":"same","call":"claim","line":10,"subject":"web/0"}"#,
         ),
         (
             "cli",
             2,
             desire()?,
-            DISK,
+            CallEnd::Fault(DISK),
             r#"{"actor":"cli","answer":"disk","call":"desire","line":2,"subject":"web"}"#,
         ),
     ] {
-        let text = answer_text(rt.alloc(), &name(actor)?, line, &op, &end)?;
-        reads(&rt, text.as_slice(), want);
+        answer_reads(&rt, rt.alloc(), actor, line, &asked, &end, want)?;
     }
     Ok(())
 }
 
 #[test]
 fn a_refused_answer_tells_why(rt: HostRuntime) -> Result<(), Fail> {
-    let held = LrpRefusal::Held { by: instance(0, 1) };
     let state = StateName::Completed;
-    for (actor, line, op, why, want) in [
+    for (actor, line, asked, why, want) in [
         (
             "c2",
             12,
             claim()?,
-            BoardRefusal::Lrp(held),
+            HELD,
             r#"{"actor":"c2","answer":"refused","call":"claim","line":12,"subject":"web/0","why":"held 0.1"}"#,
         ),
         (
@@ -96,8 +120,69 @@ fn a_refused_answer_tells_why(rt: HostRuntime) -> Result<(), Fail> {
             r#"{"actor":"cli","answer":"refused","call":"desire","line":3,"subject":"web","why":"exists"}"#,
         ),
     ] {
-        let text = answer_text(rt.alloc(), &name(actor)?, line, &op, &refused(why))?;
-        reads(&rt, text.as_slice(), want);
+        let end = CallEnd::Got(refused(why));
+        answer_reads(&rt, rt.alloc(), actor, line, &asked, &end, want)?;
+    }
+    Ok(())
+}
+
+#[test]
+fn a_lost_call_or_reply_tells_nothing_of_the_board(rt: HostRuntime) -> Result<(), Fail> {
+    let claim = claim()?;
+    let call = r#"{"actor":"c1","answer":"lost call","call":"claim","line":10,"subject":"web/0"}"#;
+    let reply =
+        r#"{"actor":"c1","answer":"lost reply","call":"claim","line":10,"subject":"web/0"}"#;
+    for (end, want) in [
+        (CallEnd::CallLost, call),
+        (CallEnd::ReplyLost(Ok(OK)), reply),
+        (CallEnd::ReplyLost(Ok(SAME)), reply),
+        (CallEnd::ReplyLost(Ok(refused(HELD))), reply),
+        (CallEnd::ReplyLost(Err(DISK)), reply),
+    ] {
+        answer_reads(&rt, rt.alloc(), "c1", 10, &claim, &end, want)?;
+    }
+    Ok(())
+}
+
+#[test]
+fn a_line_without_a_call_tells_its_word_and_its_job_or_its_cell(
+    rt: HostRuntime,
+) -> Result<(), Fail> {
+    let web = Some(JobName::Lrp(key("web", 0)?));
+    let job = Some(JobName::Task(name("job")?));
+    for (word, of, end, want) in [
+        (
+            ActWord::Evacuate,
+            None,
+            CallEnd::Local(RepRefusal::Down),
+            r#"{"actor":"c1","answer":"refused","call":"evacuate","line":4,"subject":"c1","why":"down"}"#,
+        ),
+        (
+            ActWord::Run,
+            web,
+            CallEnd::Local(RepRefusal::Store(StoreRefusal::NoSlot)),
+            r#"{"actor":"c1","answer":"refused","call":"run","line":4,"subject":"web/0","why":"no slot"}"#,
+        ),
+        (
+            ActWord::Finish,
+            job,
+            CallEnd::Local(RepRefusal::Store(StoreRefusal::Unknown)),
+            r#"{"actor":"c1","answer":"refused","call":"finish","line":4,"subject":"job","why":"no container"}"#,
+        ),
+        (
+            ActWord::Up,
+            job,
+            CallEnd::Idle,
+            r#"{"actor":"c1","answer":"none","call":"up","line":4,"subject":"job"}"#,
+        ),
+        (
+            ActWord::Die,
+            None,
+            CallEnd::Idle,
+            r#"{"actor":"c1","answer":"none","call":"die","line":4,"subject":"c1"}"#,
+        ),
+    ] {
+        answer_reads(&rt, rt.alloc(), "c1", 4, &Asked::Word(word, of), &end, want)?;
     }
     Ok(())
 }

@@ -1,7 +1,9 @@
 //! The words of all commands and the causes of all refusals, as docs/scenario.md lists them.
 use super::{TOTALS, desired, instance, key, name};
-use crate::{call_word, subject_text, why_text};
+use crate::{ActWord, act_word, call_word, rep_why_text, subject_text, why_text};
 use bbs_model::{BoardRefusal, Op};
+use cell_rep::RepRefusal;
+use container_store::StoreRefusal;
 use diego_names::StateName;
 use lrp_records::LrpRefusal;
 use std::alloc::Global;
@@ -189,6 +191,36 @@ fn of_states(rt: &impl Abort, alloc: Global) -> Result<(), Fail> {
     Ok(())
 }
 
+fn of_reps(rt: &impl Abort) {
+    assert_eq!(rt; rep_why_text(RepRefusal::Down), "down");
+    for (why, want) in [
+        (StoreRefusal::NoMemoryLeft, "no memory left"),
+        (StoreRefusal::NoDiskLeft, "no disk left"),
+        (StoreRefusal::NoSlot, "no slot"),
+        (StoreRefusal::Unknown, "no container"),
+    ] {
+        assert_eq!(rt; rep_why_text(RepRefusal::Store(why)), want);
+    }
+}
+
+#[test]
+fn every_line_of_a_cell_has_its_word(rt: HostRuntime) {
+    for (word, want) in [
+        (ActWord::Join, "join"),
+        (ActWord::Renew, "renew"),
+        (ActWord::Claim, "claim"),
+        (ActWord::Run, "run"),
+        (ActWord::Up, "up"),
+        (ActWord::Crash, "crash"),
+        (ActWord::Finish, "finish"),
+        (ActWord::Settle, "settle"),
+        (ActWord::Evacuate, "evacuate"),
+        (ActWord::Die, "die"),
+    ] {
+        assert_eq!(rt; act_word(word), want);
+    }
+}
+
 #[test]
 fn every_command_is_told_by_its_word_and_what_it_names(rt: HostRuntime) -> Result<(), Fail> {
     processes(&rt, rt.alloc())?;
@@ -201,5 +233,6 @@ fn every_command_is_told_by_its_word_and_what_it_names(rt: HostRuntime) -> Resul
 fn every_refusal_is_told_by_its_cause(rt: HostRuntime) -> Result<(), Fail> {
     of_the_board(&rt, rt.alloc())?;
     of_moves(&rt, rt.alloc())?;
+    of_reps(&rt);
     of_states(&rt, rt.alloc())
 }

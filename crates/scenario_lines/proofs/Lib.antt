@@ -1,0 +1,5 @@
+pub mod Among
+pub mod Fitting
+pub mod JsonText
+pub mod ListedNames
+pub mod Public

@@ -1,0 +1,83 @@
+-- What a client asks of the board, by its line.
+use Rattle.std.specs.Prelude.{Result, Ok}
+use Rattle.serde_json.specs.Data.{Data}
+use Rattle.bbs_model.specs.declared.command.Op.{Op}
+use Rattle.bbs_model.specs.declared.command.Op.TheVariants as op
+use Rattle.scenario_lines.specs.Flaws.{◌>>=◌}
+use Rattle.scenario_lines.specs.Names.{name_given, optional_name_in}
+use Rattle.scenario_lines.specs.Values.{key_said, number_given, port_in}
+use Rattle.scenario_lines.specs.declared.flaw.Flaw.{Flaw}
+use Rattle.scenario_lines.specs.declared.form.ClientOp.{ClientOp}
+use Rattle.scenario_lines.specs.declared.form.ClientOp.TheVariants as client
+use Rattle.scenario_lines.specs.declared.member.Member.TheVariants as member
+
+-- a process is wanted
+unfoldable pub desire_said : Data → Result Op Flaw
+desire_said d = do
+  process ← name_given member.Process d
+  domain ← name_given member.Domain d
+  instances ← number_given member.Instances d
+  memory ← number_given member.Memory d
+  disk ← number_given member.Disk d
+  tag ← optional_name_in member.Tag d
+  route ← optional_name_in member.Route d
+  port ← port_in d
+  Ok (op.Desire (record {
+    process = process;
+    domain = domain;
+    instances = instances;
+    memory = memory;
+    disk = disk;
+    tag = tag;
+    route = route;
+    port = port;
+  }))
+
+-- a process is wanted in so many instances, with this route and port
+unfoldable pub update_in : Data → Result Op Flaw
+update_in d = do
+  process ← name_given member.Process d
+  instances ← number_given member.Instances d
+  route ← optional_name_in member.Route d
+  port ← port_in d
+  Ok (op.Update process instances route port)
+
+-- a process is wanted no more
+unfoldable pub undesire_in : Data → Result Op Flaw
+undesire_in d = name_given member.Process d >>= λ process. Ok (op.Undesire process)
+
+-- a crashed instance is tried again
+unfoldable pub restart_in : Data → Result Op Flaw
+restart_in d = key_said d >>= λ key. Ok (op.Restart key)
+
+-- a task is wanted
+unfoldable pub task_said : Data → Result Op Flaw
+task_said d = do
+  name ← name_given member.Name d
+  memory ← number_given member.Memory d
+  disk ← number_given member.Disk d
+  tag ← optional_name_in member.Tag d
+  Ok (op.NewTask name memory disk tag)
+
+-- a task is given up
+unfoldable pub cancel_in : Data → Result Op Flaw
+cancel_in d = name_given member.Name d >>= λ name. Ok (op.CancelTask name)
+
+-- a task's outcome begins to be taken
+unfoldable pub resolve_in : Data → Result Op Flaw
+resolve_in d = name_given member.Name d >>= λ name. Ok (op.ResolveTask name)
+
+-- a task's outcome was taken
+unfoldable pub delete_in : Data → Result Op Flaw
+delete_in d = name_given member.Name d >>= λ name. Ok (op.DeleteTask name)
+
+-- what a client asks
+abbrev pub asked_in : ClientOp → Data → Result Op Flaw
+asked_in client.Desire d = desire_said d
+asked_in client.Update d = update_in d
+asked_in client.Undesire d = undesire_in d
+asked_in client.Restart d = restart_in d
+asked_in client.Task d = task_said d
+asked_in client.Cancel d = cancel_in d
+asked_in client.Resolve d = resolve_in d
+asked_in client.Delete d = delete_in d

@@ -1,0 +1,12 @@
+pub mod Acts
+pub mod CellActs
+pub mod ClientActs
+pub mod Contents
+pub mod Flaws
+pub mod Forms
+pub mod Kinds
+pub mod Laws
+pub mod Members
+pub mod Names
+pub mod Shapes
+pub mod Values

@@ -1,0 +1,28 @@
+//! One line of a scenario: what it says, or the first thing that is wrong with it.
+#![tactic(auto)]
+
+mod act;
+mod actor;
+mod cell;
+mod client;
+mod content;
+mod flaw;
+mod form;
+mod form_of;
+mod json;
+mod kind;
+mod laws;
+mod line;
+mod member;
+mod names;
+mod needs;
+mod round;
+mod shape;
+mod values;
+
+pub use act::{Act, Loss};
+pub use actor::Actor;
+pub use content::{ActLine, Content, Losses};
+pub use flaw::{Flaw, LineError};
+pub use laws::acts_fit_their_actors;
+pub use line::read_line;
