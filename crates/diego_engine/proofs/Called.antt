@@ -8,7 +8,7 @@ use Rattle.bbs_model.specs.declared.item.Item.{Item}
 use Rattle.bbs_model.specs.declared.rows.Rows.{Rows}
 use Rattle.bbs_board.specs.Doubts.{doubts_in, RoseForEach}
 use Rattle.bbs_board.specs.Kept.{Kept}
-use Rattle.diego_engine.specs.Phase.{command_of, end_of}
+use Rattle.diego_engine.specs.Phase.{command_of, call_end_of}
 use Rattle.diego_engine.specs.Running.{Ports, Prints, Calls, EndsCall, CallEnds, ending_of}
 use Rattle.diego_engine.specs.declared.ending.Ending.{Ending}
 use Rattle.diego_engine.specs.declared.phase.Phase.{Phase}
@@ -22,7 +22,7 @@ pub ends_call : (script : Script) (rows : Rows) (phase : Phase) (log : List Item
     → EndsCall script rows whole phase.doubt e v w
 ends_call script rows phase log marks v w calls cause lawful kept doubts e log_is marks_are answers_are whole prints = record {
   stored = calls.stored;
-  call_end = end_of (verdict_of rows (command_of script)) rows.next calls.stored;
+  call_end = call_end_of (verdict_of rows (command_of script)) rows.next calls.stored;
   end_is = refl;
   stores = calls.does;
   failed_is = calls.tells.doubt;

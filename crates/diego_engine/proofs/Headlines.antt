@@ -4,9 +4,8 @@ use Rattle.disk_trait.specs.Past.{Past}
 use Rattle.disk_trait.specs.Runs.{Extends}
 use Rattle.disk_trait.specs.Held.{Leaves}
 use Rattle.disk_trait.specs.Steps.{Goes}
-use Rattle.disk_trait.proofs.Steps.{extends_same}
-use Rattle.disk_trait.proofs.Told.{goes_same, goes_weaker}
-use Rattle.bbs_journal.specs.Shows.{Keeps as KeepsContent}
+use Rattle.disk_trait.proofs.Public.{extends_same, goes_same, goes_weaker}
+use Rattle.disk_trait.specs.Shows.{KeepsContent}
 use Rattle.bbs_model.specs.Step.{verdict_of}
 use Rattle.bbs_model.specs.declared.item.Item.{Item}
 use Rattle.bbs_board.specs.Calls.{StoresBy}
@@ -14,7 +13,7 @@ use Rattle.bbs_board.specs.Doubts.{doubts_in, RoseForEach}
 use Rattle.diego_engine.specs.Headline.{Headline}
 use Rattle.diego_engine.specs.Phase.{command_of}
 use Rattle.diego_engine.specs.Running.{Ports, IsEmpty, EndsEarly, EndsLate}
-use Rattle.diego_engine.specs.Top.{EndsUntouched, RunEnds, Ends}
+use Rattle.diego_engine.specs.Top.{EndsUntouched, RunEnds, ProgramEnds}
 use Rattle.diego_engine.specs.declared.ending.Ending.{Ending}
 use Rattle.diego_engine.specs.declared.ending.Ending.TheVariants as ending
 use Rattle.diego_engine.specs.declared.running.Ended.{Ended}
@@ -73,8 +72,8 @@ module _ (e : Ended) (v w : Ports) where
     by_ending ending.Usage never = absurd never
     by_ending ending.Exists never = absurd never
 
-    pub headline_from : (how : Ending) (what : Option Asked) → what ≡ Some asked.Run → Ends how what e left left' v w → HasHeadline
-    headline_from how what is ends = by_ending how (subst (λ (x : Option Asked). Ends how x e left left' v w) is ends)
+    pub headline_from : (how : Ending) (what : Option Asked) → what ≡ Some asked.Run → ProgramEnds how what e left left' v w → HasHeadline
+    headline_from how what is ends = by_ending how (subst (λ (x : Option Asked). ProgramEnds how x e left left' v w) is ends)
 
     -- ---- doubts
 
@@ -84,7 +83,7 @@ module _ (e : Ended) (v w : Ports) where
     called : (script : Script) (whole failed : Bool) → EndsLate script whole failed e v w → RoseForEach (doubts_in e.log.items) v.disk_faults w.disk_faults
     called script whole failed ends = subst (λ (n : ℕ). RoseForEach (doubts_in e.log.items) n w.disk_faults) ends.no_fault ends.call.doubts
 
-    pub doubts_from : (how : Ending) (what : Option Asked) → Ends how what e left left' v w → RoseForEach (doubts_in e.log.items) v.disk_faults w.disk_faults
+    pub doubts_from : (how : Ending) (what : Option Asked) → ProgramEnds how what e left left' v w → RoseForEach (doubts_in e.log.items) v.disk_faults w.disk_faults
     doubts_from ending.Done (Some asked.Run) (script, reads, ends) = called script _ _ ends
     doubts_from ending.Doubt (Some asked.Run) (script, reads, ends) = called script _ _ ends
     doubts_from ending.Unwritten (Some asked.Run) (script, reads, (failed, ends)) = called script _ failed ends

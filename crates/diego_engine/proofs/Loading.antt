@@ -3,12 +3,13 @@ use Rattle.std.proofs.Common.{◌≡◌, ◌∙◌, Bool, true, false, Option, S
 use Rattle.byte_ports.specs.Cause.{HasCause}
 use Rattle.disk_trait.specs.Past.{Past, Image}
 use Rattle.disk_trait.specs.Steps.{Goes}
-use Rattle.disk_trait.proofs.Told.{goes_then, goes_weaker}
+use Rattle.disk_trait.proofs.Public.{goes_then, goes_weaker}
 use Rattle.bbs_board.specs.Opening.{IsBoard, IsRefused, Refuses}
-use Rattle.bbs_journal.specs.Shows.{Shows, Keeps as KeepsContent, Secures, is_disk_fault}
+use Rattle.bbs_journal.specs.LoadFaults.{is_load_disk_fault}
+use Rattle.disk_trait.specs.Shows.{Shows, KeepsContent, Secures}
 use Rattle.bbs_journal.specs.declared.load_fault.LoadFault.{LoadFault}
 use Rattle.bbs_journal.specs.declared.load_fault.LoadFault.TheVariants as fault
-use Rattle.bbs_journal.proofs.Peeking.{keeps_then}
+use Rattle.bbs_journal.proofs.Public.{keeps_then}
 use Rattle.bbs_model.specs.declared.rows.Rows.{Rows}
 use Rattle.diego_engine.specs.Ending.{line_of}
 use Rattle.diego_engine.specs.Running.{Ports, IsEmpty, IsTold, Prints, PrintsTo, EndsAs, EndsRefused, EndsEarly, EndsCall, EndsLate, CallEnds, ScriptEnds}
@@ -81,7 +82,7 @@ module _ (e : Ended) (v w : Ports) (is_empty : IsEmpty e) (whole : Bool) (prints
   ends_refused one cause refused = (ends_early false cause, λ image shows is. refused image (shown_on v.told w.told image rests is shows))
 
 pub refused_ends : (script : Script) (e : Ended) (v w : Ports) (why : LoadFault) (how : Ending) → EndsAs why how → IsEmpty e → (whole : Bool) → Prints whole (line_of e.ending) v w → Goes v.told w.told KeepsContent
-    → HasCause (is_disk_fault why) v.disk_faults w.disk_faults → ((image : Image) → Shows w.told image → Refuses why image) → ScriptEnds how script e v w
+    → HasCause (is_load_disk_fault why) v.disk_faults w.disk_faults → ((image : Image) → Shows w.told image → Refuses why image) → ScriptEnds how script e v w
 refused_ends script e v w fault.Disk how is empty whole prints rests cause refused =
     subst (λ (x : Ending). ScriptEnds x script e v w) (sym is) (ends_early e v w empty whole prints rests true cause)
 refused_ends script e v w (fault.NotABoard area) how is empty whole prints rests cause refused =

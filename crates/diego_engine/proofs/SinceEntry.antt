@@ -6,10 +6,9 @@ use Rattle.disk_trait.specs.Held.{Held, Leaves}
 use Rattle.disk_trait.specs.Past.{Past, Image, now, content}
 use Rattle.disk_trait.specs.Runs.{Extends}
 use Rattle.disk_trait.specs.Steps.{Goes}
-use Rattle.disk_trait.proofs.Steps.{was_held, extends_same}
-use Rattle.disk_trait.proofs.Told.{goes_back}
+use Rattle.disk_trait.proofs.Public.{was_held, extends_same, goes_back}
 use Rattle.disk_trait.specs.declared.area.Area.{Area}
-use Rattle.bbs_journal.specs.Shows.{Shows, Keeps as KeepsContent, Secures}
+use Rattle.disk_trait.specs.Shows.{Shows, KeepsContent, Secures}
 use Rattle.bbs_model.specs.Replay.{IsReached, IsLawful}
 use Rattle.bbs_model.specs.declared.command.Command.{Command}
 use Rattle.bbs_model.specs.declared.item.Item.{Item}
@@ -18,14 +17,14 @@ use Rattle.bbs_model.specs.declared.verdict.Verdict.{Verdict}
 use Rattle.bbs_model.specs.declared.verdict.Verdict.TheVariants as verdict
 use Rattle.bbs_board.specs.Calls.{StoresBy}
 use Rattle.bbs_board.specs.Doubts.{doubts_in, RoseForEach}
-use Rattle.bbs_board.specs.Kept.{IsFound, AreRising, Kept}
+use Rattle.bbs_board.specs.Kept.{IsFound, RiseBetween, Kept}
 use Rattle.bbs_board.specs.Opening.{IsBoard}
-use Rattle.bbs_board.proofs.Loaded.{one_board}
+use Rattle.bbs_board.proofs.Public.{one_board}
 use Rattle.diego_engine.specs.Headline.{HoldsOnly, Takes, Headline}
 use Rattle.diego_engine.specs.Running.{IsTold}
 
 -- numbers that never fall lie above each smaller one
-rising_from : (less low high : ℕ) (marks : List ℕ) → less ≤ low → AreRising low marks high → AreRising less marks high
+rising_from : (less low high : ℕ) (marks : List ℕ) → less ≤ low → RiseBetween low marks high → RiseBetween less marks high
 rising_from less low high [] le rising = omega (arith, le, rising)
 rising_from less low high (mark ∷ marks) le rising = (omega (arith, le, rising.0), rising.1)
 

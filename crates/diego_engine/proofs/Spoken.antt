@@ -1,8 +1,8 @@
 -- Over a disk that tells its past at the end, the ways in which the program ends ask nothing of the end.
 use Rattle.std.proofs.Common.{ℕ, Bool, true, false, List, Option, Some, None}
-use Rattle.diego_engine.specs.InMemory.{EndsLate as SpokenLate, Ends as SpokenEnds, RunEnds as SpokenRun, RunsWhole as SpokenWhole}
+use Rattle.diego_engine.specs.InMemory.{EndsLateInMemory as SpokenLate, EndsInMemory as SpokenEnds, RunEndsInMemory as SpokenRun, RunsWholeInMemory as SpokenWhole}
 use Rattle.diego_engine.specs.Running.{Ports, IsTold, EndsLate}
-use Rattle.diego_engine.specs.Top.{Ends, RunEnds, RunsWhole}
+use Rattle.diego_engine.specs.Top.{ProgramEnds, RunEnds, RunsWhole}
 use Rattle.diego_engine.specs.declared.ending.Ending.{Ending}
 use Rattle.diego_engine.specs.declared.ending.Ending.TheVariants as ending
 use Rattle.diego_engine.specs.declared.running.Ended.{Ended}
@@ -37,7 +37,7 @@ module _ (e : Ended) (v w : Ports) (told : IsTold w.told) where
     run ending.Usage never = absurd never
     run ending.Exists never = absurd never
 
-    pub spoken : (how : Ending) (what : Option Asked) → Ends how what e left left' v w → SpokenEnds how what e left left' v w
+    pub spoken : (how : Ending) (what : Option Asked) → ProgramEnds how what e left left' v w → SpokenEnds how what e left left' v w
     spoken how None ends = ends
     spoken how (Some asked.Prepare) ends = ends
     spoken how (Some asked.Run) ends = run how ends

@@ -6,7 +6,7 @@ use Rattle.disk_trait.specs.Past.{Image}
 use Rattle.disk_trait.specs.Steps.{Goes}
 use Rattle.bbs_model.specs.declared.rows.Rows.{Rows}
 use Rattle.bbs_board.specs.Opening.{IsBoard, IsRefused}
-use Rattle.bbs_journal.specs.Shows.{Shows, Secures}
+use Rattle.disk_trait.specs.Shows.{Shows, Secures}
 use Rattle.bbs_journal.specs.declared.load_fault.LoadFault.{LoadFault}
 use Rattle.bbs_journal.specs.declared.load_fault.LoadFault.TheVariants as fault
 use Rattle.diego_engine.specs.Running.{Ports, EndsEarly, EndsCall}
@@ -20,7 +20,7 @@ use Rattle.diego_engine.specs.declared.words.Asked.{Asked}
 use Rattle.diego_engine.specs.declared.words.Asked.TheVariants as asked
 
 -- the run loaded the board of the disk, and made its call
-pub record EndsLate (script : Script) (whole failed : Bool) (e : Ended) (v w : Ports) : Type 0 where
+pub record EndsLateInMemory (script : Script) (whole failed : Bool) (e : Ended) (v w : Ports) : Type 0 where
   pub rows : Rows
   pub between : Ports
   pub opens : (image : Image) → Shows v.told image → IsBoard rows image
@@ -30,47 +30,47 @@ pub record EndsLate (script : Script) (whole failed : Bool) (e : Ended) (v w : P
   pub call : EndsCall script rows whole failed e between w
 
 -- no board was loaded, for this fault, which the content of the disk explains
-abbrev pub EndsRefused : LoadFault → Ended → Ports → Ports → Type 0
-EndsRefused why e v w = EndsEarly false e v w × ((image : Image) → Shows v.told image → IsRefused why image)
+abbrev pub EndsRefusedInMemory : LoadFault → Ended → Ports → Ports → Type 0
+EndsRefusedInMemory why e v w = EndsEarly false e v w × ((image : Image) → Shows v.told image → IsRefused why image)
 
 -- how the run of a script ends
-abbrev pub ScriptEnds : Ending → Script → Ended → Ports → Ports → Type 0
-ScriptEnds ending.Done script e v w = EndsLate script true false e v w
-ScriptEnds ending.Doubt script e v w = EndsLate script true true e v w
-ScriptEnds ending.Unwritten script e v w = (failed : Bool) × EndsLate script false failed e v w
-ScriptEnds ending.Unopened script e v w = EndsEarly true e v w
-ScriptEnds (ending.NotABoard area) script e v w = EndsRefused (fault.NotABoard area) e v w
-ScriptEnds (ending.Damaged area at) script e v w = EndsRefused (fault.Damaged area at) e v w
-ScriptEnds ending.OutOfMemory script e v w = EndsEarly false e v w
-ScriptEnds other script e v w = ⊥
+abbrev pub ScriptEndsInMemory : Ending → Script → Ended → Ports → Ports → Type 0
+ScriptEndsInMemory ending.Done script e v w = EndsLateInMemory script true false e v w
+ScriptEndsInMemory ending.Doubt script e v w = EndsLateInMemory script true true e v w
+ScriptEndsInMemory ending.Unwritten script e v w = (failed : Bool) × EndsLateInMemory script false failed e v w
+ScriptEndsInMemory ending.Unopened script e v w = EndsEarly true e v w
+ScriptEndsInMemory (ending.NotABoard area) script e v w = EndsRefusedInMemory (fault.NotABoard area) e v w
+ScriptEndsInMemory (ending.Damaged area at) script e v w = EndsRefusedInMemory (fault.Damaged area at) e v w
+ScriptEndsInMemory ending.OutOfMemory script e v w = EndsEarly false e v w
+ScriptEndsInMemory other script e v w = ⊥
 
 -- a script was read, and its run ended so
-abbrev pub RunsScript : Ending → Ended → Option (List ℕ) → Option (List ℕ) → Ports → Ports → Type 0
-RunsScript how e left left' v w =
-    (script : Script) × ReadsWhole left left' (λ bytes. script_of bytes ≡ Some script) × ScriptEnds how script e v w
+abbrev pub RunsScriptInMemory : Ending → Ended → Option (List ℕ) → Option (List ℕ) → Ports → Ports → Type 0
+RunsScriptInMemory how e left left' v w =
+    (script : Script) × ReadsWhole left left' (λ bytes. script_of bytes ≡ Some script) × ScriptEndsInMemory how script e v w
 
 -- how `run` ends
-abbrev pub RunEnds : Ending → Ended → Option (List ℕ) → Option (List ℕ) → Ports → Ports → Type 0
-RunEnds ending.Done e left left' v w = RunsScript ending.Done e left left' v w
-RunEnds ending.Doubt e left left' v w = RunsScript ending.Doubt e left left' v w
-RunEnds ending.Unwritten e left left' v w = RunsScript ending.Unwritten e left left' v w
-RunEnds ending.Unopened e left left' v w = RunsScript ending.Unopened e left left' v w
-RunEnds (ending.NotABoard area) e left left' v w = RunsScript (ending.NotABoard area) e left left' v w
-RunEnds (ending.Damaged area at) e left left' v w = RunsScript (ending.Damaged area at) e left left' v w
-RunEnds ending.OutOfMemory e left left' v w = EndsEarly false e v w × LostAtMost left left' limit
-RunEnds ending.Script e left left' v w = EndsUntouched e v w × ReadsWhole left left' (λ bytes. script_of bytes ≡ None)
-RunEnds ending.Read e left left' v w = EndsUntouched e v w × LostAtMost left left' limit
-RunEnds ending.TooLong e left left' v w = EndsUntouched e v w × Lost left left' (limit + 1)
-RunEnds ending.Usage e left left' v w = ⊥
-RunEnds ending.Exists e left left' v w = ⊥
+abbrev pub RunEndsInMemory : Ending → Ended → Option (List ℕ) → Option (List ℕ) → Ports → Ports → Type 0
+RunEndsInMemory ending.Done e left left' v w = RunsScriptInMemory ending.Done e left left' v w
+RunEndsInMemory ending.Doubt e left left' v w = RunsScriptInMemory ending.Doubt e left left' v w
+RunEndsInMemory ending.Unwritten e left left' v w = RunsScriptInMemory ending.Unwritten e left left' v w
+RunEndsInMemory ending.Unopened e left left' v w = RunsScriptInMemory ending.Unopened e left left' v w
+RunEndsInMemory (ending.NotABoard area) e left left' v w = RunsScriptInMemory (ending.NotABoard area) e left left' v w
+RunEndsInMemory (ending.Damaged area at) e left left' v w = RunsScriptInMemory (ending.Damaged area at) e left left' v w
+RunEndsInMemory ending.OutOfMemory e left left' v w = EndsEarly false e v w × LostAtMost left left' limit
+RunEndsInMemory ending.Script e left left' v w = EndsUntouched e v w × ReadsWhole left left' (λ bytes. script_of bytes ≡ None)
+RunEndsInMemory ending.Read e left left' v w = EndsUntouched e v w × LostAtMost left left' limit
+RunEndsInMemory ending.TooLong e left left' v w = EndsUntouched e v w × Lost left left' (limit + 1)
+RunEndsInMemory ending.Usage e left left' v w = ⊥
+RunEndsInMemory ending.Exists e left left' v w = ⊥
 
 -- how the program ends
-abbrev pub Ends : Ending → Option Asked → Ended → Option (List ℕ) → Option (List ℕ) → Ports → Ports → Type 0
-Ends how (Some asked.Run) e left left' v w = RunEnds how e left left' v w
-Ends how (Some asked.Prepare) e left left' v w = StillEnds how (Some asked.Prepare) e v w × (left' ≡ left)
-Ends how None e left left' v w = StillEnds how None e v w × (left' ≡ left)
+abbrev pub EndsInMemory : Ending → Option Asked → Ended → Option (List ℕ) → Option (List ℕ) → Ports → Ports → Type 0
+EndsInMemory how (Some asked.Run) e left left' v w = RunEndsInMemory how e left left' v w
+EndsInMemory how (Some asked.Prepare) e left left' v w = StillEnds how (Some asked.Prepare) e v w × (left' ≡ left)
+EndsInMemory how None e left left' v w = StillEnds how None e v w × (left' ≡ left)
 
 -- a script was read, its call was made, and its text was written whole, and no fault was met
-abbrev pub RunsWhole : Ended → Option (List ℕ) → Option (List ℕ) → Ports → Ports → Type 0
-RunsWhole e left left' v w =
-    (script : Script) × ReadsWhole left left' (λ bytes. script_of bytes ≡ Some script) × EndsLate script true false e v w
+abbrev pub RunsWholeInMemory : Ended → Option (List ℕ) → Option (List ℕ) → Ports → Ports → Type 0
+RunsWholeInMemory e left left' v w =
+    (script : Script) × ReadsWhole left left' (λ bytes. script_of bytes ≡ Some script) × EndsLateInMemory script true false e v w

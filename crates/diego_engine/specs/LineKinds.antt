@@ -16,7 +16,8 @@ moment_of line = json_of line >>= moment_in
 
 -- an object without a member that a desire doesn't have
 abbrev pub has_desire_members : Data → Bool
-has_desire_members d = has_only (codes "client" ∷ codes "op" ∷ codes "process" ∷ codes "domain" ∷ codes "instances" ∷ codes "memory" ∷ codes "disk" ∷ []) d
+has_desire_members d = has_only (codes "client" ∷ codes "op" ∷ codes "process" ∷ codes "domain" ∷ codes "instances"
+    ∷ codes "memory" ∷ codes "disk" ∷ []) d
 
 -- the same, and its operation is a desire
 abbrev pub is_desire : Data → Bool
@@ -30,7 +31,16 @@ desired_in d = do
   instances ← number_in (codes "instances") d
   memory ← number_in (codes "memory") d
   disk ← number_in (codes "disk") d
-  Some (record { process = process; domain = domain; instances = instances; memory = memory; disk = disk; tag = None; route = None; port = 8080 })
+  Some (record {
+    process = process;
+    domain = domain;
+    instances = instances;
+    memory = memory;
+    disk = disk;
+    tag = None;
+    route = None;
+    port = 8080;
+  })
 
 -- what a client desires at a moment, in the line of this number
 unfoldable pub desire_in : Moment → ℕ → Data → Option Script

@@ -7,7 +7,7 @@ use Rattle.std.specs.Str.{bytes_eq, is_utf8}
 use Rattle.serde_json.specs.Data.{Data, Members, no_members, member}
 use Rattle.serde_json.specs.Find.{get, as_number, as_object, as_str, as_u64}
 use Rattle.serde_json.specs.Read.{read}
-use Rattle.diego_names.specs.Reading.{reading}
+use Rattle.diego_names.specs.Reading.{name_reading}
 
 infixl 10 ◌>>=◌
 -- what follows from what was found
@@ -45,7 +45,7 @@ number_in name d = get name d >>= as_number >>= as_u64 >>= in_32_bits
 
 -- the name that a member's text is
 abbrev pub name_in : List ℕ → Data → Option (List ℕ)
-name_in name d = option_and_then (λ text. result_ok (reading text)) (text_in name d)
+name_in name d = option_and_then (λ text. result_ok (name_reading text)) (text_in name d)
 
 -- a member's text is this word
 abbrev pub text_is : List ℕ → List ℕ → Data → Bool

@@ -7,7 +7,6 @@ use Rattle.byte_ports.specs.Content.{HoldsFront}
 use Rattle.disk_trait.specs.Past.{Past, Image}
 use Rattle.disk_trait.specs.Steps.{Goes}
 use Rattle.std.specs.declared.alloc.AllocError.{AllocError}
-use Rattle.bbs_model.specs.declared.reply.CallEnd.{CallEnd}
 use Rattle.bbs_model.specs.declared.rows.Rows.{Rows}
 use Rattle.bbs_model.specs.Step.{verdict_of}
 use Rattle.bbs_model.specs.Replay.{IsLawful}
@@ -16,11 +15,12 @@ use Rattle.bbs_board.specs.Calls.{StoresBy}
 use Rattle.bbs_board.specs.Doubts.{doubts_in, RoseForEach}
 use Rattle.bbs_board.specs.Kept.{Kept}
 use Rattle.bbs_board.specs.Opening.{IsBoard, IsRefused}
-use Rattle.bbs_journal.specs.Shows.{Shows, Keeps as KeepsContent, Secures}
+use Rattle.disk_trait.specs.Shows.{Shows, KeepsContent, Secures}
 use Rattle.bbs_journal.specs.declared.load_fault.LoadFault.{LoadFault}
 use Rattle.bbs_journal.specs.declared.load_fault.LoadFault.TheVariants as fault
+use Rattle.cell_rep.specs.declared.call_end.CallEnd.{CallEnd}
 use Rattle.diego_engine.specs.Ending.{line_of}
-use Rattle.diego_engine.specs.Phase.{Tells, command_of, end_of, log_of, is_doubt, run_text, answered_of}
+use Rattle.diego_engine.specs.Phase.{TellsPhase, command_of, call_end_of, log_of, is_doubt, run_text, answered_of}
 use Rattle.diego_engine.specs.declared.ending.Ending.{Ending}
 use Rattle.diego_engine.specs.declared.ending.Ending.TheVariants as ending
 use Rattle.diego_engine.specs.declared.phase.Phase.{Phase}
@@ -72,11 +72,12 @@ is_doubtful (Ok phase) = phase.doubt
 is_doubtful (Err e) = false
 
 -- the call of a script at a board with these rows, and the log and the marks that it left
-pub record Calls (script : Script) (rows : Rows) (phase : Phase) (log : List Item) (marks : List ℕ) (before after : Option Past) (clock : ℕ) : Type 0 where
+pub record Calls (script : Script) (rows : Rows) (phase : Phase) (log : List Item) (marks : List ℕ)
+    (before after : Option Past) (clock : ℕ) : Type 0 where
   pub stored : Bool
-  pub tells : Tells script (end_of (verdict_of rows (command_of script)) rows.next stored) rows.next phase
+  pub tells : TellsPhase script (call_end_of (verdict_of rows (command_of script)) rows.next stored) rows.next phase
   pub does : Goes before after (StoresBy (verdict_of rows (command_of script)) stored rows (command_of script))
-  pub log_is : log ≡ log_of (end_of (verdict_of rows (command_of script)) rows.next stored) (command_of script)
+  pub log_is : log ≡ log_of (call_end_of (verdict_of rows (command_of script)) rows.next stored) (command_of script)
   pub marks_are : marks ≡ map (λ item. clock) log
 
 -- no call was made
@@ -99,7 +100,7 @@ pub record EndsEarly (failed : Bool) (e : Ended) (v w : Ports) : Type 0 where
 pub record EndsCall (script : Script) (rows : Rows) (whole failed : Bool) (e : Ended) (v w : Ports) : Type 0 where
   pub stored : Bool
   pub call_end : CallEnd
-  pub end_is : call_end ≡ end_of (verdict_of rows (command_of script)) rows.next stored
+  pub end_is : call_end ≡ call_end_of (verdict_of rows (command_of script)) rows.next stored
   pub stores : Goes v.told w.told (StoresBy (verdict_of rows (command_of script)) stored rows (command_of script))
   pub failed_is : failed ≡ is_doubt call_end
   pub cause : HasCause failed v.disk_faults w.disk_faults

@@ -8,10 +8,10 @@ use Rattle.diego_engine.specs.Member.{◌>>=◌}
 use Rattle.diego_engine.specs.LineKinds.{moment_of, desire_of}
 
 -- an answer is what the bytes say, or that they say nothing, unless memory ran out
-abbrev pub Gives : {X Y : Type 0} → (X → Y) → Result X ScriptFault → Option Y → Type 0
-Gives view (Ok x) said = said ≡ Some (view x)
-Gives view (Err Malformed) said = said ≡ None
-Gives view (Err OutOfMemory) said = Unit {0}
+abbrev pub GivesScript : {X Y : Type 0} → (X → Y) → Result X ScriptFault → Option Y → Type 0
+GivesScript view (Ok x) said = said ≡ Some (view x)
+GivesScript view (Err Malformed) said = said ≡ None
+GivesScript view (Err OutOfMemory) said = Unit {0}
 
 -- a line with a moment and a line with a desire, and otherwise blank lines
 unfoldable pub script_of : List ℕ → Option Script

@@ -7,7 +7,7 @@ use Rattle.disk_trait.specs.Past.{Past, Image}
 use Rattle.disk_trait.specs.Runs.{Extends}
 use Rattle.bbs_model.specs.declared.rows.Rows.{Rows}
 use Rattle.bbs_board.specs.Opening.{IsBoard}
-use Rattle.bbs_journal.specs.Shows.{Shows}
+use Rattle.disk_trait.specs.Shows.{Shows}
 use Rattle.bbs_journal.specs.Preparing.{Prepares, FindsBytes}
 use Rattle.disk_trait.specs.Steps.{Goes}
 use Rattle.diego_engine.specs.Ending.{line_of}
@@ -29,20 +29,20 @@ abbrev pub ReadsWhole : Option (List ℕ) → Option (List ℕ) → (List ℕ �
 ReadsWhole left left' P = (bytes : List ℕ) × Consumes left left' bytes × IsAtEnd left' × (length bytes ≤ limit) × P bytes
 
 -- what was read of a source, by the answer
-abbrev pub Reads : Result Script Ending → Option (List ℕ) → Option (List ℕ) → Type 0
-Reads (Ok script) left left' = ReadsWhole left left' (λ bytes. script_of bytes ≡ Some script)
-Reads (Err ending.Script) left left' = ReadsWhole left left' (λ bytes. script_of bytes ≡ None)
-Reads (Err ending.Read) left left' = LostAtMost left left' limit
-Reads (Err ending.OutOfMemory) left left' = LostAtMost left left' limit
-Reads (Err ending.TooLong) left left' = Lost left left' (limit + 1)
-Reads (Err ending.Done) left left' = ⊥
-Reads (Err ending.Usage) left left' = ⊥
-Reads (Err ending.Unwritten) left left' = ⊥
-Reads (Err ending.Unopened) left left' = ⊥
-Reads (Err ending.Doubt) left left' = ⊥
-Reads (Err (ending.NotABoard area)) left left' = ⊥
-Reads (Err (ending.Damaged area at)) left left' = ⊥
-Reads (Err ending.Exists) left left' = ⊥
+abbrev pub ReadsScript : Result Script Ending → Option (List ℕ) → Option (List ℕ) → Type 0
+ReadsScript (Ok script) left left' = ReadsWhole left left' (λ bytes. script_of bytes ≡ Some script)
+ReadsScript (Err ending.Script) left left' = ReadsWhole left left' (λ bytes. script_of bytes ≡ None)
+ReadsScript (Err ending.Read) left left' = LostAtMost left left' limit
+ReadsScript (Err ending.OutOfMemory) left left' = LostAtMost left left' limit
+ReadsScript (Err ending.TooLong) left left' = Lost left left' (limit + 1)
+ReadsScript (Err ending.Done) left left' = ⊥
+ReadsScript (Err ending.Usage) left left' = ⊥
+ReadsScript (Err ending.Unwritten) left left' = ⊥
+ReadsScript (Err ending.Unopened) left left' = ⊥
+ReadsScript (Err ending.Doubt) left left' = ⊥
+ReadsScript (Err (ending.NotABoard area)) left left' = ⊥
+ReadsScript (Err (ending.Damaged area at)) left left' = ⊥
+ReadsScript (Err ending.Exists) left left' = ⊥
 
 -- the source failed
 abbrev pub is_read : Ending → Bool
@@ -98,10 +98,10 @@ StillEnds ending.Unopened (Some asked.Prepare) e v w = EndsStill true e v w × G
 StillEnds how what e v w = ⊥
 
 -- how the program ends
-abbrev pub Ends : Ending → Option Asked → Ended → Option (List ℕ) → Option (List ℕ) → Ports → Ports → Type 0
-Ends how (Some asked.Run) e left left' v w = RunEnds how e left left' v w
-Ends how (Some asked.Prepare) e left left' v w = StillEnds how (Some asked.Prepare) e v w × (left' ≡ left)
-Ends how None e left left' v w = StillEnds how None e v w × (left' ≡ left)
+abbrev pub ProgramEnds : Ending → Option Asked → Ended → Option (List ℕ) → Option (List ℕ) → Ports → Ports → Type 0
+ProgramEnds how (Some asked.Run) e left left' v w = RunEnds how e left left' v w
+ProgramEnds how (Some asked.Prepare) e left left' v w = StillEnds how (Some asked.Prepare) e v w × (left' ≡ left)
+ProgramEnds how None e left left' v w = StillEnds how None e v w × (left' ≡ left)
 
 -- with this status the program ends before it looks at the disk
 abbrev pub is_before_board : ℕ → Bool

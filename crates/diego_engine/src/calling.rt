@@ -9,7 +9,8 @@ ghost use Rattle.diego_engine.specs.Running.{Calls, is_doubtful};
 use crate::phase::{ACTOR, Phase, command_of, phase_of};
 use crate::script::Script;
 use bbs_board::Board;
-use bbs_model::{CallEnd, CallFault, Reply, Verdict};
+use bbs_model::{CallFault, Reply, Verdict};
+use cell_rep::CallEnd;
 use disk_trait::Disk;
 use std::alloc::{AllocError, Global};
 
@@ -25,7 +26,7 @@ fn make<D: Disk>(alloc: Global, script: &Script, board: &mut Board<D>) -> Result
         × (board.new.faults ≡ board.old.faults) }
     ensures cause { HasCause (is_doubtful result)
         (D.fault_count board.old.disk) (D.fault_count board.new.disk) }
-    ensures starved { OnErr result (board.new ≡ board.old) }
+    ensures starved { OnErr result (board.new.disk ≡ board.old.disk) }
 {
     let next = board.next();
     let ok = Reply::Ok {
@@ -56,7 +57,7 @@ pub fn call<D: Disk>(
         × (board.new.faults ≡ board.old.faults) }
     ensures cause { HasCause (is_doubtful result)
         (D.fault_count board.old.disk) (D.fault_count board.new.disk) }
-    ensures starved { OnErr result (board.new ≡ board.old) }
+    ensures starved { OnErr result (board.new.disk ≡ board.old.disk) }
 {
     let end = match board.verdict(&command_of(script)) {
         Verdict::Ok => return make(alloc, script, board),

@@ -1,9 +1,9 @@
 //! What each word does.
 ghost use Rattle.std.specs.Prelude.{◌≡◌, ◌≢◌, true, Some};
 ghost use Rattle.byte_ports.specs.Cause.{HasCause};
-ghost use Rattle.diego_engine.specs.Ending.{number_of};
+ghost use Rattle.diego_engine.specs.Ending.{status_of};
 ghost use Rattle.diego_engine.specs.Running.{ports_of};
-ghost use Rattle.diego_engine.specs.Top.{Reads, RunEnds, StillEnds, is_before_board, is_read, is_unread};
+ghost use Rattle.diego_engine.specs.Top.{ReadsScript, RunEnds, StillEnds, is_before_board, is_read, is_unread};
 ghost use Rattle.diego_engine.specs.declared.words.Asked.TheVariants as wanted;
 
 use crate::ending::Ending;
@@ -20,7 +20,7 @@ const LIMIT: usize = 16_777_216;
 
 /// The script that the source gives.
 fn read<S: Source>(alloc: Global, source: &mut S) -> Result<Script, Ending>
-    ensures reads { Reads result (S.left source.old) (S.left source.new) }
+    ensures reads { ReadsScript result (S.left source.old) (S.left source.new) }
     ensures cause { HasCause (is_unread result) (S.faults source.old) (S.faults source.new) }
 {
     match read_whole(alloc, source, LIMIT) {
@@ -49,7 +49,7 @@ pub fn run<S: Source, K: Sink, D: Disk, G: Gate>(
         (ports_of (K.held sink.new) (K.faults sink.new)
         (D.told result.1) (D.fault_count result.1) (D.moment result.1)) }
     ensures cause { HasCause (is_read result.0.ending) (S.faults source.old) (S.faults source.new) }
-    ensures unopened { is_before_board (number_of result.0.ending) ≡ true → result.1 ≡ disk }
+    ensures unopened { is_before_board (status_of result.0.ending) ≡ true → result.1 ≡ disk }
 {
     match read(alloc, source) {
         Ok(script) => run_script(alloc, &script, sink, disk, gate),
@@ -65,7 +65,7 @@ pub fn still<K: Sink, D: Disk>(
     disk: &mut D,
 ) -> Ended
     requires { asked ≢ Some wanted.Run }
-    ensures unopened { is_before_board (number_of result.ending) ≡ true → disk.new ≡ disk.old }
+    ensures unopened { is_before_board (status_of result.ending) ≡ true → disk.new ≡ disk.old }
     ensures ends { StillEnds result.ending asked result
         (ports_of (K.held sink.old) (K.faults sink.old)
         (D.told disk.old) (D.fault_count disk.old) (D.moment disk.old))

@@ -1,6 +1,6 @@
 //! The ways in which the program ends, each with its status and its line.
 ghost use Rattle.std.specs.Prelude.{◌≡◌, IfOk, string_bytes};
-ghost use Rattle.diego_engine.specs.Ending.{number_of, constant_line, area_word, no_board_line, damaged_line};
+ghost use Rattle.diego_engine.specs.Ending.{status_of, constant_line, area_word, no_board_line, damaged_line};
 
 use disk_trait::Area;
 use std::alloc::{AllocError, Global};
@@ -36,7 +36,7 @@ pub enum Ending {
 
 /// The program's status.
 pub fn number_of(ending: Ending) -> u8
-    ensures { result ≡ number_of ending }
+    ensures { result ≡ status_of ending }
 {
     match ending {
         Ending::Done => 0,

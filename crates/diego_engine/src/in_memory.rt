@@ -6,13 +6,13 @@ ghost use Rattle.disk_trait.specs.Memory.{memory_past, calls_of, faults_of};
 ghost use Rattle.disk_trait.specs.Past.{Image};
 ghost use Rattle.disk_trait.specs.Steps.{Goes};
 ghost use Rattle.bbs_board.specs.Opening.{IsRefused};
-ghost use Rattle.bbs_journal.specs.Shows.{Shows};
+ghost use Rattle.disk_trait.specs.Shows.{Shows};
 ghost use Rattle.bbs_journal.specs.Preparing.{FindsBytes};
 ghost use Rattle.bbs_journal.specs.declared.load_fault.LoadFault.{LoadFault as Why};
 ghost use Rattle.diego_engine.specs.Script.{script_of};
-ghost use Rattle.diego_engine.specs.Ending.{number_of};
+ghost use Rattle.diego_engine.specs.Ending.{status_of};
 ghost use Rattle.diego_engine.specs.Running.{ports_of};
-ghost use Rattle.diego_engine.specs.InMemory.{Ends, RunsWhole};
+ghost use Rattle.diego_engine.specs.InMemory.{EndsInMemory, RunsWholeInMemory};
 ghost use Rattle.diego_engine.specs.Top.{ReadsWhole, Meets, is_before_board, limit};
 ghost use Rattle.diego_engine.specs.Words.{asked_of};
 ghost use Rattle.diego_engine.specs.declared.ending.Ending.{Ending as AnEnding};
@@ -33,8 +33,8 @@ pub fn diego_top_in_memory<S: Source, K: Sink, G: Gate>(
     disk: MemoryDisk,
     gate: &G,
 ) -> TopEnd<S, K, MemoryDisk>
-    ensures ends { (how : AnEnding) × (result.status ≡ number_of how)
-        × Ends how (asked_of (map (λ w. string_bytes w) words.now))
+    ensures ends { (how : AnEnding) × (result.status ≡ status_of how)
+        × EndsInMemory how (asked_of (map (λ w. string_bytes w) words.now))
         (record { ending = how; log = result.log; marks = result.marks; answers = result.answers })
         (S.left source) (S.left result.source)
         (ports_of (K.held sink) (K.faults sink)
@@ -62,7 +62,7 @@ pub fn diego_top_in_memory<S: Source, K: Sink, G: Gate>(
     // verdict at that board, and the log, the disk and the text say the same.
     ensures done { result.status ≡ 0
         → asked_of (map (λ w. string_bytes w) words.now) ≡ Some wanted.Run
-        → (how : AnEnding) × RunsWhole
+        → (how : AnEnding) × RunsWholeInMemory
         (record { ending = how; log = result.log; marks = result.marks; answers = result.answers })
         (S.left source) (S.left result.source)
         (ports_of (K.held sink) (K.faults sink)

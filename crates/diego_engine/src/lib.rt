@@ -1,6 +1,7 @@
 //! All that the program does.
 #![tactic(auto)]
 
+mod answered;
 mod calling;
 mod commands;
 mod ending;
@@ -11,6 +12,7 @@ mod script;
 mod top;
 mod words;
 
+pub use answered::Answered;
 pub use in_memory::diego_top_in_memory;
 pub use top::{TopEnd, diego_top, still_top};
 

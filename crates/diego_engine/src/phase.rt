@@ -1,11 +1,13 @@
 //! One phase: its call, and what is told of it.
 ghost use Rattle.std.specs.Prelude.{◌≡◌, ◌<◌, ◌^◌, [], ◌∷◌, IfOk};
-ghost use Rattle.diego_engine.specs.Phase.{Tells, events_text, counts_of, run_text, event_of, is_doubt, command_of};
+ghost use Rattle.diego_engine.specs.Phase.{TellsPhase, events_text, call_counts, run_text, desire_event, is_doubt, command_of};
 
+use crate::answered::Answered;
 use crate::script::Script;
-use bbs_model::{Answered, CallEnd, CallFault, Change, Command, Event, Op, Reply, Row};
+use bbs_model::{CallFault, Change, Command, Event, Op, Reply, Row};
+use cell_rep::CallEnd;
 use lrp_records::Desired;
-use record_print::{Summary, answer_text, event_text, summary_text};
+use record_print::{Asked, Summary, answer_text, event_text, summary_text};
 use std::alloc::{AllocError, Global};
 
 /// The number of the script's one actor.
@@ -34,7 +36,7 @@ pub fn command_of(script: &Script) -> Command
 
 /// What a legal desire does.
 fn event_of(desired: Desired) -> Event
-    ensures { result ≡ event_of desired }
+    ensures { result ≡ desire_event desired }
 {
     Event {
         change: Change::Created,
@@ -53,7 +55,7 @@ fn events_text(alloc: Global, end: &CallEnd, desired: Desired) -> Result<Vec<u8>
 
 fn counts_of(end: &CallEnd, next: u64) -> Summary
     requires { next < 2 ^ 63 }
-    ensures { result ≡ counts_of end.now next }
+    ensures { result ≡ call_counts end.now next }
 {
     let (done, doubts) = match end {
         CallEnd::Got(Reply::Ok { place: _, stamp: _ }) => (1, 0),
@@ -93,7 +95,8 @@ fn run_text(
     requires command { command.now ≡ command_of script.now }
     ensures { IfOk result (λ v. v.items ≡ run_text script.now end.now next) }
 {
-    let mut text = answer_text(alloc, &script.client, script.line, &command.op, end)?;
+    let asked = Asked::Command(command.op);
+    let mut text = answer_text(alloc, &script.client, script.line, &asked, end)?;
     let events = events_text(alloc, end, script.desired)?;
     let summary = summary_text(alloc, counts_of(end, next))?;
     text.extend_from_slice(&events)?;
@@ -109,7 +112,7 @@ pub fn phase_of(
     next: u64,
 ) -> Result<Phase, AllocError>
     requires { next < 2 ^ 63 }
-    ensures { IfOk result (Tells script.now end next) }
+    ensures { IfOk result (TellsPhase script.now end next) }
 {
     let command = command_of(script);
     let text = run_text(alloc, script, &command, &end, next)?;

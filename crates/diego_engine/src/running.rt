@@ -9,12 +9,13 @@ ghost use Rattle.diego_engine.specs.declared.ending.Ending.{Ending as AnEnding};
 ghost use Rattle.diego_engine.specs.declared.ending.Ending.TheVariants as ending;
 ghost use Rattle.diego_engine.specs.Running.{IsEmpty, PrintsTo, CallEnds, ScriptEnds, EndsAs, ending_of, ports_of};
 
+use crate::answered::Answered;
 use crate::calling::call;
 use crate::ending::{Ending, constant_line, damaged_line};
 use crate::phase::{ACTOR, Phase};
 use crate::script::Script;
 use bbs_board::{Board, Closed, LoadFault, load};
-use bbs_model::{Answered, Item};
+use bbs_model::Item;
 use byte_ports::{Gate, Sink, write_whole};
 use disk_trait::{Area, Disk};
 use std::alloc::Global;

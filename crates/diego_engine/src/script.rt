@@ -1,6 +1,6 @@
 //! The scenario that the program runs, as text.
 ghost use Rattle.std.specs.Prelude.{◌<◌, ◌-◌, ◌^◌, length};
-ghost use Rattle.diego_engine.specs.Script.{Gives, script_of};
+ghost use Rattle.diego_engine.specs.Script.{GivesScript, script_of};
 
 mod desire_line;
 mod fault;
@@ -34,7 +34,7 @@ pub struct Script {
 #[tactic(auto, unfolding(crate::specs::Script::script_of))]
 pub fn read_script(alloc: Global, bytes: &[u8]) -> Result<Script, ScriptFault>
     requires { length bytes.now < 2 ^ 32 - 1 }
-    ensures { Gives (λ script. script) result (script_of bytes.now) }
+    ensures { GivesScript (λ script. script) result (script_of bytes.now) }
 {
     match lines::two_lines(bytes) {
         Some((first, second)) => {

@@ -8,8 +8,8 @@ mod limits;
 mod runs;
 mod stops;
 
-use crate::{TopEnd, diego_top_in_memory};
-use bbs_model::{Answered, Item};
+use crate::{Answered, TopEnd, diego_top_in_memory};
+use bbs_model::Item;
 use byte_ports::{Gate, MemorySink, MemorySource, OpenGate};
 use disk_trait::MemoryDisk;
 use std::alloc::Global;

@@ -6,23 +6,24 @@ ghost use Rattle.disk_trait.specs.Past.{Image};
 ghost use Rattle.disk_trait.specs.Steps.{Goes};
 ghost use Rattle.bbs_board.specs.Doubts.{doubts_in, RoseForEach};
 ghost use Rattle.bbs_board.specs.Opening.{IsRefused};
-ghost use Rattle.bbs_journal.specs.Shows.{Shows};
+ghost use Rattle.disk_trait.specs.Shows.{Shows};
 ghost use Rattle.bbs_journal.specs.Preparing.{FindsBytes};
 ghost use Rattle.bbs_journal.specs.declared.load_fault.LoadFault.{LoadFault as Why};
 ghost use Rattle.diego_engine.specs.Script.{script_of};
-ghost use Rattle.diego_engine.specs.Ending.{number_of};
+ghost use Rattle.diego_engine.specs.Ending.{status_of};
 ghost use Rattle.diego_engine.specs.Headline.{Headline};
 ghost use Rattle.diego_engine.specs.Running.{IsTold, ports_of};
-ghost use Rattle.diego_engine.specs.Top.{ReadsWhole, StillEnds, Ends, Meets, RunsWhole, is_before_board, limit};
+ghost use Rattle.diego_engine.specs.Top.{ReadsWhole, StillEnds, ProgramEnds, Meets, RunsWhole, is_before_board, limit};
 ghost use Rattle.diego_engine.specs.Words.{asked_of};
 ghost use Rattle.diego_engine.specs.declared.ending.Ending.{Ending as AnEnding};
 ghost use Rattle.diego_engine.specs.declared.words.Asked.TheVariants as wanted;
 
+use crate::answered::Answered;
 use crate::commands::{run, still};
 use crate::ending::number_of;
 use crate::running::Ended;
 use crate::words::{Asked, read_words};
-use bbs_model::{Answered, Item};
+use bbs_model::Item;
 use byte_ports::{Gate, Sink, Source};
 use disk_trait::Disk;
 use std::alloc::Global;
@@ -48,7 +49,7 @@ fn asks_for_a_run(words: &[String]) -> bool
 }
 
 fn top_end<S, K, D>(ended: Ended, source: S, sink: K, disk: D) -> TopEnd<S, K, D>
-    ensures status { result.status ≡ number_of ended.ending }
+    ensures status { result.status ≡ status_of ended.ending }
     ensures ports { (result.source ≡ source) × (result.sink ≡ sink) × (result.disk ≡ disk) }
     ensures lists { (result.log ≡ ended.log) × (result.marks ≡ ended.marks)
         × (result.answers ≡ ended.answers) }
@@ -81,7 +82,7 @@ pub fn still_top<S: Source, K: Sink, D: Disk>(
     requires { asked_of (map (λ w. string_bytes w) words.now) ≢ Some wanted.Run }
     ensures source { result.source ≡ source }
     ensures unopened { is_before_board result.status ≡ true → result.disk ≡ disk }
-    ensures ends { (how : AnEnding) × (result.status ≡ number_of how)
+    ensures ends { (how : AnEnding) × (result.status ≡ status_of how)
         × StillEnds how (asked_of (map (λ w. string_bytes w) words.now))
         (record { ending = how; log = result.log; marks = result.marks; answers = result.answers })
         (ports_of (K.held sink) (K.faults sink) (D.told disk) (D.fault_count disk) (D.moment disk))
@@ -100,8 +101,8 @@ fn whole_top<S: Source, K: Sink, D: Disk, G: Gate>(
     disk: D,
     gate: &G,
 ) -> TopEnd<S, K, D>
-    ensures ends { (how : AnEnding) × (result.status ≡ number_of how)
-        × Ends how (asked_of (map (λ w. string_bytes w) words.now))
+    ensures ends { (how : AnEnding) × (result.status ≡ status_of how)
+        × ProgramEnds how (asked_of (map (λ w. string_bytes w) words.now))
         (record { ending = how; log = result.log; marks = result.marks; answers = result.answers })
         (S.left source) (S.left result.source)
         (ports_of (K.held sink) (K.faults sink) (D.told disk) (D.fault_count disk) (D.moment disk))
@@ -139,8 +140,8 @@ pub fn diego_top<S: Source, K: Sink, D: Disk, G: Gate>(
     ensures doubts { RoseForEach (doubts_in result.log.items)
         (D.fault_count disk) (D.fault_count result.disk) }
 
-    ensures ends { (how : AnEnding) × (result.status ≡ number_of how)
-        × Ends how (asked_of (map (λ w. string_bytes w) words.now))
+    ensures ends { (how : AnEnding) × (result.status ≡ status_of how)
+        × ProgramEnds how (asked_of (map (λ w. string_bytes w) words.now))
         (record { ending = how; log = result.log; marks = result.marks; answers = result.answers })
         (S.left source) (S.left result.source)
         (ports_of (K.held sink) (K.faults sink) (D.told disk) (D.fault_count disk) (D.moment disk))

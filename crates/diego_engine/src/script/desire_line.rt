@@ -2,7 +2,7 @@
 ghost use Rattle.std.specs.Prelude.{◌≡◌};
 ghost use Rattle.serde_json.specs.View.{view};
 ghost use Rattle.diego_engine.specs.LineKinds.{desire_in, desire_of, desired_in, has_desire_members, is_desire};
-ghost use Rattle.diego_engine.specs.Script.{Gives};
+ghost use Rattle.diego_engine.specs.Script.{GivesScript};
 
 use crate::script::Script;
 use crate::script::fault::ScriptFault;
@@ -19,7 +19,7 @@ const PORT: u16 = 8080;
 /// What a client desires at a moment, in the line of this number.
 #[tactic(auto, unfolding(crate::specs::LineKinds::desire_of))]
 pub fn desire_of(alloc: Global, at: Moment, number: u32, line: &[u8]) -> Result<Script, ScriptFault>
-    ensures { Gives (λ script. script) result (desire_of at number line.now) }
+    ensures { GivesScript (λ script. script) result (desire_of at number line.now) }
 {
     let value = json_of(alloc, line)?;
     if !is_desire(&value) {

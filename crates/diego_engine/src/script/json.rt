@@ -1,6 +1,6 @@
 //! One line as JSON.
 ghost use Rattle.serde_json.specs.View.{view};
-ghost use Rattle.diego_engine.specs.Script.{Gives};
+ghost use Rattle.diego_engine.specs.Script.{GivesScript};
 ghost use Rattle.diego_engine.specs.Member.{json_of};
 
 use crate::script::fault::ScriptFault;
@@ -10,7 +10,7 @@ use std::str;
 
 /// The value that the bytes of a line write.
 pub fn json_of(alloc: Global, line: &[u8]) -> Result<Value, ScriptFault>
-    ensures { Gives view result (json_of line.now) }
+    ensures { GivesScript view result (json_of line.now) }
 {
     let Ok(text) = str::from_utf8(line) else {
         return Err(ScriptFault::Malformed);

@@ -2,7 +2,7 @@
 ghost use Rattle.std.specs.Prelude.{◌≡◌};
 ghost use Rattle.serde_json.specs.View.{view};
 ghost use Rattle.diego_engine.specs.LineKinds.{moment_in, moment_of};
-ghost use Rattle.diego_engine.specs.Script.{Gives};
+ghost use Rattle.diego_engine.specs.Script.{GivesScript};
 
 use crate::script::fault::ScriptFault;
 use crate::script::json::json_of;
@@ -14,7 +14,7 @@ use std::alloc::Global;
 /// When a phase begins, in seconds.
 #[tactic(auto, unfolding(crate::specs::LineKinds::moment_of))]
 pub fn moment_of(alloc: Global, line: &[u8]) -> Result<Moment, ScriptFault>
-    ensures { Gives (λ at. at) result (moment_of line.now) }
+    ensures { GivesScript (λ at. at) result (moment_of line.now) }
 {
     let value = json_of(alloc, line)?;
     moment_in(&value).ok_or(ScriptFault::Malformed)

@@ -1,6 +1,8 @@
 //! The first run: what is given, and what becomes of it, byte for byte.
 use super::Given;
-use bbs_model::{Answered, CallEnd, Command, Op};
+use crate::Answered;
+use bbs_model::{Command, Op};
+use cell_rep::CallEnd;
 use crash_backoff::Moment;
 use diego_names::Name;
 use lrp_records::Desired;

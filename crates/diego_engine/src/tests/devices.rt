@@ -2,8 +2,9 @@
 use super::bytes::{PREPARED, STORED, TEXT, answer, command, first_run};
 use super::{Given, ends, left_by, prepare, run, tells_nothing, words};
 use crate::{TopEnd, diego_top};
-use bbs_model::{CallEnd, CallFault, Item};
+use bbs_model::{CallFault, Item};
 use byte_ports::{MemorySource, OpenGate, StdSink};
+use cell_rep::CallEnd;
 use disk_trait::{Area, Disk, MemoryDisk};
 use std::io::{Error, ErrorKind, Result as IoResult, Write};
 use std::test::Fail;

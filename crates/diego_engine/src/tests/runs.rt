@@ -1,7 +1,8 @@
 //! Runs and preparings in which nothing fails.
 use super::bytes::{PREPARED, STORED, TEXT, answer, command, first_run};
 use super::{Given, ends, prepare, run, tells_nothing};
-use bbs_model::{BoardRefusal, CallEnd, Item, Reply};
+use bbs_model::{BoardRefusal, Item, Reply};
+use cell_rep::CallEnd;
 use disk_trait::{Area, Disk};
 use std::test::Fail;
 
