@@ -6,8 +6,8 @@ use Rattle.ticket_desk.specs.declared.view.View.{View}
 use Rattle.ticket_desk.specs.Turns.{Adds}
 
 -- the table is a desk's, and the seat is of this table
-abbrev pub IsBoard : TableId → TableId → Type 0
-IsBoard z of = (of ≡ z) × (z.words ≡ 2) × (z.slots ≡ 1)
+abbrev pub IsDesk : TableId → TableId → Type 0
+IsDesk z of = (of ≡ z) × (z.words ≡ 2) × (z.slots ≡ 1)
 
 module _ {V T O : Type 0} where
   -- the seat holds this ticket, and its turn is not on

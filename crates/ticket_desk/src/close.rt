@@ -1,7 +1,7 @@
 //! How a desk ends.
 ghost use Rattle.std.specs.Prelude.{◌≡◌, ◌++◌, [], ◌∷◌, map, Some};
 ghost use Rattle.ticket_desk.specs.Passes.{AreAll, IsClosed};
-ghost use Rattle.ticket_desk.specs.Tables.{IsBoard};
+ghost use Rattle.ticket_desk.specs.Tables.{IsDesk};
 ghost use Rattle.ticket_desk.specs.Ends.{AreOf, told_of, HasAll, IsLeft};
 
 use crate::desk::Desk;
@@ -12,7 +12,7 @@ use crate::rule::{Board, Place, Top};
 
 // Joins all of these passes into the first.
 fn gather<V: History>(top: &Top<V>, first: &mut Place<V>, mut rest: Vec<PassOf<V>>)
-    requires board { IsBoard top.now.table_id first.old.table_id }
+    requires board { IsDesk top.now.table_id first.old.table_id }
     requires rest { AreOf top.now.table_id rest.items }
     ensures board { first.new.table_id ≡ first.old.table_id }
     ensures joined { let m = first.old.me in
@@ -25,7 +25,7 @@ fn gather<V: History>(top: &Top<V>, first: &mut Place<V>, mut rest: Vec<PassOf<V
 
 // Ends the board of a seat that has all numbers but its own joined to it.
 fn end<V: History>(board: Board<V>, first: Place<V>) -> V
-    requires board { IsBoard board.shared.table_id first.table_id }
+    requires board { IsDesk board.shared.table_id first.table_id }
     requires all { HasAll first.me.0 }
     ensures { IsLeft V.items V.origin V.by board.shared.key.value first.me.0 result }
 {

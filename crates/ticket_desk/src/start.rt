@@ -4,7 +4,7 @@ ghost use Rattle.std.specs.Prelude.{vec_len, vec_capacity, IfOk, IfErr};
 ghost use Rattle.ticket_desk.specs.Rule.{IsIdle};
 ghost use Rattle.ticket_desk.specs.Steps.{next_given, newly_given};
 ghost use Rattle.ticket_desk.specs.Passes.{AreDealt, view_of};
-ghost use Rattle.ticket_desk.specs.Tables.{IsBoard};
+ghost use Rattle.ticket_desk.specs.Tables.{IsDesk};
 ghost use Rattle.ticket_desk.specs.Ends.{IsFirst, AreGiven};
 ghost use Rattle.ticket_desk.specs.declared.pass.Pass.{Pass};
 
@@ -51,7 +51,7 @@ fn lay<V: History>(
     value: V,
     from: u64,
 ) -> Result<(Board<V>, Place<V>), (V, AllocError)>
-    ensures ok { IfOk result (λ t. IsBoard t.0.shared.table_id t.1.table_id
+    ensures ok { IfOk result (λ t. IsDesk t.0.shared.table_id t.1.table_id
         × (t.0.shared.key.value ≡ value) × IsFirst V.items V.origin value 1 t.1.me) }
     ensures err { IfErr result (λ e. e.0 ≡ value) }
 {
@@ -68,7 +68,7 @@ fn lay<V: History>(
 
 // A pass of the next number.
 fn give<V: History>(top: &Top<V>, first: &mut Place<V>, number: u32) -> PassOf<V>
-    requires board { IsBoard top.now.table_id first.old.table_id }
+    requires board { IsDesk top.now.table_id first.old.table_id }
     requires number { (first.old.me.0.number ≡ Some 0) × (first.old.me.0.given ≡ number)
         × (number < 4096) }
     ensures first { (first.new.table_id ≡ first.old.table_id)
@@ -82,7 +82,7 @@ fn give<V: History>(top: &Top<V>, first: &mut Place<V>, number: u32) -> PassOf<V
 
 // The passes of the numbers from 1 on.
 fn deal<V: History>(top: &Top<V>, first: &mut Place<V>, passes: &mut Vec<PassOf<V>>, seats: u32)
-    requires board { IsBoard top.now.table_id first.old.table_id }
+    requires board { IsDesk top.now.table_id first.old.table_id }
     requires first { (first.old.me.0.number ≡ Some 0) × (first.old.me.0.given ≡ 1) }
     requires room { (passes.old.items ≡ []) × (0 < seats) × (seats ≤ 4096)
         × (seats ≤ vec_capacity passes.old) }

@@ -3,7 +3,7 @@
 ghost use Rattle.std.specs.Prelude.{◌≡◌, ℕ, [], ◌∷◌, false, true, Some, None};
 ghost use Rattle.ticket_desk.specs.Steps.{TakesTurn, Fits, after_turn};
 ghost use Rattle.ticket_desk.specs.Turns.{Adds};
-ghost use Rattle.ticket_desk.specs.Tables.{IsBoard, IsWaiting, IsDone};
+ghost use Rattle.ticket_desk.specs.Tables.{IsDesk, IsWaiting, IsDone};
 
 use crate::history::History;
 use crate::plays::{Draw, HandOn, Look};
@@ -22,7 +22,7 @@ const LOW_HALF: u64 = 0xffff_ffff;
 
 /// Draws a ticket.
 pub(crate) fn draw<V: History>(top: &Top<V>, place: &mut Place<V>, number: u32) -> u64
-    requires board { IsBoard top.now.table_id place.old.table_id }
+    requires board { IsDesk top.now.table_id place.old.table_id }
     requires free { (place.old.me.0.ticket ≡ None) × (place.old.me.0.number ≡ Some number)
         × (place.old.me.0.turn ≡ false) }
     ensures board { place.new.table_id ≡ place.old.table_id }
@@ -41,7 +41,7 @@ pub(crate) fn await_turn<V: History, R: Wait>(
     number: u32,
     ticket: u64,
 )
-    requires board { IsBoard top.now.table_id place.old.table_id }
+    requires board { IsDesk top.now.table_id place.old.table_id }
     requires waits { IsWaiting number ticket place.old.me }
     ensures board { place.new.table_id ≡ place.old.table_id }
     ensures turn { TakesTurn V.items V.origin place.old.me place.new.me }
@@ -66,7 +66,7 @@ pub(crate) fn await_turn<V: History, R: Wait>(
 /// Serves the next ticket. The value is home, and its history may be longer by one item of this
 /// number.
 pub(crate) fn hand_on<V: History>(top: &Top<V>, place: &mut Place<V>, number: u32, ticket: u64)
-    requires board { IsBoard top.now.table_id place.old.table_id }
+    requires board { IsDesk top.now.table_id place.old.table_id }
     requires done { IsDone V.items V.origin V.by number ticket place.old.me }
     ensures board { place.new.table_id ≡ place.old.table_id }
     ensures home { (x : V) × (place.old.me.1 ≡ (0, Some x) ∷ [])
