@@ -126,22 +126,27 @@ fn a_refused_answer_tells_why(rt: HostRuntime) -> Result<(), Fail> {
     Ok(())
 }
 
+// Whatever was lost, the line is that of the call and says no more.
+fn lost_reads(rt: &impl Abort, alloc: Global, end: &CallEnd, what: &str) -> Result<(), Fail> {
+    let want = format!(in alloc;
+        "{{\"actor\":\"c1\",\"answer\":\"{what}\",\"call\":\"claim\",\"line\":10,\"subject\":\"web/0\"}}"
+    )?;
+    answer_reads(rt, alloc, "c1", 10, &claim()?, end, want.as_str())
+}
+
 #[test]
 fn a_lost_call_or_reply_tells_nothing_of_the_board(rt: HostRuntime) -> Result<(), Fail> {
-    let claim = claim()?;
-    let call = r#"{"actor":"c1","answer":"lost call","call":"claim","line":10,"subject":"web/0"}"#;
-    let reply =
-        r#"{"actor":"c1","answer":"lost reply","call":"claim","line":10,"subject":"web/0"}"#;
-    for (end, want) in [
-        (CallEnd::CallLost, call),
-        (CallEnd::ReplyLost(Ok(OK)), reply),
-        (CallEnd::ReplyLost(Ok(SAME)), reply),
-        (CallEnd::ReplyLost(Ok(refused(HELD))), reply),
-        (CallEnd::ReplyLost(Err(DISK)), reply),
-    ] {
-        answer_reads(&rt, rt.alloc(), "c1", 10, &claim, &end, want)?;
-    }
-    Ok(())
+    let alloc = rt.alloc();
+    lost_reads(&rt, alloc, &CallEnd::CallLost, "lost call")?;
+    lost_reads(&rt, alloc, &CallEnd::ReplyLost(Ok(OK)), "lost reply")?;
+    lost_reads(&rt, alloc, &CallEnd::ReplyLost(Ok(SAME)), "lost reply")?;
+    lost_reads(
+        &rt,
+        alloc,
+        &CallEnd::ReplyLost(Ok(refused(HELD))),
+        "lost reply",
+    )?;
+    lost_reads(&rt, alloc, &CallEnd::ReplyLost(Err(DISK)), "lost reply")
 }
 
 #[test]
