@@ -6,6 +6,8 @@ use Rattle.wire_fields.specs.Reading.{◌>>=◌, number_at}
 use Rattle.wire_fields.specs.declared.fault.FieldFault.{FieldFault}
 use Rattle.wire_fields.specs.declared.fault.FieldFault.TheVariants as field
 use Rattle.bbs_model.specs.declared.command.Command.{Command}
+use Rattle.bbs_model.specs.declared.command.Op.{Op}
+use Rattle.crash_backoff.specs.declared.moment.Moment.{Moment}
 use Rattle.bbs_codec.specs.Ops.{said, op_at}
 use Rattle.bbs_codec.specs.declared.fault.CodecFault.{CodecFault}
 use Rattle.bbs_codec.specs.declared.fault.CodecFault.TheVariants.{Short, BadKind, BadField, Trailing}
@@ -37,17 +39,24 @@ is_kind kind = nat_le 1 kind && nat_le kind 25
 unfoldable pub kind_at : List ℕ → Result (ℕ × ℕ) CodecFault
 kind_at bytes = as_part (number_at w8 bytes 0) >>= λ kind. if is_kind kind.0 then Ok kind else Err (BadKind 0)
 
+-- an operation that was read, as a command of that moment
+abbrev pub dated : Moment → Result (Op × ℕ) FieldFault → Result (Command × ℕ) CodecFault
+dated now op = as_part op >>= λ o. Ok (record { now = now; op = o.0 }, o.1)
+
 -- the command in front, and the place after it
 unfoldable pub command_at : List ℕ → Result (Command × ℕ) CodecFault
 command_at bytes = do
   kind ← kind_at bytes
   now ← as_part (number_at w32 bytes kind.1)
-  op ← as_part (op_at kind.0 bytes now.1)
-  Ok (record { now = record { 0 = now.0 }; op = op.0 }, op.1)
+  dated (record { 0 = now.0 }) (op_at kind.0 bytes now.1)
 
 -- the command that was read, where it ends with the bytes
 abbrev pub ended : List ℕ → Command × ℕ → Result Command CodecFault
 ended bytes read = if nat_lt read.1 (length bytes) then Err (Trailing read.1) else Ok read.0
+
+-- an operation that was read, as a command of that moment that ends with the bytes
+abbrev pub last_of : List ℕ → Moment → Result (Op × ℕ) FieldFault → Result Command CodecFault
+last_of bytes now op = dated now op >>= ended bytes
 
 -- the command that the bytes are, or the first fault
 unfoldable pub reading : List ℕ → Result Command CodecFault

@@ -7,6 +7,7 @@ mod head;
 mod laws;
 mod ops;
 mod reading;
+mod trailing;
 mod writing;
 
 pub use fault::CodecFault;

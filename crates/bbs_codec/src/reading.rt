@@ -2,10 +2,13 @@
 #![tactic(auto, unfolding(crate::specs::Command::kind_at, crate::specs::Command::command_at, crate::specs::Command::reading))]
 
 ghost use Rattle.std.specs.Prelude.{◌≡◌, ◌≤◌, length, IfOk};
-ghost use Rattle.bbs_codec.specs.Command.{kind_at, command_at, reading};
+ghost use Rattle.bbs_codec.specs.Command.{kind_at, reading};
 
 use crate::fault::CodecFault;
-use crate::ops::read_op;
+use crate::ops::{
+    read_cell_end, read_cell_lease, read_lrp_change, read_lrp_loss, read_lrp_work,
+    read_process_command, read_task_change, read_task_end, read_task_work,
+};
 use bbs_model::Command;
 use crash_backoff::Moment;
 use wire_fields::{read_u8, read_u32};
@@ -23,28 +26,24 @@ fn read_kind(bytes: &[u8]) -> Result<(u8, usize), CodecFault>
     Ok((kind, at))
 }
 
-/// The command in front, and the place after it.
-fn read_front(bytes: &[u8]) -> Result<(Command, usize), CodecFault>
-    ensures { result ≡ command_at bytes.now }
-{
-    let (kind, at) = read_kind(bytes)?;
-    let (seconds, at) = read_u32(bytes, at)?;
-    let (op, at) = read_op(kind, bytes, at)?;
-    let command = Command {
-        now: Moment(seconds),
-        op,
-    };
-    Ok((command, at))
-}
-
 /// The command that these bytes are, all of them. Otherwise it answers the first fault from the
-/// left.
+/// left. A command is large, so it is made only once nothing is left over, and then handed on.
 pub fn read_command(bytes: &[u8]) -> Result<Command, CodecFault>
     ensures { result ≡ reading bytes.now }
 {
-    let (command, at) = read_front(bytes)?;
-    if at < bytes.len() {
-        return Err(CodecFault::Trailing { at });
+    let (kind, at) = read_kind(bytes)?;
+    let (seconds, at) = read_u32(bytes, at)?;
+    let now = Moment(seconds);
+    match kind {
+        1..=3 => read_process_command(kind, now, bytes, at),
+        4..=6 => read_lrp_work(kind, now, bytes, at),
+        7..=9 => read_lrp_loss(kind, now, bytes, at),
+        10..=13 => read_lrp_change(kind, now, bytes, at),
+        14..=15 => read_task_work(kind, now, bytes, at),
+        16..=18 => read_task_end(kind, now, bytes, at),
+        19..=21 => read_task_change(kind, now, bytes, at),
+        22..=23 => read_cell_lease(kind, now, bytes, at),
+        24..=25 => read_cell_end(kind, now, bytes, at),
+        _ => unreachable!(),
     }
-    Ok(command)
 }

@@ -14,7 +14,8 @@ impl Fields for Key {
     ghost format = { key };
 
     fn read_at(bytes: &[u8], at: usize) -> Result<(Key, usize), FieldFault> {
-        let ((process, index), at) = <(Name, u32)>::read_at(bytes, at)?;
+        let (process, at) = Name::read_at(bytes, at)?;
+        let (index, at) = u32::read_at(bytes, at)?;
         Ok((Key { process, index }, at))
     }
 

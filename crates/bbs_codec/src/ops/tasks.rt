@@ -1,83 +1,118 @@
-//! Operations on tasks, as they are read.
+//! Commands on tasks, as they are read.
 #![tactic(auto, unfolding(crate::specs::Format::seen_at, crate::specs::Ops::op_at))]
 
-ghost use Rattle.std.specs.Prelude.{◌≡◌, ◌≤◌, length, IfOk};
+ghost use Rattle.std.specs.Prelude.{◌≡◌, ◌≤◌, length};
+ghost use Rattle.bbs_codec.specs.Command.{last_of};
 ghost use Rattle.bbs_codec.specs.Ops.{op_at};
 
+use crate::fault::CodecFault;
 use crate::fields::Fields;
-use bbs_model::Op;
+use crate::trailing::end_at;
+use bbs_model::{Command, Op};
+use crash_backoff::Moment;
 use diego_names::{Instance, Name};
-use wire_fields::FieldFault;
 
-/// Reads how a task comes, runs and ends: kinds 14 to 16.
-pub fn read_task_work(kind: u8, bytes: &[u8], at: usize) -> Result<(Op, usize), FieldFault>
-    requires kind { (14 ≤ kind) × (kind ≤ 16) }
+/// Reads how a task comes and runs: kinds 14 to 15.
+pub fn read_task_work(kind: u8, now: Moment, bytes: &[u8], at: usize) -> Result<Command, CodecFault>
+    requires kind { (14 ≤ kind) × (kind ≤ 15) }
     requires place { at ≤ length bytes.now }
-    ensures value { result ≡ op_at kind bytes.now at }
-    ensures within { IfOk result (λ read. read.1 ≤ length bytes.now) }
+    ensures { result ≡ last_of bytes.now now (op_at kind bytes.now at) }
 {
     match kind {
         14 => {
-            let ((name, (memory, disk), tag), at) = <(Name, (u32, u32), Option<Name>)>::read_at(
-                bytes, at,
-            )?;
+            let (name, at) = Name::read_at(bytes, at)?;
+            let (memory, at) = u32::read_at(bytes, at)?;
+            let (disk, at) = u32::read_at(bytes, at)?;
+            let (tag, at) = <Option<Name>>::read_at(bytes, at)?;
+            end_at(bytes, at)?;
             let op = Op::NewTask {
                 name,
                 memory,
                 disk,
                 tag,
             };
-            Ok((op, at))
+            Ok(Command { now, op })
         }
         15 => {
-            let ((name, instance, cell), at) = <(Name, Instance, Name)>::read_at(bytes, at)?;
+            let (name, at) = Name::read_at(bytes, at)?;
+            let (instance, at) = Instance::read_at(bytes, at)?;
+            let (cell, at) = Name::read_at(bytes, at)?;
+            end_at(bytes, at)?;
             let op = Op::StartTask {
                 name,
                 instance,
                 cell,
             };
-            Ok((op, at))
-        }
-        16 => {
-            let ((name, instance, failed), at) = <(Name, Instance, bool)>::read_at(bytes, at)?;
-            let op = Op::CompleteTask {
-                name,
-                instance,
-                failed,
-            };
-            Ok((op, at))
+            Ok(Command { now, op })
         }
         _ => unreachable!(),
     }
 }
 
-/// Reads what is asked of a task by its name alone: kinds 17 to 21.
-pub fn read_task_end(kind: u8, bytes: &[u8], at: usize) -> Result<(Op, usize), FieldFault>
-    requires kind { (17 ≤ kind) × (kind ≤ 21) }
+/// Reads how a task ends: kinds 16 to 18.
+pub fn read_task_end(kind: u8, now: Moment, bytes: &[u8], at: usize) -> Result<Command, CodecFault>
+    requires kind { (16 ≤ kind) × (kind ≤ 18) }
     requires place { at ≤ length bytes.now }
-    ensures value { result ≡ op_at kind bytes.now at }
-    ensures within { IfOk result (λ read. read.1 ≤ length bytes.now) }
+    ensures { result ≡ last_of bytes.now now (op_at kind bytes.now at) }
 {
     match kind {
+        16 => {
+            let (name, at) = Name::read_at(bytes, at)?;
+            let (instance, at) = Instance::read_at(bytes, at)?;
+            let (failed, at) = bool::read_at(bytes, at)?;
+            end_at(bytes, at)?;
+            let op = Op::CompleteTask {
+                name,
+                instance,
+                failed,
+            };
+            Ok(Command { now, op })
+        }
         17 => {
             let (name, at) = Name::read_at(bytes, at)?;
-            Ok((Op::CancelTask { name }, at))
+            end_at(bytes, at)?;
+            let op = Op::CancelTask { name };
+            Ok(Command { now, op })
         }
         18 => {
             let (name, at) = Name::read_at(bytes, at)?;
-            Ok((Op::ResolveTask { name }, at))
+            end_at(bytes, at)?;
+            let op = Op::ResolveTask { name };
+            Ok(Command { now, op })
         }
+        _ => unreachable!(),
+    }
+}
+
+/// Reads what becomes of a task then: kinds 19 to 21.
+pub fn read_task_change(
+    kind: u8,
+    now: Moment,
+    bytes: &[u8],
+    at: usize,
+) -> Result<Command, CodecFault>
+    requires kind { (19 ≤ kind) × (kind ≤ 21) }
+    requires place { at ≤ length bytes.now }
+    ensures { result ≡ last_of bytes.now now (op_at kind bytes.now at) }
+{
+    match kind {
         19 => {
             let (name, at) = Name::read_at(bytes, at)?;
-            Ok((Op::DeleteTask { name }, at))
+            end_at(bytes, at)?;
+            let op = Op::DeleteTask { name };
+            Ok(Command { now, op })
         }
         20 => {
             let (name, at) = Name::read_at(bytes, at)?;
-            Ok((Op::KickTask { name }, at))
+            end_at(bytes, at)?;
+            let op = Op::KickTask { name };
+            Ok(Command { now, op })
         }
         21 => {
             let (name, at) = Name::read_at(bytes, at)?;
-            Ok((Op::ExpireTask { name }, at))
+            end_at(bytes, at)?;
+            let op = Op::ExpireTask { name };
+            Ok(Command { now, op })
         }
         _ => unreachable!(),
     }
