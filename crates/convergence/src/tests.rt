@@ -113,6 +113,31 @@ fn crash(process: Name, epoch: u64) -> Command {
     at(0, Op::Crash { key, instance })
 }
 
+fn new_task(name: Name) -> Command {
+    let (memory, disk, tag) = (64, 128, None);
+    at(
+        0,
+        Op::NewTask {
+            name,
+            memory,
+            disk,
+            tag,
+        },
+    )
+}
+
+fn start_task(name: Name, epoch: u64, cell: Name) -> Command {
+    let instance = container(epoch);
+    at(
+        0,
+        Op::StartTask {
+            name,
+            instance,
+            cell,
+        },
+    )
+}
+
 /// Whether convergence asks for these at a moment once those were done, and by plain scans too.
 fn asks(alloc: Global, done: &[Command], now: u32, asked: &[Op]) -> Result<bool, OutOfMemory> {
     let now = Moment(now);

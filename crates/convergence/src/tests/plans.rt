@@ -1,6 +1,8 @@
 //! Each line of what is asked by answers, as a case.
 use super::answers::{answer, held, held_task, plans};
-use super::{Names, at, container, desire, first, join, make, read_names, start};
+use super::{
+    Names, at, container, desire, first, join, make, new_task, read_names, start, start_task,
+};
 use bbs_model::{Command, Op};
 use cell_records::{Container, ContainerState};
 use diego_names::OutOfMemory;
@@ -111,44 +113,21 @@ fn a_task_is_given_up_or_has_the_outcome_of_its_container(rt: HostRuntime) -> Re
     let alloc = rt.alloc();
     let names = read_names()?;
     let (name, cell) = (names.web, names.a);
-    let instance = container(2);
-    let (memory, disk, tag) = (64, 128, None);
-    let new = Op::NewTask {
-        name,
-        memory,
-        disk,
-        tag,
-    };
-    let begin = Op::StartTask {
-        name,
-        instance,
-        cell,
-    };
-    let running = [desire(names.b, 1), at(0, new), join(cell, 90), at(0, begin)];
+    let running = [
+        desire(names.b, 1),
+        new_task(name),
+        join(cell, 90),
+        start_task(name, 2, cell),
+    ];
     assert!(rt; asked_of_a(alloc, &names, &running, &[], &[Op::CancelTask { name }])?);
-    let failed = true;
-    let outcome = [Op::CompleteTask {
+    let outcome = Op::CompleteTask {
         name,
-        instance,
-        failed,
-    }];
-    assert!(rt;
-        asked_of_a(
-            alloc,
-            &names,
-            &running,
-            &[held_task(name, 2, 1, ENDED)],
-            &outcome
-        )?
-    );
-    assert!(rt;
-        asked_of_a(
-            alloc,
-            &names,
-            &running,
-            &[held_task(name, 2, 1, RUNNING)],
-            &[]
-        )?
-    );
+        instance: container(2),
+        failed: true,
+    };
+    let ended = [held_task(name, 2, 1, ENDED)];
+    assert!(rt; asked_of_a(alloc, &names, &running, &ended, &[outcome])?);
+    let runs = [held_task(name, 2, 1, RUNNING)];
+    assert!(rt; asked_of_a(alloc, &names, &running, &runs, &[])?);
     Ok(())
 }

@@ -1,5 +1,7 @@
 //! Each line of what convergence asks, as a case, and the moment before it is asked.
-use super::{asks, at, container, crash, desire, first, join, make, read_names, start};
+use super::{
+    asks, at, container, crash, desire, first, join, make, new_task, read_names, start, start_task,
+};
 use bbs_model::Op;
 use diego_names::Key;
 use std::test::Fail;
@@ -88,50 +90,24 @@ fn tasks_are_given_up_and_their_outcomes_told_again(rt: HostRuntime) -> Result<(
     let alloc = rt.alloc();
     let names = read_names()?;
     let (name, cell) = (names.web, names.a);
-    let instance = container(1);
-    let new = at(
-        0,
-        Op::NewTask {
-            name,
-            memory: 64,
-            disk: 128,
-            tag: None,
-        },
-    );
+    let new = new_task(name);
     assert!(rt; asks(alloc, &[new], 1799, &[])?);
     assert!(rt; asks(alloc, &[new], 1800, &[Op::CancelTask { name }])?);
-    let begin = at(
-        0,
-        Op::StartTask {
-            name,
-            instance,
-            cell,
-        },
-    );
+    let begin = start_task(name, 1, cell);
     let running = [new, join(cell, 30), begin];
     assert!(rt; asks(alloc, &running, 29, &[])?);
-    assert!(rt;
-        asks(
-            alloc,
-            &running,
-            30,
-            &[Op::Vanish { cell }, Op::CancelTask { name }]
-        )?
-    );
-    let failed = false;
-    let complete = at(
-        0,
-        Op::CompleteTask {
-            name,
-            instance,
-            failed,
-        },
-    );
-    let completed = [new, join(cell, 900), begin, complete];
+    let lost = [Op::Vanish { cell }, Op::CancelTask { name }];
+    assert!(rt; asks(alloc, &running, 30, &lost)?);
+    let end = Op::CompleteTask {
+        name,
+        instance: container(1),
+        failed: false,
+    };
+    let completed = [new, join(cell, 900), begin, at(0, end)];
     assert!(rt; asks(alloc, &completed, 119, &[])?);
     assert!(rt; asks(alloc, &completed, 120, &[Op::ExpireTask { name }])?);
     let resolve = at(0, Op::ResolveTask { name });
-    let resolving = [new, join(cell, 900), begin, complete, resolve];
+    let resolving = [completed[0], completed[1], begin, completed[3], resolve];
     assert!(rt; asks(alloc, &resolving, 29, &[])?);
     assert!(rt; asks(alloc, &resolving, 30, &[Op::KickTask { name }])?);
     Ok(())
