@@ -116,30 +116,66 @@ fn begin_in(
             },
         )),
         CellAct::Claim { job, memory, disk } => {
-            match claim_in(&mut joined.store, job, *memory, *disk) {
-                Err(fault) => refused(fault),
-                Ok(container) => Ok(call(now, claim_op(cell, job, container.instance))),
-            }
+            claim_at_once(joined, cell, job, *memory, *disk, now)
         }
-        CellAct::Run { key, memory, disk } => {
-            match claim_in(&mut joined.store, &JobName::Lrp(*key), *memory, *disk) {
-                Err(fault) => refused(fault),
-                Ok(container) => {
-                    run_in(&mut joined.store, &container);
-                    Ok(call(
-                        now,
-                        Op::Start {
-                            key: *key,
-                            instance: container.instance,
-                            cell,
-                        },
-                    ))
-                }
-            }
-        }
+        CellAct::Run { key, memory, disk } => run_at_once(joined, cell, key, *memory, *disk, now),
         CellAct::Crash { key } => Ok(crash_in(joined, key, now)),
         CellAct::Finish { name, failed } => Ok(finish_in(joined, name, *failed, now)),
         _ => Ok(Todo::Idle),
+    }
+}
+
+// The container that is there or is made room for is told to the board.
+fn claim_at_once(
+    joined: &mut Joined,
+    cell: Name,
+    job: &JobName,
+    memory: u32,
+    disk: u32,
+    now: Moment,
+) -> Result<Todo, OutOfMemory>
+    ensures todo { IfOk result
+        (λ todo. plan_in (act.Claim job.now memory disk) now cell joined.old ≡ todo ∷ []) }
+    ensures begun { OnOk result (joined.new ≡ record joined.old {
+      store = begun_in (act.Claim job.now memory disk) joined.old.store;
+    }) }
+    ensures err { OnErr result (joined.new ≡ joined.old) }
+{
+    match claim_in(&mut joined.store, job, memory, disk) {
+        Err(fault) => refused(fault),
+        Ok(container) => Ok(call(now, claim_op(cell, job, container.instance))),
+    }
+}
+
+// It runs at once, too.
+fn run_at_once(
+    joined: &mut Joined,
+    cell: Name,
+    key: &Key,
+    memory: u32,
+    disk: u32,
+    now: Moment,
+) -> Result<Todo, OutOfMemory>
+    ensures todo { IfOk result
+        (λ todo. plan_in (act.Run key.now memory disk) now cell joined.old ≡ todo ∷ []) }
+    ensures begun { OnOk result (joined.new ≡ record joined.old {
+      store = begun_in (act.Run key.now memory disk) joined.old.store;
+    }) }
+    ensures err { OnErr result (joined.new ≡ joined.old) }
+{
+    match claim_in(&mut joined.store, &JobName::Lrp(*key), memory, disk) {
+        Err(fault) => refused(fault),
+        Ok(container) => {
+            run_in(&mut joined.store, &container);
+            Ok(call(
+                now,
+                Op::Start {
+                    key: *key,
+                    instance: container.instance,
+                    cell,
+                },
+            ))
+        }
     }
 }
 
