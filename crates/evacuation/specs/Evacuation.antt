@@ -1,10 +1,10 @@
 -- How a cell is emptied.
-use Rattle.std.specs.Prelude.{◌≡◌, ℕ, ◌&&◌, Bool, true, false, List, [], ◌∷◌, ◌++◌, MatchBool}
+use Rattle.std.specs.Prelude.{◌≡◌, ℕ, Bool, true, false, List, [], ◌∷◌, ◌++◌, MatchBool}
 use Rattle.bbs_model.specs.declared.reply.Reply.TheVariants as reply
 use Rattle.cell_records.specs.declared.container.Container.{Container}
 use Rattle.cell_rep.specs.Acts.{drain_todo}
 use Rattle.cell_rep.specs.Follows.{Stage, Performs, Acts}
-use Rattle.cell_rep.specs.Reps.{containers_of, is_draining}
+use Rattle.cell_rep.specs.Reps.{containers_of}
 use Rattle.cell_rep.specs.declared.call_end.CallEnd.{CallEnd}
 use Rattle.cell_rep.specs.declared.call_end.CallEnd.TheVariants.{Got, Fault, CallLost, ReplyLost, Local, Idle}
 use Rattle.cell_rep.specs.declared.call_end.Called.{Called}
@@ -46,6 +46,6 @@ abbrev pub is_nothing : List Container → Bool
 is_nothing [] = true
 is_nothing (c ∷ cs) = false
 
--- the cell is being emptied, and is empty
+-- nothing stands on the cell: whether it is being emptied isn't asked
 abbrev pub is_drained : CellRep → Bool
-is_drained rep = is_draining rep && is_nothing (containers_of rep)
+is_drained rep = is_nothing (containers_of rep)

@@ -61,9 +61,9 @@ pub fn evacuate<P: Port, W: Wire>(
     }
 }
 
-/// Whether a cell that is being emptied has no containers any more.
+/// Whether nothing stands on the cell, whether it is being emptied or not.
 pub fn drained(rep: &CellRep) -> bool
     ensures { result ≡ is_drained rep.now }
 {
-    rep.is_draining() && is_nothing(rep.containers())
+    is_nothing(rep.containers())
 }
