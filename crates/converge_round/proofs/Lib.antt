@@ -3,3 +3,9 @@ pub mod Eachs
 pub mod Owns
 pub mod RepLaws
 pub mod IndexLaws
+pub mod StartLaws
+pub mod Asked
+pub mod HeardLaws
+pub mod Apart
+pub mod JobsApart
+pub mod RoundLaws

@@ -5,7 +5,10 @@ use Rattle.std.specs.Option.{option_map, option_map_or}
 use Rattle.std.proofs.lemmas.List.{length-map}
 use Rattle.std.proofs.lemmas.Option.{slice_get-map, slice_get-get_or, slice_get_within}
 use Rattle.cell_rep.specs.Laws.{SameJoined}
+use Rattle.cell_rep.specs.Ends.{without}
 use Rattle.cell_rep.specs.declared.joined.Joined.{Joined}
+use Rattle.cell_rep.proofs.Public.{keeps_stopped}
+use Rattle.diego_names.specs.declared.instance.Instance.{Instance}
 use Rattle.cell_rep.specs.declared.rep.CellRep.{CellRep}
 use Rattle.converge_round.specs.Reps.{names_of, IsRepIndex, StandsFor, SameRep, KeepReps}
 use Rattle.converge_round.specs.declared.rep_index.RepIndex.{RepIndex}
@@ -87,3 +90,13 @@ pub rep-at : (rs : List CellRep) (at : ℕ) → at < length rs → (r : CellRep)
 rep-at [] at within = absurd (omega (arith, within))
 rep-at (r ∷ rs) zero within = (r, refl)
 rep-at (r ∷ rs) (suc k) within = rep-at rs k (omega (arith, within))
+
+-- a rep that gave a container up is the same but for that
+pub rep_stopped : (rep rep' : CellRep) (i : Instance) → rep'.cell ≡ rep.cell → rep' ≡ without rep i → SameRep rep rep'
+rep_stopped rep rep' i same e = record { cell = same; joined = subst (λ (r : CellRep). SameJoined rep.joined r.joined) (sym e) (keeps_stopped rep i) }
+
+-- what is read at a place doesn't hang on what stands for nothing there
+pub rep_read : (rs : List CellRep) (at : ℕ) (d : CellRep) → at < length rs → get_or rs at d ≡ get_or rs at (get_or rs at d)
+rep_read [] at d within = absurd (omega (arith, within))
+rep_read (r ∷ rs) zero d within = refl
+rep_read (r ∷ rs) (suc k) d within = rep_read rs k d (omega (arith, within))

@@ -4,3 +4,10 @@ pub mod Callings
 pub mod Sendings
 pub mod Reps
 pub mod Jobs
+pub mod Askings
+pub mod Stops
+pub mod Places
+pub mod Starts
+pub mod Items
+pub mod Phases
+pub mod Rounds

@@ -1,16 +1,26 @@
-//! Parts of a round of convergence: commands are called, one after the other, a delivery goes to a
-//! cell's rep, reps are found by the names of their cells, and the work that waits is listed.
+//! A round of convergence, over any way to the board and any wire: cells are asked, what rows and
+//! answers ask for is called, what no row needs is stopped, and the work that waits is started.
 #![tactic(auto)]
 
 mod adding;
+mod asking;
 mod calls;
+mod closing;
+mod converging;
 mod jobs;
+mod opening;
+mod placing;
 mod rep_index;
 mod sending;
+mod starting;
+mod stopping;
 mod tally;
 
 pub use calls::call_each;
+pub use converging::round;
 pub use jobs::{jobs_of, named_job};
+pub use opening::{Opening, open_round};
 pub use rep_index::RepIndex;
 pub use sending::reaches;
+pub use starting::claim_on;
 pub use tally::Tally;

@@ -1,0 +1,8 @@
+use Rattle.converge_round.proofs.Owns.{own_none}
+use Rattle.converge_round.proofs.closing.call_fails.Goals as goal
+
+pub returns-in-Err-clause-own : goal.returns-in-Err-clause-own
+returns-in-Err-clause-own g c = own_none _ _ _
+
+pub returns-in-Err-fails_of-clause-own : goal.returns-in-Err-fails_of-clause-own
+returns-in-Err-fails_of-clause-own g c = own_none _ _ _

@@ -1,0 +1,15 @@
+use Rattle.std.proofs.Common.{◌∙◌}
+use Rattle.bbs_model.specs.Work.{work}
+use Rattle.converge_round.proofs.Asked.{asked_looks, asked_list, on_ok, called_read}
+use Rattle.converge_round.proofs.opening.call_work.Goals as goal
+
+pub returns-in-Err-clause-own : goal.returns-in-Err-clause-own
+returns-in-Err-clause-own g c = asked_looks _ _ _ _ c.in-Err.ensures.looks
+
+pub returns-in-Ok-clause-own : goal.returns-in-Ok-clause-own
+returns-in-Ok-clause-own g c =
+    asked_list _ _ (λ rows. work rows c.args.now) _ _ _ _ c.in-Ok.ensures.number c.in-Ok.ensures.looks (c.items.ensures ∙ c.in-Ok.ensures.work) c.call_each.ensures.own
+
+pub returns-in-Ok-clause-called : goal.returns-in-Ok-clause-called
+returns-in-Ok-clause-called g c =
+    on_ok _ _ _ (λ f. called_read _ _ (λ rows. work rows c.args.now) _ _ _ _ _ _ c.in-Ok.ensures.number c.in-Ok.ensures.looks (c.items.ensures ∙ c.in-Ok.ensures.work) f) c.call_each.ensures.noted

@@ -1,0 +1,5 @@
+use Rattle.converge_round.proofs.RepLaws.{keep-same}
+use Rattle.converge_round.proofs.opening.stop_by.Goals as goal
+
+pub returns-in-Err-clause-cells : goal.returns-in-Err-clause-cells
+returns-in-Err-clause-cells g c = keep-same _

@@ -1,0 +1,41 @@
+use Rattle.std.proofs.Common.{refl, ◌∙◌}
+use Rattle.converge_round.specs.Starts.{StartsOne, IsClaimOfOne}
+use Rattle.converge_round.proofs.Eachs.{each-more-by}
+use Rattle.converge_round.proofs.Owns.{own_none, own_more}
+use Rattle.converge_round.proofs.RepLaws.{rep_same, rep_then}
+use Rattle.converge_round.proofs.StartLaws.{claim_of_one}
+use Rattle.converge_round.proofs.starting.claim_on.Goals as goal
+
+pub loop-job-init : goal.loop-job-init
+loop-job-init g c = record {
+  keeps = g.met.P.Port.same c.args.port.now;
+  number = refl;
+  own = own_none _ _ _;
+  rep = rep_same c.args.rep.now;
+  starts = refl;
+}
+
+pub loop-job-preserved : goal.loop-job-preserved
+loop-job-preserved g c =
+    let i = c.loop-job.invariant in
+    let p = c.in-Ok.ensures in
+    let list = c.args.jobs.now in
+    let k = c.loop-job.job-index in
+    record {
+      keeps = g.met.P.Port.goes_on c.args.port.now c.loop-job.port c.start.new.port i.keeps p.keeps;
+      number = p.number ∙ i.number;
+      own = own_more _ _ (IsClaimOfOne c.args.now c.args.rep.now.cell list) _ _ _ _ i.number
+          (claim_of_one c.args.now c.args.rep.now.cell c.loop-job.rep.cell list k c.job-item.result i.rep.cell c.loop-job-test.true c.job-item.is) i.own p.own;
+      rep = rep_then _ _ _ i.rep p.rep;
+      starts = each-more-by (λ by. StartsOne by c.args.now) _ _ list k c.job-item.result _ _ _ i.number c.loop-job-test.true c.job-item.is i.starts p.starts;
+    }
+
+pub returns-in-Err-clause-own : goal.returns-in-Err-clause-own
+returns-in-Err-clause-own g c =
+    let i = c.loop-job.invariant in
+    let list = c.args.jobs.now in
+    own_more _ _ (IsClaimOfOne c.args.now c.args.rep.now.cell list) _ _ _ _ i.number
+    (claim_of_one c.args.now c.args.rep.now.cell c.loop-job.rep.cell list c.loop-job.job-index c.job-item.result i.rep.cell c.loop-job-test.true c.job-item.is) i.own c.in-Err.ensures.own
+
+pub returns-in-Err-clause-rep : goal.returns-in-Err-clause-rep
+returns-in-Err-clause-rep g c = rep_then _ _ _ c.loop-job.invariant.rep c.in-Err.ensures.rep

@@ -1,0 +1,288 @@
+//! A round up to its auction.
+ghost use Rattle.std.specs.Prelude.{◌≡◌, [], IfOk, OnOk};
+ghost use Rattle.std.specs.List.{Contains};
+ghost use Rattle.bbs_model.specs.PortView.{rows_seen, Looks};
+ghost use Rattle.bbs_model.specs.Valid.{IsValid};
+ghost use Rattle.bbs_model.specs.Work.{work};
+ghost use Rattle.convergence.specs.Plans.{plan_of_answers};
+ghost use Rattle.converge_round.specs.Callings.{calling};
+ghost use Rattle.converge_round.specs.Items.{AreAsked, HasFirstItems};
+ghost use Rattle.converge_round.specs.Reps.{names_of, IsRepIndex, KeepReps};
+ghost use Rattle.converge_round.specs.Phases as told;
+ghost use Rattle.converge_round.specs.Sendings.{wire_at};
+ghost use Rattle.converge_round.specs.Stops.{stopping};
+
+use crate::asking::{ask_each, present_cells};
+use crate::calls::call_each;
+use crate::placing::{Places, place_on};
+use crate::rep_index::RepIndex;
+use crate::stopping::{Stops, stop_each};
+use crate::tally::Tally;
+use bbs_model::{CallFault, Command, Port, Rows};
+use cell_records::Answer;
+use cell_rep::{CellRep, Wire};
+use convergence::{plan, strays};
+use crash_backoff::Moment;
+use diego_names::{Instance, List, Name, OutOfMemory};
+use std::alloc::Global;
+
+/// What the cells answered.
+#[derive(Debug, Drop)]
+pub(crate) struct Hearing {
+    /// How many cells were present.
+    pub(crate) asked: u32,
+    pub(crate) got: List<Answer>,
+}
+
+/// What a round knows once its auction was held.
+#[derive(Debug, Drop)]
+pub struct Opening {
+    /// How many cells were present.
+    pub(crate) asked: u32,
+    /// How many gave no answer, and how many stops were lost.
+    pub(crate) lost: u64,
+    pub(crate) stopped: List<(Name, Instance)>,
+    pub(crate) places: Places,
+}
+
+/// Asks each cell that is present by these rows.
+fn hear_of<W: Wire>(
+    alloc: Global,
+    rows: &Rows,
+    cells: &[CellRep],
+    index: &RepIndex,
+    wire: &mut W,
+    now: Moment,
+) -> Result<Hearing, OutOfMemory>
+    requires valid { IsValid rows.now }
+    requires index { IsRepIndex (names_of cells.now) index.now }
+    ensures { IfOk result (told.IsHearing cells.now rows.now now
+        (wire_at (W.ends wire.old) (W.losses wire.old))
+        (wire_at (W.ends wire.new) (W.losses wire.new))) }
+{
+    let present = present_cells(alloc, rows, now)?;
+    let got = ask_each(alloc, cells, index, wire, present.items())?;
+    Ok(Hearing {
+        asked: present.len() as u32,
+        got,
+    })
+}
+
+/// Reads the rows, and asks each cell that is present.
+fn hear<P: Port, W: Wire>(
+    alloc: Global,
+    port: &mut P,
+    cells: &[CellRep],
+    index: &RepIndex,
+    wire: &mut W,
+    now: Moment,
+) -> Result<Hearing, OutOfMemory>
+    requires { IsRepIndex (names_of cells.now) index.now }
+    ensures keeps { P.keeps port.old port.new }
+    ensures number { P.number port.new ≡ P.number port.old }
+    ensures looks { Looks (P.view port.old) (P.view port.new) }
+    ensures heard { IfOk result (told.IsHearing cells.now (rows_seen (P.view port.new)) now
+        (wire_at (W.ends wire.old) (W.losses wire.old))
+        (wire_at (W.ends wire.new) (W.losses wire.new))) }
+{
+    match port.rows(alloc) {
+        Err(want) => Err(want),
+        Ok(rows) => hear_of(alloc, &rows, cells, index, wire, now),
+    }
+}
+
+/// Calls what the rows ask for.
+fn call_work<P: Port>(
+    alloc: Global,
+    port: &mut P,
+    now: Moment,
+    tally: &mut Tally,
+) -> Result<(), CallFault>
+    ensures keeps { P.keeps port.old port.new }
+    ensures number { P.number port.new ≡ P.number port.old }
+    ensures own { AreAsked (P.number port.old) (λ rows c. Contains (work rows now) c)
+        (P.view port.old) (P.view port.new) }
+    ensures called { OnOk result (told.AreCalledBy (P.number port.old) (λ rows. work rows now)
+        (calling (P.view port.old) tally.old) (calling (P.view port.new) tally.new)) }
+{
+    match port.work(alloc, now) {
+        Err(_) => Err(CallFault::OutOfMemory),
+        Ok(commands) => call_each(port, commands.items(), tally),
+    }
+}
+
+/// What the answers ask for, at rows that are read now.
+fn read_plan<P: Port>(
+    alloc: Global,
+    port: &mut P,
+    got: &[Answer],
+    now: Moment,
+) -> Result<List<Command>, OutOfMemory>
+    ensures keeps { P.keeps port.old port.new }
+    ensures number { P.number port.new ≡ P.number port.old }
+    ensures looks { Looks (P.view port.old) (P.view port.new) }
+    ensures plan { IfOk result
+        (λ list. list ≡ plan_of_answers (rows_seen (P.view port.new)) got.now now) }
+{
+    match port.rows(alloc) {
+        Err(want) => Err(want),
+        Ok(rows) => plan(alloc, &rows, got, now),
+    }
+}
+
+/// Calls what the answers ask for.
+fn call_plan<P: Port>(
+    alloc: Global,
+    port: &mut P,
+    got: &[Answer],
+    now: Moment,
+    tally: &mut Tally,
+) -> Result<(), CallFault>
+    ensures keeps { P.keeps port.old port.new }
+    ensures number { P.number port.new ≡ P.number port.old }
+    ensures own { AreAsked (P.number port.old)
+        (λ rows c. Contains (plan_of_answers rows got.entry.now now) c)
+        (P.view port.old) (P.view port.new) }
+    ensures called { OnOk result (told.AreCalledBy (P.number port.old)
+        (λ rows. plan_of_answers rows got.entry.now now)
+        (calling (P.view port.old) tally.old) (calling (P.view port.new) tally.new)) }
+{
+    match read_plan(alloc, port, got, now) {
+        Err(_) => Err(CallFault::OutOfMemory),
+        Ok(commands) => call_each(port, commands.items(), tally),
+    }
+}
+
+/// Stops what no row needs by these rows.
+fn stop_by<W: Wire>(
+    alloc: Global,
+    rows: &Rows,
+    cells: &mut [CellRep],
+    index: &RepIndex,
+    wire: &mut W,
+    got: &[Answer],
+) -> Result<Stops, OutOfMemory>
+    requires valid { IsValid rows.now }
+    requires index { IsRepIndex (names_of cells.old) index.now }
+    ensures cells { KeepReps cells.old cells.new }
+    ensures stops { IfOk result (told.AreStopped rows.entry.now got.entry.now
+        (stopping (wire_at (W.ends wire.old) (W.losses wire.old)) cells.old)
+        (stopping (wire_at (W.ends wire.new) (W.losses wire.new)) cells.new)) }
+{
+    match strays(alloc, rows, got) {
+        Err(want) => Err(want),
+        Ok(strays) => match stop_each(alloc, cells, index, wire, strays.items()) {
+            Err(want) => Err(want),
+            Ok(stopped) => {
+                let (all, done) = (strays.len() as u64, stopped.len() as u64);
+                let lost = all.saturating_sub(done);
+                Ok(Stops { stopped, lost })
+            }
+        },
+    }
+}
+
+/// Reads the rows, and stops what no row needs.
+fn stop_strays<P: Port, W: Wire>(
+    alloc: Global,
+    port: &mut P,
+    cells: &mut [CellRep],
+    index: &RepIndex,
+    wire: &mut W,
+    got: &[Answer],
+) -> Result<Stops, OutOfMemory>
+    requires { IsRepIndex (names_of cells.old) index.now }
+    ensures keeps { P.keeps port.old port.new }
+    ensures number { P.number port.new ≡ P.number port.old }
+    ensures looks { Looks (P.view port.old) (P.view port.new) }
+    ensures cells { KeepReps cells.old cells.new }
+    ensures stops { IfOk result (told.AreStopped (rows_seen (P.view port.new)) got.entry.now
+        (stopping (wire_at (W.ends wire.old) (W.losses wire.old)) cells.old)
+        (stopping (wire_at (W.ends wire.new) (W.losses wire.new)) cells.new)) }
+{
+    match port.rows(alloc) {
+        Err(want) => Err(want),
+        Ok(rows) => stop_by(alloc, &rows, cells, index, wire, got),
+    }
+}
+
+/// Reads the rows, and places the work that waits.
+fn place_work<P: Port>(
+    alloc: Global,
+    port: &mut P,
+    cells: &[CellRep],
+    index: &RepIndex,
+    got: &[Answer],
+) -> Result<Places, OutOfMemory>
+    requires index { IsRepIndex (names_of cells.now) index.now }
+    requires got { told.AreFewApart got.now }
+    ensures keeps { P.keeps port.old port.new }
+    ensures number { P.number port.new ≡ P.number port.old }
+    ensures looks { Looks (P.view port.old) (P.view port.new) }
+    ensures placed { IfOk result
+        (told.ArePlaced (rows_seen (P.view port.new)) cells.now got.now) }
+{
+    match port.rows(alloc) {
+        Err(want) => Err(want),
+        Ok(rows) => place_on(alloc, rows, cells, index, got),
+    }
+}
+
+/// What is known then.
+fn opening_of(heard: &Hearing, stops: Stops, places: Places) -> Opening
+    ensures asked { result.asked ≡ heard.now.asked }
+    ensures lost { result.lost ≡ told.lost_before heard.now stops }
+    ensures stopped { result.stopped ≡ stops.stopped }
+    ensures places { result.places ≡ places }
+{
+    let silent = u64::from(heard.asked).saturating_sub(heard.got.len() as u64);
+    Opening {
+        asked: heard.asked,
+        lost: silent.saturating_add(stops.lost),
+        stopped: stops.stopped,
+        places,
+    }
+}
+
+/// The first five phases of a round: all up to the claims.
+pub fn open_round<P: Port, W: Wire>(
+    alloc: Global,
+    port: &mut P,
+    cells: &mut [CellRep],
+    index: &RepIndex,
+    wire: &mut W,
+    now: Moment,
+    tally: &mut Tally,
+) -> Result<Opening, CallFault>
+    requires { IsRepIndex (names_of cells.old) index.now }
+    ensures keeps { P.keeps port.old port.new }
+    ensures number { P.number port.new ≡ P.number port.old }
+    ensures own { HasFirstItems (P.number port.old) now (P.view port.old) (P.view port.new) }
+    ensures cells { KeepReps cells.old cells.new }
+    ensures opened { IfOk result (told.IsOpened (P.number port.old) now
+        (told.course (P.view port.old) tally.old cells.old
+        (wire_at (W.ends wire.old) (W.losses wire.old)))
+        (told.course (P.view port.new) tally.new cells.new
+        (wire_at (W.ends wire.new) (W.losses wire.new)))) }
+{
+    let heard = match hear(alloc, port, cells, index, wire, now) {
+        Err(_) => return Err(CallFault::OutOfMemory),
+        Ok(heard) => heard,
+    };
+    match call_work(alloc, port, now, tally) {
+        Err(fault) => return Err(fault),
+        Ok(()) => {}
+    }
+    match call_plan(alloc, port, heard.got.items(), now, tally) {
+        Err(fault) => return Err(fault),
+        Ok(()) => {}
+    }
+    let stops = match stop_strays(alloc, port, cells, index, wire, heard.got.items()) {
+        Err(_) => return Err(CallFault::OutOfMemory),
+        Ok(stops) => stops,
+    };
+    match place_work(alloc, port, cells, index, heard.got.items()) {
+        Err(_) => Err(CallFault::OutOfMemory),
+        Ok(places) => Ok(opening_of(&heard, stops, places)),
+    }
+}

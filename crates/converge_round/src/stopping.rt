@@ -1,0 +1,119 @@
+//! Containers that are of no use are stopped.
+ghost use Rattle.std.specs.Prelude.{◌≡◌, ◌<◌, ◌++◌, [], length, slice_get, Some, IfOk, OnOk};
+ghost use Rattle.cell_rep.specs.Ends.{without};
+ghost use Rattle.converge_round.specs.Each.{Each};
+ghost use Rattle.converge_round.specs.Reps.{names_of, IsRepIndex, KeepReps};
+ghost use Rattle.converge_round.specs.Sendings.{wire_at};
+ghost use Rattle.converge_round.specs.Stops as told;
+
+use crate::rep_index::RepIndex;
+use crate::sending::reaches;
+use cell_rep::{CallKind, CellRep, Wire};
+use diego_names::{Instance, List, Name, OutOfMemory};
+use std::alloc::Global;
+
+/// What came of the stops of a round.
+#[derive(Debug, Drop)]
+pub struct Stops {
+    pub(crate) stopped: List<(Name, Instance)>,
+    /// How many were lost.
+    pub(crate) lost: u64,
+}
+
+/// A rep gives a container up, if it has it.
+fn give_up(rep: &mut CellRep, instance: &Instance)
+    ensures is { rep.new ≡ without rep.old instance.now }
+    ensures cell { rep.new.cell ≡ rep.old.cell }
+{
+    match rep.stop(instance) {
+        Ok(()) => {}
+        Err(_) => {}
+    }
+}
+
+/// The rep at a place gives a container up.
+fn give_up_at(cells: &mut [CellRep], at: usize, stray: &(Name, Instance))
+    requires { at < length cells.old }
+    ensures gives_up { slice_get (names_of cells.old) at ≡ Some stray.now.0 →
+        told.GivesUp stray.now cells.old cells.new }
+    ensures cells { KeepReps cells.old cells.new }
+{
+    give_up(&mut cells[at], &stray.1)
+}
+
+/// One stop goes to a cell's rep. Returns whether it reached it.
+fn stop<W: Wire>(
+    cells: &mut [CellRep],
+    index: &RepIndex,
+    wire: &mut W,
+    stray: &(Name, Instance),
+) -> bool
+    requires { IsRepIndex (names_of cells.old) index.now }
+    ensures stops { told.IsStopped stray.now result
+        (told.stopping (wire_at (W.ends wire.old) (W.losses wire.old)) cells.old)
+        (told.stopping (wire_at (W.ends wire.new) (W.losses wire.new)) cells.new) }
+    ensures cells { KeepReps cells.old cells.new }
+{
+    if !reaches(wire, stray.0, CallKind::Stop) {
+        return false;
+    }
+    match index.find(&stray.0) {
+        None => false,
+        Some(at) => {
+            give_up_at(cells, at, stray);
+            true
+        }
+    }
+}
+
+fn add_if(
+    stopped: &mut List<(Name, Instance)>,
+    done: bool,
+    stray: &(Name, Instance),
+) -> Result<(), OutOfMemory>
+    ensures { OnOk result (stopped.new ≡ stopped.old ++ told.if_done done stray.entry.now) }
+{
+    if done { stopped.push(*stray) } else { Ok(()) }
+}
+
+/// One stop more, which is kept where it is done.
+fn stop_next<W: Wire>(
+    cells: &mut [CellRep],
+    index: &RepIndex,
+    wire: &mut W,
+    stray: &(Name, Instance),
+    stopped: &mut List<(Name, Instance)>,
+) -> Result<(), OutOfMemory>
+    requires { IsRepIndex (names_of cells.old) index.now }
+    ensures cells { KeepReps cells.old cells.new }
+    ensures stops { OnOk result (told.StopsOne stray.entry.now
+        (told.so_far (told.stopping (wire_at (W.ends wire.old) (W.losses wire.old)) cells.old)
+        stopped.old)
+        (told.so_far (told.stopping (wire_at (W.ends wire.new) (W.losses wire.new)) cells.new)
+        stopped.new)) }
+{
+    let done = stop(cells, index, wire, stray);
+    add_if(stopped, done, stray)
+}
+
+/// Stops these containers, in order, and returns those whose stop reached its rep.
+pub(crate) fn stop_each<W: Wire>(
+    alloc: Global,
+    cells: &mut [CellRep],
+    index: &RepIndex,
+    wire: &mut W,
+    strays: &[(Name, Instance)],
+) -> Result<List<(Name, Instance)>, OutOfMemory>
+    requires { IsRepIndex (names_of cells.old) index.now }
+    ensures cells { KeepReps cells.old cells.new }
+    ensures stops { IfOk result (λ stopped. Each told.StopsOne strays.entry.now
+        (told.so_far (told.stopping (wire_at (W.ends wire.old) (W.losses wire.old)) cells.old) [])
+        (told.so_far (told.stopping (wire_at (W.ends wire.new) (W.losses wire.new)) cells.new)
+        stopped)) }
+{
+    let mut stopped = List::new(alloc);
+    for stray in strays {
+        stop_next(cells, index, wire, stray, &mut stopped)?;
+    }
+    Ok(stopped)
+}
