@@ -7,6 +7,7 @@ use crash_backoff::Moment;
 use diego_names::{Key, List, Name};
 use lrp_records::Desired;
 use std::alloc::Global;
+use std::process::Abort;
 use std::test::Fail;
 
 fn first_board(alloc: Global) -> Rows
@@ -42,50 +43,82 @@ fn at(now: u32, op: Op) -> Command {
     }
 }
 
+fn desire(process: Name) -> Command {
+    let desired = wanted(process);
+    at(0, Op::Desire { desired })
+}
+
 fn make(process: Name, index: u32) -> Command {
     let key = Key { process, index };
     at(1, Op::Make { key })
+}
+
+fn port(alloc: Global) -> Result<PlainPort, Fail> {
+    Ok(PlainPort::new(alloc, 7, first_board(alloc))?)
+}
+
+// Calls commands of which each is the next item, from a place on.
+fn call_each<P: Port>(rt: &impl Abort, port: &mut P, from: u64, commands: &[Command]) {
+    let mut place = from;
+    for command in commands {
+        let stamp = place;
+        assert_eq!(rt; port.call(*command), Ok(Reply::Ok { place, stamp }));
+        place = place.saturating_add(1);
+    }
+}
+
+fn asks<P: Port>(
+    rt: &impl Abort,
+    alloc: Global,
+    port: &mut P,
+    work: &[Command],
+) -> Result<(), Fail> {
+    let asked = port.work(alloc, Moment(1))?;
+    assert!(rt; asked.items() == work);
+    Ok(())
+}
+
+fn instances<P: Port>(alloc: Global, port: &mut P) -> Result<usize, Fail> {
+    Ok(port.rows(alloc)?.actual.len())
 }
 
 #[test]
 fn a_desired_process_asks_for_its_instances(rt: HostRuntime) -> Result<(), Fail> {
     let alloc = rt.alloc();
     let web = Name::read(b"web")?;
-    let desired = wanted(web);
-    let mut port = PlainPort::new(alloc, 7, first_board(alloc))?;
-    let reply = port.call(at(0, Op::Desire { desired }));
-    assert_eq!(rt; reply, Ok(Reply::Ok { place: 0, stamp: 0 }));
-    let work = port.work(alloc, Moment(1))?;
     let makes = [make(web, 0), make(web, 1), make(web, 2)];
-    assert!(rt; work.items() == makes.as_slice());
-    for command in makes {
-        let _ = port.call(command);
-    }
-    assert_eq!(rt; port.rows(alloc)?.actual.len(), 3);
-    assert_eq!(rt; port.work(alloc, Moment(1))?.len(), 0);
+    let mut port = port(alloc)?;
+    call_each(&rt, &mut port, 0, &[desire(web)]);
+    asks(&rt, alloc, &mut port, &makes)?;
+    call_each(&rt, &mut port, 1, &makes);
+    asks(&rt, alloc, &mut port, &[])?;
+    assert_eq!(rt; instances(alloc, &mut port)?, 3);
     Ok(())
+}
+
+// Whether the only change that is heard is that the process is desired now.
+fn hears_desire<P: Port>(alloc: Global, port: &mut P, process: Name) -> Result<bool, Fail> {
+    let heard = port.events(alloc, 0, 10)?;
+    let event = Event {
+        change: Change::Created,
+        row: Row::Desired(wanted(process)),
+    };
+    Ok(heard.events.items() == [event].as_slice() && heard.upto == port.place())
 }
 
 #[test]
 fn two_calls_over_a_port_are_heard(rt: HostRuntime) -> Result<(), Fail> {
     let alloc = rt.alloc();
     let web = Name::read(b"web")?;
-    let desired = wanted(web);
-    let mut port = PlainPort::new(alloc, 7, first_board(alloc))?;
-    let (first, second) = call_twice(&mut port, at(0, Op::Desire { desired }), make(web, 3));
+    let mut port = port(alloc)?;
+    let (first, second) = call_twice(&mut port, desire(web), make(web, 3));
     let refused = Reply::Refused {
         why: BoardRefusal::NotWanted,
         place: 1,
     };
     assert_eq!(rt; first, Ok(Reply::Ok { place: 0, stamp: 0 }));
     assert_eq!(rt; second, Ok(refused));
-    let heard = port.events(alloc, 0, 10)?;
-    let event = Event {
-        change: Change::Created,
-        row: Row::Desired(wanted(web)),
-    };
-    assert!(rt; heard.events.items() == [event].as_slice());
-    assert_eq!(rt; heard.upto, port.place());
+    assert!(rt; hears_desire(alloc, &mut port, web)?);
     assert_eq!(rt; port.log().len(), 1);
     Ok(())
 }
