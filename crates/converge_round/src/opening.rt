@@ -10,18 +10,17 @@ ghost use Rattle.converge_round.specs.Items.{AreAsked, HasFirstItems};
 ghost use Rattle.converge_round.specs.Reps.{names_of, IsRepIndex, KeepReps};
 ghost use Rattle.converge_round.specs.Phases as told;
 ghost use Rattle.converge_round.specs.Sendings.{wire_at};
-ghost use Rattle.converge_round.specs.Stops.{stopping};
 
 use crate::asking::{ask_each, present_cells};
 use crate::calls::call_each;
 use crate::placing::{Places, place_on};
 use crate::rep_index::RepIndex;
-use crate::stopping::{Stops, stop_each};
+use crate::stopping::{Stops, stop_strays};
 use crate::tally::Tally;
 use bbs_model::{CallFault, Command, Port, Rows};
 use cell_records::Answer;
 use cell_rep::{CellRep, Wire};
-use convergence::{plan, strays};
+use convergence::plan;
 use crash_backoff::Moment;
 use diego_names::{Instance, List, Name, OutOfMemory};
 use std::alloc::Global;
@@ -150,59 +149,6 @@ fn call_plan<P: Port>(
     match read_plan(alloc, port, got, now) {
         Err(_) => Err(CallFault::OutOfMemory),
         Ok(commands) => call_each(port, commands.items(), tally),
-    }
-}
-
-/// Stops what no row needs by these rows.
-fn stop_by<W: Wire>(
-    alloc: Global,
-    rows: &Rows,
-    cells: &mut [CellRep],
-    index: &RepIndex,
-    wire: &mut W,
-    got: &[Answer],
-) -> Result<Stops, OutOfMemory>
-    requires valid { IsValid rows.now }
-    requires index { IsRepIndex (names_of cells.old) index.now }
-    ensures cells { KeepReps cells.old cells.new }
-    ensures stops { IfOk result (told.AreStopped rows.entry.now got.entry.now
-        (stopping (wire_at (W.ends wire.old) (W.losses wire.old)) cells.old)
-        (stopping (wire_at (W.ends wire.new) (W.losses wire.new)) cells.new)) }
-{
-    match strays(alloc, rows, got) {
-        Err(want) => Err(want),
-        Ok(strays) => match stop_each(alloc, cells, index, wire, strays.items()) {
-            Err(want) => Err(want),
-            Ok(stopped) => {
-                let (all, done) = (strays.len() as u64, stopped.len() as u64);
-                let lost = all.saturating_sub(done);
-                Ok(Stops { stopped, lost })
-            }
-        },
-    }
-}
-
-/// Reads the rows, and stops what no row needs.
-fn stop_strays<P: Port, W: Wire>(
-    alloc: Global,
-    port: &mut P,
-    cells: &mut [CellRep],
-    index: &RepIndex,
-    wire: &mut W,
-    got: &[Answer],
-) -> Result<Stops, OutOfMemory>
-    requires { IsRepIndex (names_of cells.old) index.now }
-    ensures keeps { P.keeps port.old port.new }
-    ensures number { P.number port.new ≡ P.number port.old }
-    ensures looks { Looks (P.view port.old) (P.view port.new) }
-    ensures cells { KeepReps cells.old cells.new }
-    ensures stops { IfOk result (told.AreStopped (rows_seen (P.view port.new)) got.entry.now
-        (stopping (wire_at (W.ends wire.old) (W.losses wire.old)) cells.old)
-        (stopping (wire_at (W.ends wire.new) (W.losses wire.new)) cells.new)) }
-{
-    match port.rows(alloc) {
-        Err(want) => Err(want),
-        Ok(rows) => stop_by(alloc, &rows, cells, index, wire, got),
     }
 }
 

@@ -1,14 +1,20 @@
 //! Containers that are of no use are stopped.
 ghost use Rattle.std.specs.Prelude.{◌≡◌, ◌<◌, ◌++◌, [], length, slice_get, Some, IfOk, OnOk};
+ghost use Rattle.bbs_model.specs.PortView.{rows_seen, Looks};
+ghost use Rattle.bbs_model.specs.Valid.{IsValid};
 ghost use Rattle.cell_rep.specs.Ends.{without};
 ghost use Rattle.converge_round.specs.Each.{Each};
+ghost use Rattle.converge_round.specs.Phases.{AreStopped};
 ghost use Rattle.converge_round.specs.Reps.{names_of, IsRepIndex, KeepReps};
 ghost use Rattle.converge_round.specs.Sendings.{wire_at};
 ghost use Rattle.converge_round.specs.Stops as told;
 
 use crate::rep_index::RepIndex;
 use crate::sending::reaches;
+use bbs_model::{Port, Rows};
+use cell_records::Answer;
 use cell_rep::{CallKind, CellRep, Wire};
+use convergence::strays;
 use diego_names::{Instance, List, Name, OutOfMemory};
 use std::alloc::Global;
 
@@ -97,7 +103,7 @@ fn stop_next<W: Wire>(
 }
 
 /// Stops these containers, in order, and returns those whose stop reached its rep.
-pub(crate) fn stop_each<W: Wire>(
+fn stop_each<W: Wire>(
     alloc: Global,
     cells: &mut [CellRep],
     index: &RepIndex,
@@ -116,4 +122,57 @@ pub(crate) fn stop_each<W: Wire>(
         stop_next(cells, index, wire, stray, &mut stopped)?;
     }
     Ok(stopped)
+}
+
+/// Stops what no row needs by these rows.
+fn stop_by<W: Wire>(
+    alloc: Global,
+    rows: &Rows,
+    cells: &mut [CellRep],
+    index: &RepIndex,
+    wire: &mut W,
+    got: &[Answer],
+) -> Result<Stops, OutOfMemory>
+    requires valid { IsValid rows.now }
+    requires index { IsRepIndex (names_of cells.old) index.now }
+    ensures cells { KeepReps cells.old cells.new }
+    ensures stops { IfOk result (AreStopped rows.entry.now got.entry.now
+        (told.stopping (wire_at (W.ends wire.old) (W.losses wire.old)) cells.old)
+        (told.stopping (wire_at (W.ends wire.new) (W.losses wire.new)) cells.new)) }
+{
+    match strays(alloc, rows, got) {
+        Err(want) => Err(want),
+        Ok(strays) => match stop_each(alloc, cells, index, wire, strays.items()) {
+            Err(want) => Err(want),
+            Ok(stopped) => {
+                let (all, done) = (strays.len() as u64, stopped.len() as u64);
+                let lost = all.saturating_sub(done);
+                Ok(Stops { stopped, lost })
+            }
+        },
+    }
+}
+
+/// Reads the rows, and stops what no row needs.
+pub(crate) fn stop_strays<P: Port, W: Wire>(
+    alloc: Global,
+    port: &mut P,
+    cells: &mut [CellRep],
+    index: &RepIndex,
+    wire: &mut W,
+    got: &[Answer],
+) -> Result<Stops, OutOfMemory>
+    requires { IsRepIndex (names_of cells.old) index.now }
+    ensures keeps { P.keeps port.old port.new }
+    ensures number { P.number port.new ≡ P.number port.old }
+    ensures looks { Looks (P.view port.old) (P.view port.new) }
+    ensures cells { KeepReps cells.old cells.new }
+    ensures stops { IfOk result (AreStopped (rows_seen (P.view port.new)) got.entry.now
+        (told.stopping (wire_at (W.ends wire.old) (W.losses wire.old)) cells.old)
+        (told.stopping (wire_at (W.ends wire.new) (W.losses wire.new)) cells.new)) }
+{
+    match port.rows(alloc) {
+        Err(want) => Err(want),
+        Ok(rows) => stop_by(alloc, &rows, cells, index, wire, got),
+    }
 }

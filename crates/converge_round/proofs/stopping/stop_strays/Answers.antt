@@ -1,5 +1,5 @@
 use Rattle.converge_round.proofs.RepLaws.{keep-same}
-use Rattle.converge_round.proofs.opening.stop_by.Goals as goal
+use Rattle.converge_round.proofs.stopping.stop_strays.Goals as goal
 
 pub returns-in-Err-clause-cells : goal.returns-in-Err-clause-cells
 returns-in-Err-clause-cells g c = keep-same _
