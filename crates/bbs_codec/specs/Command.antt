@@ -55,8 +55,8 @@ abbrev pub ended : List ℕ → Command × ℕ → Result Command CodecFault
 ended bytes read = if nat_lt read.1 (length bytes) then Err (Trailing read.1) else Ok read.0
 
 -- an operation that was read, as a command of that moment that ends with the bytes
-abbrev pub last_of : List ℕ → Moment → Result (Op × ℕ) FieldFault → Result Command CodecFault
-last_of bytes now op = dated now op >>= ended bytes
+abbrev pub last_command : List ℕ → Moment → Result (Op × ℕ) FieldFault → Result Command CodecFault
+last_command bytes now op = dated now op >>= ended bytes
 
 -- the command that the bytes are, or the first fault
 unfoldable pub reading : List ℕ → Result Command CodecFault

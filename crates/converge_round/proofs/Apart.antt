@@ -38,11 +38,11 @@ use Rattle.auctioneer.specs.Asked.{AreJobs, AreAnswers, IsSoundAnswer}
 use Rattle.bbs_model.specs.Tables.{find_desired}
 use Rattle.bbs_model.specs.Valid.{IsValid}
 use Rattle.bbs_model.specs.declared.rows.Rows.{Rows}
-use Rattle.converge_round.specs.Askings.{present_at, present, IsHeardFrom, Hears, HearsIf, Asking, AsksOne, asking}
+use Rattle.converge_round.specs.Askings.{present_at, present, IsHeardFrom, Hears, HearsIf, Asking, AsksOne, questions}
 use Rattle.converge_round.specs.Each.{Each}
 use Rattle.converge_round.specs.Jobs.{job_of_place, instance_job, waiting_job, row_job, pending_job, task_job, jobs}
 use Rattle.converge_round.specs.Phases.{AreFewApart}
-use Rattle.converge_round.specs.Places.{is_evacuating, OpensIf, OpensOne}
+use Rattle.converge_round.specs.Places.{is_being_emptied, OpensIf, OpensOne}
 use Rattle.converge_round.specs.Reps.{StandsFor}
 use Rattle.converge_round.proofs.Lists.{first_or_rest, from_kept}
 
@@ -137,7 +137,7 @@ opens_add : (rows : Rows) (cells : List CellRep) (got : List Answer) (s t : List
 opens_add rows cells [] s t differ f = subst (AreAdded [] s) (sym f) (none_added s)
 opens_add rows cells (x ∷ got) s t differ f =
     add_before x.cell (map (λ (a : Answer). a.cell) got) s f.0 t f.1.now differ
-    (told_open (is_evacuating rows x.cell) cells x f.1.now f.1.opens) f.1.more
+    (told_open (is_being_emptied rows x.cell) cells x f.1.now f.1.opens) f.1.more
     (opens_add rows cells got f.0 t (tail_pairs x.cell (map (λ (a : Answer). a.cell) got) differ) f.2)
 
 not_itself : (a b : List ℕ) → name_order a b ≡ Less → a ≡ b → ⊥

@@ -15,7 +15,7 @@ use Rattle.bbs_model.specs.declared.rows.Rows.{Rows}
 use Rattle.converge_round.specs.Callings.{Calling, AreOf}
 use Rattle.converge_round.specs.Each.{Each}
 use Rattle.converge_round.specs.Items.{HasFirstItems}
-use Rattle.converge_round.specs.Phases.{AreCalledBy, AreStopped, ArePlaced, Course, course, IsOpened, ClaimsAt}
+use Rattle.converge_round.specs.Phases.{AreCalledBy, AreStopped, ArePlaced, Course, course, IsOpenedRound, ClaimsAt}
 use Rattle.converge_round.specs.Reps.{names_of}
 use Rattle.converge_round.specs.Sendings.{WireAt}
 use Rattle.converge_round.specs.Starts.{StartsOne, serving}
@@ -67,9 +67,9 @@ placed_by rows cells got got' p q is same f =
     subst (λ (x : Places). ArePlaced rows cells got x) (sym same) (subst (λ (xs : List Answer). ArePlaced rows cells xs p) is f)
 
 pub opens_by : (by by' : ℕ) (now : Moment) (v : PortView) (t : Tally) (reps : List CellRep) (wire : WireAt) (s' : Course) (o : Opening) → by' ≡ by → t ≡ no_calls
-    → IsOpened by' now (course v t reps wire) s' o → IsOpened by now (course v no_calls reps wire) s' o
+    → IsOpenedRound by' now (course v t reps wire) s' o → IsOpenedRound by now (course v no_calls reps wire) s' o
 opens_by by by' now v t reps wire s' o same none f =
-    subst (λ x. IsOpened by now (course v x reps wire) s' o) none (subst (λ n. IsOpened n now (course v t reps wire) s' o) same f)
+    subst (λ x. IsOpenedRound by now (course v x reps wire) s' o) none (subst (λ n. IsOpenedRound n now (course v t reps wire) s' o) same f)
 
 -- a report of a round that began there
 pub report_from : (line start start' : ℕ) (o : Opening) (t : Tally) (reps : List CellRep) (last : PortView) (r : Report) → start' ≡ start → IsReport line start' o t reps last r → IsReport line start o t reps last r

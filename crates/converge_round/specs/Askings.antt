@@ -62,8 +62,8 @@ pub record Asking : Type 0 where
   pub got : List Answer
 
 -- these two
-abbrev pub asking : WireAt → List Answer → Asking
-asking wire got = record { wire = wire; got = got }
+abbrev pub questions : WireAt → List Answer → Asking
+questions wire got = record { wire = wire; got = got }
 
 -- one cell more is asked
 pub record AsksOne (cells : List CellRep) (c : CellRow) (s s' : Asking) : Type 0 where

@@ -13,14 +13,14 @@ use Rattle.bbs_model.specs.Work.{work}
 use Rattle.bbs_model.specs.declared.command.Command.{Command}
 use Rattle.bbs_model.specs.declared.rows.Rows.{Rows}
 use Rattle.auctioneer.specs.declared.placement.Placement.{Placement}
-use Rattle.converge_round.specs.Askings.{present, AsksOne, asking}
+use Rattle.converge_round.specs.Askings.{present, AsksOne, questions}
 use Rattle.converge_round.specs.Callings.{Calling, calling, IsNoted}
 use Rattle.converge_round.specs.Each.{Each}
 use Rattle.converge_round.specs.Places.{OpensOne, placements, jobs_on, unplaced, fails_of}
 use Rattle.converge_round.specs.Reps.{StandsFor, HasNoRep}
 use Rattle.converge_round.specs.Sendings.{WireAt}
 use Rattle.converge_round.specs.Starts.{Serving, serving, StartsOne, IsClaimOfOne}
-use Rattle.converge_round.specs.Stops.{Stopping, stopping, StopsOne, so_far}
+use Rattle.converge_round.specs.Stops.{Stopping, stops_at, StopsOne, so_far}
 use Rattle.converge_round.specs.Tallies.{no_calls}
 use Rattle.converge_round.specs.declared.opening.Hearing.{Hearing}
 use Rattle.converge_round.specs.declared.opening.Opening.{Opening}
@@ -37,7 +37,7 @@ pub record AreFewApart (answers : List Answer) : Type 0 where
 -- each cell that is present by these rows was asked
 pub record IsHearing (cells : List CellRep) (rows : Rows) (now : Moment) (s s' : WireAt) (h : Hearing) : Type 0 where
   pub asked : h.asked ≡ length (present rows now)
-  pub got : Each (AsksOne cells) (present rows now) (asking s []) (asking s' h.got)
+  pub got : Each (AsksOne cells) (present rows now) (questions s []) (questions s' h.got)
   pub apart : AreFewApart h.got
 
 -- what a table asks for at rows that were read then is called, each with a reply
@@ -75,7 +75,7 @@ lost_before h stops = min ((h.asked - length h.got) + stops.lost) (2 ^ 64 - 1)
 
 -- the first five phases of a round: cells are asked, what rows and answers ask for is called, strays are
 -- stopped, and the auction is held
-pub record IsOpened (by : ℕ) (now : Moment) (s s' : Course) (o : Opening) : Type 0 where
+pub record IsOpenedRound (by : ℕ) (now : Moment) (s s' : Course) (o : Opening) : Type 0 where
   pub first : PortView
   pub looks : Looks s.view first
   pub hearing : Hearing
@@ -88,7 +88,7 @@ pub record IsOpened (by : ℕ) (now : Moment) (s s' : Course) (o : Opening) : Ty
   pub third : PortView
   pub looks_third : Looks planned.view third
   pub stops : Stops
-  pub stopped : AreStopped (rows_seen third) hearing.got (stopping wire s.reps) (stopping s'.wire s'.reps) stops
+  pub stopped : AreStopped (rows_seen third) hearing.got (stops_at wire s.reps) (stops_at s'.wire s'.reps) stops
   pub looks_last : Looks third s'.view
   pub placed : ArePlaced (rows_seen s'.view) s'.reps hearing.got o.places
   pub asked_is : o.asked ≡ hearing.asked

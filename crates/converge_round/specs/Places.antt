@@ -25,8 +25,8 @@ use Rattle.converge_round.specs.Askings.{Hears}
 use Rattle.converge_round.specs.Jobs.{jobs, named_job}
 
 -- the board knows that the cell is being emptied
-abbrev pub is_evacuating : Rows → List ℕ → Bool
-is_evacuating rows cell = option_map_or (λ (c : CellRow). c.evacuating) (find_cell rows cell) false
+abbrev pub is_being_emptied : Rows → List ℕ → Bool
+is_being_emptied rows cell = option_map_or (λ (c : CellRow). c.evacuating) (find_cell rows cell) false
 
 -- what a cell that answered has now; one that is being emptied is left out
 abbrev pub OpensIf : Bool → List CellRep → Answer → Option Answer → Type 0
@@ -36,7 +36,7 @@ OpensIf false cells x now = Hears cells x.cell x.epoch now
 -- one cell more that jobs may go to, if they may
 pub record OpensOne (rows : Rows) (cells : List CellRep) (x : Answer) (s s' : List Answer) : Type 0 where
   pub now : Option Answer
-  pub opens : OpensIf (is_evacuating rows x.cell) cells x now
+  pub opens : OpensIf (is_being_emptied rows x.cell) cells x now
   pub more : s' ≡ s ++ option_to_list now
 
 -- where the work that waits goes, on cells that have so much left

@@ -9,7 +9,7 @@ use Rattle.bbs_model.specs.PortView.{PortView, Looks}
 use Rattle.converge_round.specs.Callings.{Calling, calling, IsNoted}
 use Rattle.converge_round.specs.Sendings.{WireAt}
 use Rattle.converge_round.specs.Each.{Each}
-use Rattle.converge_round.specs.Phases.{Course, course, IsOpened, ServesOne, fails_in}
+use Rattle.converge_round.specs.Phases.{Course, course, IsOpenedRound, ServesOne, fails_in}
 use Rattle.converge_round.specs.Places.{unplaced}
 use Rattle.converge_round.specs.Tallies.{no_calls}
 use Rattle.converge_round.specs.declared.opening.Opening.{Opening}
@@ -45,7 +45,7 @@ pub record IsRound (by : ℕ) (now : Moment) (line : ℕ) (s s' : Standing) (r :
   pub looks : Looks s.view first
   pub opened : Course
   pub opening_is : Opening
-  pub opens : IsOpened by now (course first no_calls s.reps s.wire) opened opening_is
+  pub opens : IsOpenedRound by now (course first no_calls s.reps s.wire) opened opening_is
   pub served : Course
   pub serves : Each (ServesOne by now opening_is.places) opening_is.places.roomy opened served
   pub noted : Calling

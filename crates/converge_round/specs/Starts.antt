@@ -55,7 +55,7 @@ abbrev pub serving : CellRep → PortView → Tally → WireAt → Serving
 serving rep view tally wire = record { rep = rep; view = view; tally = tally; wire = wire }
 
 -- a start that reached the rep
-pub record IsTaken (by : ℕ) (now : Moment) (job : Job) (wire : WireAt) (s s' : Serving) : Type 0 where
+pub record IsStartTaken (by : ℕ) (now : Moment) (job : Job) (wire : WireAt) (s s' : Serving) : Type 0 where
   pub answer : Called
   pub started : IsStarted by job now (stage s.rep s.view wire.ends wire.losses [])
       (stage s'.rep s'.view s'.wire.ends s'.wire.losses (answer ∷ []))
@@ -70,7 +70,7 @@ pub record IsMissed (wire : WireAt) (s s' : Serving) : Type 0 where
 
 -- a start is taken where it reached the rep
 abbrev pub TakesIf : Bool → ℕ → Moment → Job → WireAt → Serving → Serving → Type 0
-TakesIf true by now job wire s s' = IsTaken by now job wire s s'
+TakesIf true by now job wire s s' = IsStartTaken by now job wire s s'
 TakesIf false by now job wire s s' = IsMissed wire s s'
 
 -- a job is started on a cell

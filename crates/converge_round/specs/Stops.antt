@@ -13,11 +13,11 @@ pub record Stopping : Type 0 where
   pub reps : List CellRep
 
 -- these two
-abbrev pub stopping : WireAt → List CellRep → Stopping
-stopping wire reps = record { wire = wire; reps = reps }
+abbrev pub stops_at : WireAt → List CellRep → Stopping
+stops_at wire reps = record { wire = wire; reps = reps }
 
 -- the rep of the cell has given the container up
-pub record GivesUp (stray : List ℕ × Instance) (reps reps' : List CellRep) : Type 0 where
+pub record LetsGo (stray : List ℕ × Instance) (reps reps' : List CellRep) : Type 0 where
   pub place : ℕ
   pub rep : CellRep
   pub stands : StandsFor reps stray.0 place rep
@@ -25,13 +25,13 @@ pub record GivesUp (stray : List ℕ × Instance) (reps reps' : List CellRep) : 
 
 -- what came of a stop: the container is given up, or it was lost, or there is no such rep
 abbrev pub StopsIf : Bool → Bool → List ℕ × Instance → List CellRep → List CellRep → Type 0
-StopsIf true true stray reps reps' = GivesUp stray reps reps'
+StopsIf true true stray reps reps' = LetsGo stray reps reps'
 StopsIf true false stray reps reps' = HasNoRep reps stray.0 × (reps' ≡ reps)
 StopsIf false true stray reps reps' = ⊥
 StopsIf false false stray reps reps' = reps' ≡ reps
 
 -- one stop goes to a cell's rep, and is done or lost
-pub record IsStopped (stray : List ℕ × Instance) (done : Bool) (s s' : Stopping) : Type 0 where
+pub record IsStrayStopped (stray : List ℕ × Instance) (done : Bool) (s s' : Stopping) : Type 0 where
   pub reached : Bool
   pub sent : IsSent stray.0 Stop reached s.wire s'.wire
   pub stops : StopsIf reached done stray s.reps s'.reps
@@ -53,5 +53,5 @@ so_far course stopped = record { course = course; stopped = stopped }
 -- one stray more
 pub record StopsOne (stray : List ℕ × Instance) (s s' : Stopped) : Type 0 where
   pub done : Bool
-  pub stops : IsStopped stray done s.course s'.course
+  pub stops : IsStrayStopped stray done s.course s'.course
   pub stopped : s'.stopped ≡ s.stopped ++ if_done done stray

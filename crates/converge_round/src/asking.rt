@@ -127,8 +127,8 @@ fn ask_next<W: Wire>(
 ) -> Result<(), OutOfMemory>
     requires { IsRepIndex (names_of cells.now) index.now }
     ensures { OnOk result (told.AsksOne cells.entry.now row.entry.now
-        (told.asking (wire_at (W.ends wire.old) (W.losses wire.old)) got.old)
-        (told.asking (wire_at (W.ends wire.new) (W.losses wire.new)) got.new)) }
+        (told.questions (wire_at (W.ends wire.old) (W.losses wire.old)) got.old)
+        (told.questions (wire_at (W.ends wire.new) (W.losses wire.new)) got.new)) }
 {
     match ask(alloc, cells, index, wire, row) {
         Err(want) => Err(want),
@@ -146,8 +146,8 @@ pub(crate) fn ask_each<W: Wire>(
 ) -> Result<List<Answer>, OutOfMemory>
     requires { IsRepIndex (names_of cells.now) index.now }
     ensures { IfOk result (λ got. Each (told.AsksOne cells.now) present.now
-        (told.asking (wire_at (W.ends wire.old) (W.losses wire.old)) [])
-        (told.asking (wire_at (W.ends wire.new) (W.losses wire.new)) got)) }
+        (told.questions (wire_at (W.ends wire.old) (W.losses wire.old)) [])
+        (told.questions (wire_at (W.ends wire.new) (W.losses wire.new)) got)) }
 {
     let mut got = List::new(alloc);
     for row in present {

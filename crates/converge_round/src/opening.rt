@@ -205,7 +205,7 @@ pub fn open_round<P: Port, W: Wire>(
     ensures number { P.number port.new ≡ P.number port.old }
     ensures own { HasFirstItems (P.number port.old) now (P.view port.old) (P.view port.new) }
     ensures cells { KeepReps cells.old cells.new }
-    ensures opened { IfOk result (told.IsOpened (P.number port.old) now
+    ensures opened { IfOk result (told.IsOpenedRound (P.number port.old) now
         (told.course (P.view port.old) tally.old cells.old
         (wire_at (W.ends wire.old) (W.losses wire.old)))
         (told.course (P.view port.new) tally.new cells.new

@@ -32,9 +32,9 @@ pub struct Places {
 }
 
 /// Whether the board knows that the cell is being emptied.
-fn is_evacuating(rows: &Rows, cell: &Name) -> bool
+fn is_being_emptied(rows: &Rows, cell: &Name) -> bool
     requires { IsValid rows.now }
-    ensures { result ≡ told.is_evacuating rows.now cell.now }
+    ensures { result ≡ told.is_being_emptied rows.now cell.now }
 {
     match find_sorted(rows.cells.items(), cell) {
         None => false,
@@ -52,10 +52,10 @@ fn open_cell(
 ) -> Result<Option<Answer>, OutOfMemory>
     requires valid { IsValid rows.now }
     requires index { IsRepIndex (names_of cells.now) index.now }
-    ensures { IfOk result (told.OpensIf (told.is_evacuating rows.now answer.now.cell)
+    ensures { IfOk result (told.OpensIf (told.is_being_emptied rows.now answer.now.cell)
         cells.now answer.now) }
 {
-    if is_evacuating(rows, &answer.cell) {
+    if is_being_emptied(rows, &answer.cell) {
         Ok(None)
     } else {
         answer_of_cell(alloc, cells, index, &answer.cell, answer.epoch)

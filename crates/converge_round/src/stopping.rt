@@ -41,7 +41,7 @@ fn give_up(rep: &mut CellRep, instance: &Instance)
 fn give_up_at(cells: &mut [CellRep], at: usize, stray: &(Name, Instance))
     requires { at < length cells.old }
     ensures gives_up { slice_get (names_of cells.old) at ≡ Some stray.now.0 →
-        told.GivesUp stray.now cells.old cells.new }
+        told.LetsGo stray.now cells.old cells.new }
     ensures cells { KeepReps cells.old cells.new }
 {
     give_up(&mut cells[at], &stray.1)
@@ -55,9 +55,9 @@ fn stop<W: Wire>(
     stray: &(Name, Instance),
 ) -> bool
     requires { IsRepIndex (names_of cells.old) index.now }
-    ensures stops { told.IsStopped stray.now result
-        (told.stopping (wire_at (W.ends wire.old) (W.losses wire.old)) cells.old)
-        (told.stopping (wire_at (W.ends wire.new) (W.losses wire.new)) cells.new) }
+    ensures stops { told.IsStrayStopped stray.now result
+        (told.stops_at (wire_at (W.ends wire.old) (W.losses wire.old)) cells.old)
+        (told.stops_at (wire_at (W.ends wire.new) (W.losses wire.new)) cells.new) }
     ensures cells { KeepReps cells.old cells.new }
 {
     if !reaches(wire, stray.0, CallKind::Stop) {
@@ -93,9 +93,9 @@ fn stop_next<W: Wire>(
     requires { IsRepIndex (names_of cells.old) index.now }
     ensures cells { KeepReps cells.old cells.new }
     ensures stops { OnOk result (told.StopsOne stray.entry.now
-        (told.so_far (told.stopping (wire_at (W.ends wire.old) (W.losses wire.old)) cells.old)
+        (told.so_far (told.stops_at (wire_at (W.ends wire.old) (W.losses wire.old)) cells.old)
         stopped.old)
-        (told.so_far (told.stopping (wire_at (W.ends wire.new) (W.losses wire.new)) cells.new)
+        (told.so_far (told.stops_at (wire_at (W.ends wire.new) (W.losses wire.new)) cells.new)
         stopped.new)) }
 {
     let done = stop(cells, index, wire, stray);
@@ -113,8 +113,8 @@ fn stop_each<W: Wire>(
     requires { IsRepIndex (names_of cells.old) index.now }
     ensures cells { KeepReps cells.old cells.new }
     ensures stops { IfOk result (λ stopped. Each told.StopsOne strays.entry.now
-        (told.so_far (told.stopping (wire_at (W.ends wire.old) (W.losses wire.old)) cells.old) [])
-        (told.so_far (told.stopping (wire_at (W.ends wire.new) (W.losses wire.new)) cells.new)
+        (told.so_far (told.stops_at (wire_at (W.ends wire.old) (W.losses wire.old)) cells.old) [])
+        (told.so_far (told.stops_at (wire_at (W.ends wire.new) (W.losses wire.new)) cells.new)
         stopped)) }
 {
     let mut stopped = List::new(alloc);
@@ -137,8 +137,8 @@ fn stop_by<W: Wire>(
     requires index { IsRepIndex (names_of cells.old) index.now }
     ensures cells { KeepReps cells.old cells.new }
     ensures stops { IfOk result (AreStopped rows.entry.now got.entry.now
-        (told.stopping (wire_at (W.ends wire.old) (W.losses wire.old)) cells.old)
-        (told.stopping (wire_at (W.ends wire.new) (W.losses wire.new)) cells.new)) }
+        (told.stops_at (wire_at (W.ends wire.old) (W.losses wire.old)) cells.old)
+        (told.stops_at (wire_at (W.ends wire.new) (W.losses wire.new)) cells.new)) }
 {
     match strays(alloc, rows, got) {
         Err(want) => Err(want),
@@ -168,8 +168,8 @@ pub(crate) fn stop_strays<P: Port, W: Wire>(
     ensures looks { Looks (P.view port.old) (P.view port.new) }
     ensures cells { KeepReps cells.old cells.new }
     ensures stops { IfOk result (AreStopped (rows_seen (P.view port.new)) got.entry.now
-        (told.stopping (wire_at (W.ends wire.old) (W.losses wire.old)) cells.old)
-        (told.stopping (wire_at (W.ends wire.new) (W.losses wire.new)) cells.new)) }
+        (told.stops_at (wire_at (W.ends wire.old) (W.losses wire.old)) cells.old)
+        (told.stops_at (wire_at (W.ends wire.new) (W.losses wire.new)) cells.new)) }
 {
     match port.rows(alloc) {
         Err(want) => Err(want),

@@ -2,7 +2,7 @@
 #![tactic(auto, unfolding(crate::specs::Format::seen_at, crate::specs::Ops::op_at))]
 
 ghost use Rattle.std.specs.Prelude.{◌≡◌, ◌≤◌, length};
-ghost use Rattle.bbs_codec.specs.Command.{last_of};
+ghost use Rattle.bbs_codec.specs.Command.{last_command};
 ghost use Rattle.bbs_codec.specs.Ops.{op_at};
 
 use crate::fault::CodecFault;
@@ -22,7 +22,7 @@ pub fn read_cell_lease(
 ) -> Result<Command, CodecFault>
     requires kind { (22 ≤ kind) × (kind ≤ 23) }
     requires place { at ≤ length bytes.now }
-    ensures { result ≡ last_of bytes.now now (op_at kind bytes.now at) }
+    ensures { result ≡ last_command bytes.now now (op_at kind bytes.now at) }
 {
     match kind {
         22 => {
@@ -57,7 +57,7 @@ pub fn read_cell_lease(
 pub fn read_cell_end(kind: u8, now: Moment, bytes: &[u8], at: usize) -> Result<Command, CodecFault>
     requires kind { (24 ≤ kind) × (kind ≤ 25) }
     requires place { at ≤ length bytes.now }
-    ensures { result ≡ last_of bytes.now now (op_at kind bytes.now at) }
+    ensures { result ≡ last_command bytes.now now (op_at kind bytes.now at) }
 {
     match kind {
         24 => {

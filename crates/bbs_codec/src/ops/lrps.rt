@@ -2,7 +2,7 @@
 #![tactic(auto, unfolding(crate::specs::Format::seen_at, crate::specs::Ops::op_at))]
 
 ghost use Rattle.std.specs.Prelude.{◌≡◌, ◌≤◌, length};
-ghost use Rattle.bbs_codec.specs.Command.{last_of};
+ghost use Rattle.bbs_codec.specs.Command.{last_command};
 ghost use Rattle.bbs_codec.specs.Ops.{op_at};
 
 use crate::fault::CodecFault;
@@ -16,7 +16,7 @@ use diego_names::{Instance, Key, Name};
 pub fn read_lrp_work(kind: u8, now: Moment, bytes: &[u8], at: usize) -> Result<Command, CodecFault>
     requires kind { (4 ≤ kind) × (kind ≤ 6) }
     requires place { at ≤ length bytes.now }
-    ensures { result ≡ last_of bytes.now now (op_at kind bytes.now at) }
+    ensures { result ≡ last_command bytes.now now (op_at kind bytes.now at) }
 {
     match kind {
         4 => {
@@ -57,7 +57,7 @@ pub fn read_lrp_work(kind: u8, now: Moment, bytes: &[u8], at: usize) -> Result<C
 pub fn read_lrp_loss(kind: u8, now: Moment, bytes: &[u8], at: usize) -> Result<Command, CodecFault>
     requires kind { (7 ≤ kind) × (kind ≤ 9) }
     requires place { at ≤ length bytes.now }
-    ensures { result ≡ last_of bytes.now now (op_at kind bytes.now at) }
+    ensures { result ≡ last_command bytes.now now (op_at kind bytes.now at) }
 {
     match kind {
         7 => {
@@ -93,7 +93,7 @@ pub fn read_lrp_change(
 ) -> Result<Command, CodecFault>
     requires kind { (10 ≤ kind) × (kind ≤ 13) }
     requires place { at ≤ length bytes.now }
-    ensures { result ≡ last_of bytes.now now (op_at kind bytes.now at) }
+    ensures { result ≡ last_command bytes.now now (op_at kind bytes.now at) }
 {
     match kind {
         10 => {

@@ -2,7 +2,7 @@
 #![tactic(auto, unfolding(crate::specs::Format::seen_at, crate::specs::Ops::op_at))]
 
 ghost use Rattle.std.specs.Prelude.{◌≡◌, ◌≤◌, length};
-ghost use Rattle.bbs_codec.specs.Command.{last_of};
+ghost use Rattle.bbs_codec.specs.Command.{last_command};
 ghost use Rattle.bbs_codec.specs.Ops.{op_at};
 
 use crate::fault::CodecFault;
@@ -22,7 +22,7 @@ pub fn read_process_command(
 ) -> Result<Command, CodecFault>
     requires kind { (1 ≤ kind) × (kind ≤ 3) }
     requires place { at ≤ length bytes.now }
-    ensures { result ≡ last_of bytes.now now (op_at kind bytes.now at) }
+    ensures { result ≡ last_command bytes.now now (op_at kind bytes.now at) }
 {
     match kind {
         1 => {

@@ -2,7 +2,7 @@
 #![tactic(auto, unfolding(crate::specs::Format::seen_at, crate::specs::Ops::op_at))]
 
 ghost use Rattle.std.specs.Prelude.{◌≡◌, ◌≤◌, length};
-ghost use Rattle.bbs_codec.specs.Command.{last_of};
+ghost use Rattle.bbs_codec.specs.Command.{last_command};
 ghost use Rattle.bbs_codec.specs.Ops.{op_at};
 
 use crate::fault::CodecFault;
@@ -16,7 +16,7 @@ use diego_names::{Instance, Name};
 pub fn read_task_work(kind: u8, now: Moment, bytes: &[u8], at: usize) -> Result<Command, CodecFault>
     requires kind { (14 ≤ kind) × (kind ≤ 15) }
     requires place { at ≤ length bytes.now }
-    ensures { result ≡ last_of bytes.now now (op_at kind bytes.now at) }
+    ensures { result ≡ last_command bytes.now now (op_at kind bytes.now at) }
 {
     match kind {
         14 => {
@@ -53,7 +53,7 @@ pub fn read_task_work(kind: u8, now: Moment, bytes: &[u8], at: usize) -> Result<
 pub fn read_task_end(kind: u8, now: Moment, bytes: &[u8], at: usize) -> Result<Command, CodecFault>
     requires kind { (16 ≤ kind) × (kind ≤ 18) }
     requires place { at ≤ length bytes.now }
-    ensures { result ≡ last_of bytes.now now (op_at kind bytes.now at) }
+    ensures { result ≡ last_command bytes.now now (op_at kind bytes.now at) }
 {
     match kind {
         16 => {
@@ -93,7 +93,7 @@ pub fn read_task_change(
 ) -> Result<Command, CodecFault>
     requires kind { (19 ≤ kind) × (kind ≤ 21) }
     requires place { at ≤ length bytes.now }
-    ensures { result ≡ last_of bytes.now now (op_at kind bytes.now at) }
+    ensures { result ≡ last_command bytes.now now (op_at kind bytes.now at) }
 {
     match kind {
         19 => {

@@ -1,6 +1,6 @@
 use Rattle.std.proofs.Common.{◌≡◌, ◌≤◌, ◌∙◌, List, [], length, subst, sym, ap, refl, arith}
 use Rattle.cell_records.specs.declared.cell_row.CellRow.{CellRow}
-use Rattle.converge_round.specs.Askings.{present, AsksOne, asking}
+use Rattle.converge_round.specs.Askings.{present, AsksOne, questions}
 use Rattle.converge_round.specs.Each.{Each}
 use Rattle.converge_round.specs.Sendings.{wire_at}
 use Rattle.converge_round.proofs.Apart.{few_present, heard_apart}
@@ -15,11 +15,11 @@ overflow_cast-result g c =
 pub returns : goal.returns
 returns g c =
     let got : Each (AsksOne c.args.cells.now) (present c.args.rows.now c.args.now)
-    (asking (wire_at (g.W.Wire.ends c.args.wire.now) (g.W.Wire.losses c.args.wire.now)) [])
-    (asking (wire_at (g.W.Wire.ends c.ask_each.new.wire) (g.W.Wire.losses c.ask_each.new.wire)) c.in_ok-got.got) =
+    (questions (wire_at (g.W.Wire.ends c.args.wire.now) (g.W.Wire.losses c.args.wire.now)) [])
+    (questions (wire_at (g.W.Wire.ends c.ask_each.new.wire) (g.W.Wire.losses c.ask_each.new.wire)) c.in_ok-got.got) =
     subst (λ (xs : List CellRow). Each (AsksOne c.args.cells.now) xs
-    (asking (wire_at (g.W.Wire.ends c.args.wire.now) (g.W.Wire.losses c.args.wire.now)) [])
-    (asking (wire_at (g.W.Wire.ends c.ask_each.new.wire) (g.W.Wire.losses c.ask_each.new.wire)) c.in_ok-got.got))
+    (questions (wire_at (g.W.Wire.ends c.args.wire.now) (g.W.Wire.losses c.args.wire.now)) [])
+    (questions (wire_at (g.W.Wire.ends c.ask_each.new.wire) (g.W.Wire.losses c.ask_each.new.wire)) c.in_ok-got.got))
     (c.items.ensures ∙ c.in_ok-present.ensures) c.in_ok-got.ensures in
     record {
       asked = c.len.ensures ∙ ap length c.in_ok-present.ensures;
