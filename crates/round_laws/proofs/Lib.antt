@@ -1,0 +1,4 @@
+pub mod Tallied
+pub mod Taken
+pub mod Starts
+pub mod Whole

@@ -1,0 +1,8 @@
+//! The laws of a whole round. These functions do nothing: they are there for what they ensure.
+ghost use Rattle.round_laws.specs.Complete.{CompleteRoundsTakeAll};
+
+/// In a complete round nobody else moved the board, and all that the rows and then the answers
+/// asked for was accepted.
+pub fn complete_rounds_take_all()
+    ensures { CompleteRoundsTakeAll }
+{}

@@ -1,0 +1,6 @@
+//! The laws of a whole round of convergence.
+#![tactic(auto)]
+
+mod laws;
+
+pub use laws::complete_rounds_take_all;
