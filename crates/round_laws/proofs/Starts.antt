@@ -1,10 +1,8 @@
 -- What is counted of the starts of jobs.
-use Rattle.std.proofs.Common.{◌≡◌, ◌⊎◌, ℕ, ◌+◌, ◌≤◌, Bool, true, false, List, [], ◌∷◌, ◌++◌, length, refl, sym, ap, subst, ◌∙◌, arith, Option, Some, None, Result, Ok, Err, ⊎_elim}
-use Rattle.bbs_model.specs.Calls.{added}
-use Rattle.bbs_model.specs.PortView.{PortView, IsCalled, IsLater}
+use Rattle.std.proofs.Common.{◌≡◌, ℕ, Bool, true, false, List, [], ◌∷◌, sym, ap, subst, arith, Option, Some, Ok, Err, ⊎_elim}
+use Rattle.bbs_model.specs.PortView.{PortView, IsCalled}
 use Rattle.bbs_model.specs.declared.command.Command.{Command}
 use Rattle.bbs_model.specs.declared.reply.CallFault.{CallFault}
-use Rattle.bbs_model.specs.declared.reply.Reply.{Reply}
 use Rattle.bbs_model.proofs.Public.{later_same, later_called}
 use Rattle.cell_records.specs.declared.answer.Answer.{Answer}
 use Rattle.cell_records.specs.declared.job.Job.{Job}
@@ -21,13 +19,13 @@ use Rattle.cell_rep.specs.declared.todo.Todo.TheVariants as todo
 use Rattle.crash_backoff.specs.declared.moment.Moment.{Moment}
 use Rattle.converge_round.specs.Callings.{Calling, calling}
 use Rattle.converge_round.specs.Each.{Each}
-use Rattle.converge_round.specs.Phases.{Course, ClaimsAt, ServesOne}
+use Rattle.converge_round.specs.Phases.{Course, ServesOne}
 use Rattle.converge_round.specs.Sendings.{WireAt}
-use Rattle.converge_round.specs.Starts.{Serving, serving, counted, IsTaken, IsMissed, TakesIf, StartsOne}
-use Rattle.converge_round.specs.Tallies.{noted, lost_one}
+use Rattle.converge_round.specs.Starts.{Serving, serving, counted, TakesIf, StartsOne}
+use Rattle.converge_round.specs.Tallies.{lost_one}
 use Rattle.converge_round.specs.declared.placing.Places.{Places}
 use Rattle.converge_round.specs.declared.tally.Tally.{Tally}
-use Rattle.round_laws.proofs.Tallied.{IsTallied, mine_more, tallied-as, tallied-reply, tallied-then, tallied-same}
+use Rattle.round_laws.proofs.Tallied.{IsTallied, mine_more, tallied-as, tallied-reply, tallied-then}
 
 -- a call that failed is counted as none
 failed : (by : ℕ) (v : PortView) (c : Command) (why : CallFault) (w : PortView) (t : Tally) → IsCalled by v c (Err why) w → IsTallied (calling v t) (calling w t)

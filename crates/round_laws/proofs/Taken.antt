@@ -1,14 +1,13 @@
 -- What many calls come to where nobody else moved the board and none was refused.
-use Rattle.std.proofs.Common.{◌≡◌, ◌⊎◌, ℕ, List, [], ◌∷◌, ◌++◌, length, refl, sym, ap, subst, ◌∙◌, arith, Result, Ok, Err, ⊎_elim}
+use Rattle.std.proofs.Common.{◌≡◌, ℕ, List, [], ◌∷◌, ◌++◌, length, refl, sym, ap, subst, ◌∙◌, Ok, ⊎_elim}
 use Rattle.std.proofs.lemmas.List.{append-nil}
 use Rattle.bbs_model.specs.Calls.{Ends, added}
-use Rattle.bbs_model.specs.PortView.{PortView, rows_seen, after_others, Looks, IsCalled, IsLater, IsQuiet}
+use Rattle.bbs_model.specs.PortView.{PortView, rows_seen, after_others, Looks, IsCalled, IsQuiet}
 use Rattle.bbs_model.specs.Replay.{replay_log, after_item}
 use Rattle.bbs_model.specs.Runs.{state_after, state_after_all, if_legal}
 use Rattle.bbs_model.specs.Step.{verdict_of, rows_after}
 use Rattle.bbs_model.specs.declared.command.Command.{Command}
 use Rattle.bbs_model.specs.declared.item.Item.{Item}
-use Rattle.bbs_model.specs.declared.reply.CallFault.{CallFault}
 use Rattle.bbs_model.specs.declared.reply.Reply.{Reply}
 use Rattle.bbs_model.specs.declared.reply.Reply.TheVariants as reply
 use Rattle.bbs_model.specs.declared.rows.Rows.{Rows}
@@ -16,11 +15,11 @@ use Rattle.bbs_model.specs.declared.verdict.Verdict.{Verdict}
 use Rattle.bbs_model.specs.declared.verdict.Verdict.TheVariants as verdict
 use Rattle.bbs_model.proofs.Public.{quiet_first, quiet_second, quiet_looks, quiet_called}
 use Rattle.converge_laws.specs.Accepted.{IsAccepted, AreAccepted}
-use Rattle.converge_round.specs.Callings.{Calling, calling, IsNoted}
+use Rattle.converge_round.specs.Callings.{Calling, IsNoted}
 use Rattle.converge_round.specs.Each.{Each}
 use Rattle.converge_round.specs.Tallies.{noted}
 use Rattle.converge_round.specs.declared.tally.Tally.{Tally}
-use Rattle.round_laws.proofs.Tallied.{IsTallied, tallied-noted, tallied-each, not_empty}
+use Rattle.round_laws.proofs.Tallied.{tallied-noted, tallied-each, not_empty}
 
 replay_more : (rows : Rows) (log more : List Item) → replay_log rows (log ++ more) ≡ replay_log (replay_log rows log) more
 replay_more rows [] more = refl

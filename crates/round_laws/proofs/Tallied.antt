@@ -1,5 +1,5 @@
 -- What is counted of a caller's calls: no more than its items, and no refusal is forgotten.
-use Rattle.std.proofs.Common.{◌≡◌, ℕ, ◌+◌, ◌-◌, ◌^◌, ◌≤◌, min, List, [], ◌∷◌, ◌++◌, length, refl, sym, ap, subst, ◌∙◌, arith, length-append, Option, Some, None, Result, Ok, Err, ⊎_elim}
+use Rattle.std.proofs.Common.{◌≡◌, ℕ, ◌+◌, ◌≤◌, List, [], ◌∷◌, ◌++◌, length, sym, ap, subst, ◌∙◌, arith, length-append, Result, Ok}
 use Rattle.bbs_model.specs.Calls.{added}
 use Rattle.bbs_model.specs.PortView.{PortView, Looks, IsCalled, IsLater}
 use Rattle.bbs_model.specs.declared.command.Command.{Command}
@@ -9,7 +9,7 @@ use Rattle.bbs_model.specs.declared.reply.Reply.TheVariants as reply
 use Rattle.bbs_model.proofs.Public.{later_same, later_looks, later_called, later_then}
 use Rattle.converge_round.specs.Callings.{Calling, calling, IsNoted}
 use Rattle.converge_round.specs.Each.{Each}
-use Rattle.converge_round.specs.Tallies.{one_more, noted, lost_one}
+use Rattle.converge_round.specs.Tallies.{one_more, noted}
 use Rattle.converge_round.specs.declared.tally.Tally.{Tally}
 
 -- from one view and count to others: no more was counted than was done, and refusals stay

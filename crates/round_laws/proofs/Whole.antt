@@ -1,6 +1,6 @@
 -- A complete round: nobody else moved the board, and all that was asked for was accepted.
-use Rattle.std.proofs.Common.{◌≡◌, ℕ, ◌+◌, ◌-◌, ◌≤◌, List, [], length, refl, sym, ap, subst, ◌∙◌, arith}
-use Rattle.bbs_model.specs.PortView.{PortView, rows_seen, IsLater, IsQuiet}
+use Rattle.std.proofs.Common.{◌≡◌, ℕ, ◌-◌, List, [], length, sym, ap, subst, ◌∙◌, arith}
+use Rattle.bbs_model.specs.PortView.{rows_seen, IsQuiet}
 use Rattle.bbs_model.specs.Runs.{state_after_all}
 use Rattle.bbs_model.specs.Work.{work}
 use Rattle.bbs_model.specs.declared.command.Command.{Command}
@@ -9,7 +9,6 @@ use Rattle.bbs_model.proofs.Public.{later_looks, quiet_first, quiet_second}
 use Rattle.convergence.specs.Plans.{plan_of_answers}
 use Rattle.convergence.specs.declared.report.Report.{Report}
 use Rattle.converge_laws.specs.Accepted.{AreAccepted}
-use Rattle.converge_laws.specs.Laws.{after_work, after_plan}
 use Rattle.converge_round.specs.Callings.{Calling, calling}
 use Rattle.converge_round.specs.Phases.{AreCalledBy}
 use Rattle.converge_round.specs.Rounds.{Standing, IsRound}

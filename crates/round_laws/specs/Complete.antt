@@ -1,5 +1,5 @@
 -- What a complete round has done of what convergence asked.
-use Rattle.std.specs.Prelude.{◌≡◌, ℕ, ◌+◌, ◌≤◌, []}
+use Rattle.std.specs.Prelude.{◌≡◌, ℕ, []}
 use Rattle.bbs_model.specs.PortView.{IsQuiet, rows_seen}
 use Rattle.bbs_model.specs.Work.{work}
 use Rattle.convergence.specs.Plans.{plan_of_answers}
