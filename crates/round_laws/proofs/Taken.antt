@@ -31,12 +31,12 @@ rows-looks v w h q =
     ap rows_seen h.is ∙ ap (λ xs. replay_log v.base (v.seen ++ xs)) (quiet_looks v w h q) ∙ ap (replay_log v.base) (append-nil v.seen)
 
 -- how a reply was come to: by that verdict, with the rows after it
-record IsTaken (rows : Rows) (c : Command) (rows' : Rows) : Type 0 where
+record IsCallTaken (rows : Rows) (c : Command) (rows' : Rows) : Type 0 where
   accepted : IsAccepted (verdict_of rows c)
   rows_are : rows' ≡ state_after rows c
 
 taken_as : (by : ℕ) (rows : Rows) (c : Command) (r : Reply) (t : Tally) (place stamp : ℕ) (x : Verdict) → verdict_of rows c ≡ x → Ends x place stamp (Ok r)
-    → (noted c r t).refused ≡ [] → IsTaken rows c (replay_log rows (added (Ok r) by c))
+    → (noted c r t).refused ≡ [] → IsCallTaken rows c (replay_log rows (added (Ok r) by c))
 taken_as by rows c (reply.Ok at number) t place stamp verdict.Ok e ends none = record {
   accepted = subst IsAccepted (sym e) tt;
   rows_are = sym (ap (λ (x : Verdict). if_legal x (rows_after rows c) rows) e);
@@ -54,14 +54,14 @@ taken_as by rows c (reply.Ok at number) t place stamp (verdict.Refused y) e ends
 taken_as by rows c (reply.Same at) t place stamp (verdict.Refused y) e ends none = absurd cc
 taken_as by rows c (reply.Refused why at) t place stamp (verdict.Refused y) e ends none = absurd (not_empty t.refused (c, why) none)
 
-taken_call : (by : ℕ) (v : PortView) (c : Command) (r : Reply) (w : PortView) (t : Tally) → IsCalled by v c (Ok r) w → IsQuiet v w → (noted c r t).refused ≡ [] → IsTaken (rows_seen v) c (rows_seen w)
+taken_call : (by : ℕ) (v : PortView) (c : Command) (r : Reply) (w : PortView) (t : Tally) → IsCalled by v c (Ok r) w → IsQuiet v w → (noted c r t).refused ≡ [] → IsCallTaken (rows_seen v) c (rows_seen w)
 taken_call by v c r w t h q none =
     let alone : h.others ≡ [] = quiet_called by v c (Ok r) w h q in
     let same : rows_seen (after_others v h.others) ≡ rows_seen v = ap (λ xs. replay_log v.base (v.seen ++ xs)) alone ∙ ap (replay_log v.base) (append-nil v.seen) in
     let rows : rows_seen w ≡ replay_log (rows_seen v) (added (Ok r) by c) =
     ap rows_seen h.is ∙ replay_more v.base (v.seen ++ h.others) (added (Ok r) by c) ∙ ap (λ (x : Rows). replay_log x (added (Ok r) by c)) same in
     let ends = subst (λ (x : Rows). Ends (verdict_of x c) (length (v.seen ++ h.others)) x.next (Ok r)) same h.ends in
-    subst (IsTaken (rows_seen v) c) (sym rows) (taken_as by (rows_seen v) c r t (length (v.seen ++ h.others)) (rows_seen v).next (verdict_of (rows_seen v) c) refl ends none)
+    subst (IsCallTaken (rows_seen v) c) (sym rows) (taken_as by (rows_seen v) c r t (length (v.seen ++ h.others)) (rows_seen v).next (verdict_of (rows_seen v) c) refl ends none)
 
 -- all calls of a list were taken, and the rows are those after it
 pub record AreTaken (rows : Rows) (cs : List Command) (rows' : Rows) : Type 0 where
