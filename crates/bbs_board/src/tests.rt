@@ -5,7 +5,6 @@ mod calls;
 mod defects;
 mod failing;
 mod heads;
-mod hearing;
 mod stops;
 
 use super::*;
