@@ -2,6 +2,7 @@
 //! and that each line here makes the call that it notes is read.
 #![tactic(auto)]
 
+mod locked;
 mod real_calls;
 mod two_files;
 

@@ -1,6 +1,7 @@
 // Two files of the system, opened at their first use, one line for a call of the system.
 ghost use Rattle.std.specs.Prelude.{◌<◌, ◌≤◌, ◌^◌, length, IfOk};
 
+use crate::locked::LockedFile;
 use disk_trait::Area;
 use std::fs::{File, OpenOptions};
 use std::io;
@@ -17,8 +18,8 @@ const LAST_STREAM: i32 = 2;
 
 #[derive(Drop)]
 struct Opened {
-    a: File,
-    b: File,
+    a: LockedFile,
+    b: LockedFile,
 }
 
 #[derive(Drop)]
@@ -83,8 +84,8 @@ impl<R: Files<File = File> + AllocGlobal + Drop> TwoFiles<R> {
             self.opened = Some(Opened { a, b });
         }
         match (&self.opened, area) {
-            (Some(opened), Area::A) => Ok(&opened.a),
-            (Some(opened), Area::B) => Ok(&opened.b),
+            (Some(opened), Area::A) => Ok(opened.a.file()),
+            (Some(opened), Area::B) => Ok(opened.b.file()),
             (None, _) => Err(ErrorKind::NotFound.into()),
         }
     }
@@ -114,7 +115,7 @@ pub(crate) fn write_to(file: &File, at: u64, bytes: &[u8]) -> io::Result<usize>
 /// the name is a link to nothing too, at the place that the link names. Whatever else stands there
 /// is not opened. A file never gets the number of a standard stream, so that what is meant for the
 /// stream can't land in it.
-fn open_locked<R: Files<File = File>>(rt: &R, name: &str) -> io::Result<File> {
+fn open_locked<R: Files<File = File>>(rt: &R, name: &str) -> io::Result<LockedFile> {
     match rt.metadata(name) {
         Ok(found) if !found.is_file() => return Err(ErrorKind::Unsupported.into()),
         Ok(_) => {}
@@ -127,8 +128,5 @@ fn open_locked<R: Files<File = File>>(rt: &R, name: &str) -> io::Result<File> {
     if !file.metadata()?.is_file() || file.as_raw_fd() <= LAST_STREAM {
         return Err(ErrorKind::Unsupported.into());
     }
-    match file.try_lock() {
-        Ok(()) => Ok(file),
-        Err(error) => Err(error.into()),
-    }
+    LockedFile::lock(file)
 }
