@@ -48,6 +48,7 @@ pub fn evacuate<P: Port, W: Wire>(
         ⊎ StopsBetween (P.number port.old) now
         (stage rep.old (P.view port.old) (W.ends wire.old) (W.losses wire.old) out.old.items)
         (stage rep.new (P.view port.new) (W.ends wire.new) (W.losses wire.new) out.new.items)) }
+    ensures cell { rep.new.cell ≡ rep.old.cell }
 {
     out.reserve(1)?;
     let answer = rep.drain(alloc, port, wire, now);
