@@ -7,3 +7,6 @@ mod playing;
 
 pub use failing_port::FailingPort;
 pub use playing::{Turn, play};
+
+#[cfg(test)]
+mod tests;
