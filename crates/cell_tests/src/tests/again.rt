@@ -40,6 +40,21 @@ struct Tried<'a> {
     again: Turn,
 }
 
+// The turn that makes the call again is another one.
+fn then<'a>(before: &'a [Turn], turn: &Turn, left: Left<'a>, again: &Turn) -> Tried<'a> {
+    Tried {
+        before,
+        turn: *turn,
+        left,
+        again: *again,
+    }
+}
+
+// It is the same one.
+fn twice<'a>(before: &'a [Turn], turn: &Turn, left: Left<'a>) -> Tried<'a> {
+    then(before, turn, left, turn)
+}
+
 // The board's place before the call, behind the four items of the beginning.
 fn place_of(tried: &Tried) -> u64 {
     (tried.before.len() as u64).saturating_add(4)
@@ -151,12 +166,7 @@ const HAS_ENDED: BoardRefusal = BoardRefusal::Task(TaskRefusal::WrongState {
 fn a_join_that_was_done_is_done_anew(rt: HostRuntime) -> Result<(), Fail> {
     let alloc = rt.alloc();
     let turn = Names::read()?.join();
-    let tried = Tried {
-        before: &[],
-        turn,
-        left: unjoined(),
-        again: turn,
-    };
+    let tried = twice(&[], &turn, unjoined());
     let since = |epoch: u64| Left {
         epoch: Some(epoch),
         ..unjoined()
@@ -170,60 +180,35 @@ fn a_join_that_was_done_is_done_anew(rt: HostRuntime) -> Result<(), Fail> {
 #[test]
 fn a_renewal_is_found_done(rt: HostRuntime) -> Result<(), Fail> {
     let turn = renew(700);
-    let tried = Tried {
-        before: &[],
-        turn,
-        left: joined(&[]),
-        again: turn,
-    };
+    let tried = twice(&[], &turn, joined(&[]));
     is_found_done(&rt, rt.alloc(), &tried, joined(&[]))
 }
 
 #[test]
 fn a_claim_is_found_done(rt: HostRuntime) -> Result<(), Fail> {
     let turn = claim(Names::read()?.lrp());
-    let tried = Tried {
-        before: &[],
-        turn,
-        left: joined(RESERVED),
-        again: turn,
-    };
+    let tried = twice(&[], &turn, joined(RESERVED));
     is_found_done(&rt, rt.alloc(), &tried, joined(RESERVED))
 }
 
 #[test]
 fn a_claim_of_a_task_is_found_done(rt: HostRuntime) -> Result<(), Fail> {
     let turn = claim(Names::read()?.task());
-    let tried = Tried {
-        before: &[],
-        turn,
-        left: joined(RESERVED),
-        again: turn,
-    };
+    let tried = twice(&[], &turn, joined(RESERVED));
     is_found_done(&rt, rt.alloc(), &tried, joined(RESERVED))
 }
 
 #[test]
 fn a_claim_goes_on_with_what_a_round_started(rt: HostRuntime) -> Result<(), Fail> {
     let job = Names::read()?.lrp();
-    let tried = Tried {
-        before: &[],
-        turn: start(job),
-        left: joined(RESERVED),
-        again: claim(job),
-    };
+    let tried = then(&[], &start(job), joined(RESERVED), &claim(job));
     is_found_done(&rt, rt.alloc(), &tried, joined(RESERVED))
 }
 
 #[test]
 fn a_run_is_found_done(rt: HostRuntime) -> Result<(), Fail> {
     let turn = Names::read()?.run();
-    let tried = Tried {
-        before: &[],
-        turn,
-        left: joined(RUNNING),
-        again: turn,
-    };
+    let tried = twice(&[], &turn, joined(RUNNING));
     is_found_done(&rt, rt.alloc(), &tried, joined(RUNNING))
 }
 
@@ -231,12 +216,7 @@ fn a_run_is_found_done(rt: HostRuntime) -> Result<(), Fail> {
 #[test]
 fn a_settle_tells_of_what_came_up(rt: HostRuntime) -> Result<(), Fail> {
     let before = [claim(Names::read()?.lrp())];
-    let tried = Tried {
-        before: &before,
-        turn: up(),
-        left: joined(RUNNING),
-        again: settle(),
-    };
+    let tried = then(&before, &up(), joined(RUNNING), &settle());
     is_found_done(&rt, rt.alloc(), &tried, joined(RUNNING))
 }
 
@@ -245,13 +225,8 @@ fn a_crash_that_was_done_is_refused(rt: HostRuntime) -> Result<(), Fail> {
     let names = Names::read()?;
     let before = [names.run()];
     let turn = names.crash();
-    for again in [turn, settle()] {
-        let tried = Tried {
-            before: &before,
-            turn,
-            left: joined(FAILED),
-            again,
-        };
+    for again in [names.crash(), settle()] {
+        let tried = then(&before, &turn, joined(FAILED), &again);
         is_refused_then(&rt, rt.alloc(), &tried, NOT_RUNNING, joined(&[]))?;
     }
     Ok(())
@@ -263,12 +238,7 @@ fn an_end_that_was_done_is_refused(rt: HostRuntime) -> Result<(), Fail> {
     let names = Names::read()?;
     let before = [claim(names.task())];
     for again in [names.finish(false), settle()] {
-        let tried = Tried {
-            before: &before,
-            turn: names.finish(true),
-            left: joined(FAILED),
-            again,
-        };
+        let tried = then(&before, &names.finish(true), joined(FAILED), &again);
         is_refused_then(&rt, rt.alloc(), &tried, HAS_ENDED, joined(&[]))?;
     }
     Ok(())
@@ -278,12 +248,7 @@ fn an_end_that_was_done_is_refused(rt: HostRuntime) -> Result<(), Fail> {
 fn what_was_given_back_is_refused(rt: HostRuntime) -> Result<(), Fail> {
     let before = [claim(Names::read()?.lrp()), Turn::Drain];
     let turn = settle();
-    let tried = Tried {
-        before: &before,
-        turn,
-        left: draining(RESERVED),
-        again: turn,
-    };
+    let tried = twice(&before, &turn, draining(RESERVED));
     is_refused_then(&rt, rt.alloc(), &tried, NOT_RUNNING, draining(&[]))
 }
 
@@ -291,24 +256,14 @@ fn what_was_given_back_is_refused(rt: HostRuntime) -> Result<(), Fail> {
 fn what_was_placed_anew_is_found_so(rt: HostRuntime) -> Result<(), Fail> {
     let before = [Names::read()?.run(), Turn::Drain];
     let turn = settle();
-    let tried = Tried {
-        before: &before,
-        turn,
-        left: draining(RUNNING),
-        again: turn,
-    };
+    let tried = twice(&before, &turn, draining(RUNNING));
     is_found_done(&rt, rt.alloc(), &tried, draining(RUNNING))
 }
 
 #[test]
 fn a_drain_is_found_done(rt: HostRuntime) -> Result<(), Fail> {
     let turn = Turn::Drain;
-    let tried = Tried {
-        before: &[],
-        turn,
-        left: joined(&[]),
-        again: turn,
-    };
+    let tried = twice(&[], &turn, joined(&[]));
     is_found_done(&rt, rt.alloc(), &tried, draining(&[]))
 }
 
@@ -318,12 +273,7 @@ fn an_evacuation_begins_anew_with_its_drain(rt: HostRuntime) -> Result<(), Fail>
     let alloc = rt.alloc();
     let before = [Names::read()?.run()];
     let turn = Turn::Evacuate;
-    let tried = Tried {
-        before: &before,
-        turn,
-        left: joined(RUNNING),
-        again: turn,
-    };
+    let tried = twice(&before, &turn, joined(RUNNING));
     let ends = [done(5), done(6)];
     after(
         &rt,

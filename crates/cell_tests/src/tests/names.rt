@@ -113,6 +113,11 @@ impl Names {
         })
     }
 
+    /// A client gives the task up.
+    pub fn cancel(&self) -> Turn {
+        Turn::Board(Op::CancelTask { name: self.job })
+    }
+
     pub fn run(&self) -> Turn {
         Turn::Act(CellAct::Run {
             key: self.key(),

@@ -2,7 +2,7 @@
 use super::names::{Names, claim, settle, start, up};
 use super::{Story, done, draining, joined, refused, same, tell};
 use crate::Turn;
-use bbs_model::{BoardRefusal, Op};
+use bbs_model::BoardRefusal;
 use cell_records::JobName;
 use cell_rep::{CallEnd, CellAct};
 use diego_names::{Instance, Key, Name, StateName};
@@ -77,10 +77,9 @@ fn a_task_that_was_cancelled_has_its_outcome(rt: HostRuntime) -> Result<(), Fail
     let why = BoardRefusal::Task(TaskRefusal::WrongState {
         state: StateName::Completed,
     });
-    let cancel = Turn::Board(Op::CancelTask { name: names.job });
     for turn in [names.finish(false), settle(), claim(names.task())] {
         let story = Story {
-            before: &[claim(names.task()), cancel],
+            before: &[claim(names.task()), names.cancel()],
             turn,
             ends: &[refused(why, 6)],
             left: joined(&[]),

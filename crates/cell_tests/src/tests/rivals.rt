@@ -89,8 +89,7 @@ fn claim_unheard<P: Port, W: Wire>(
     let (mut one, mut two) = both_join(rt, alloc, port, wire)?;
     let place_fail = Turn::Board(Op::PlaceFail { key: names.key() });
     let unheard = CallEnd::ReplyLost(Ok(Reply::Ok { place: 5, stamp: 5 }));
-    let claims = claim(names.lrp());
-    let turns = [place_fail, claims, claims];
+    let turns = [place_fail, claim(names.lrp()), claim(names.lrp())];
     take(
         rt,
         alloc,
@@ -101,7 +100,8 @@ fn claim_unheard<P: Port, W: Wire>(
         &[done(4), unheard, same(6)],
     )?;
     let held = refused(held_by(0), 6);
-    take(rt, alloc, &mut two, port, wire, &[claims], &[held])?;
+    let turns = [claim(names.lrp())];
+    take(rt, alloc, &mut two, port, wire, &turns, &[held])?;
     is_left(rt, alloc, &one, &joined(&[RESERVED]))?;
     assert!(rt; two.containers().is_empty());
     Ok(())
