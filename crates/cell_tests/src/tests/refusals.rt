@@ -1,12 +1,17 @@
 //! Acts whose refusal by the board is heard: a container that is told of goes.
+ghost use Rattle.bbs_model.specs.Valid.{IsValid};
+
 use super::names::{Names, claim, settle, start, up};
-use super::{Story, done, draining, joined, refused, same, tell};
-use crate::Turn;
-use bbs_model::BoardRefusal;
+use super::{
+    Story, done, draining, first_board, is_left, joined, refused, take, tell, unjoined, whole_wire,
+};
+use crate::{FailingPort, Turn};
+use bbs_model::{BoardRefusal, Port, Rows};
 use cell_records::JobName;
-use cell_rep::{CallEnd, CellAct};
+use cell_rep::{CellAct, CellRep, Wire};
 use diego_names::{Instance, Key, Name, StateName};
-use lrp_records::LrpRefusal;
+use std::alloc::Global;
+use std::process::Abort;
 use std::test::Fail;
 use task_records::TaskRefusal;
 
@@ -17,6 +22,38 @@ const FIRST: Instance = Instance {
 };
 
 const UNKNOWN: BoardRefusal = BoardRefusal::Unknown;
+
+// A board without rows that has made as many transitions as one may make.
+fn full_board(alloc: Global) -> Rows
+    ensures { IsValid result }
+{
+    let rows = first_board(alloc);
+    Rows {
+        next: 1000000,
+        ..rows
+    }
+}
+
+// A join is the only call of a cell that no row is needed for.
+fn join_refused<P: Port, W: Wire>(
+    rt: &impl Abort,
+    alloc: Global,
+    port: &mut P,
+    wire: &mut W,
+) -> Result<(), Fail> {
+    let names = Names::read()?;
+    let rep = &mut CellRep::new(names.cell);
+    let ends = [refused(BoardRefusal::BoardFull, 0)];
+    take(rt, alloc, rep, port, wire, &[names.join()], &ends)?;
+    is_left(rt, alloc, rep, &unjoined())
+}
+
+#[test]
+fn a_full_board_lets_nobody_join(rt: HostRuntime) -> Result<(), Fail> {
+    let alloc = rt.alloc();
+    let mut port = FailingPort::new(alloc, 7, full_board(alloc), None)?;
+    join_refused(&rt, alloc, &mut port, &mut whole_wire(alloc))
+}
 
 fn another(names: &Names) -> Key {
     Key {
