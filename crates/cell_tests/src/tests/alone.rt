@@ -1,12 +1,15 @@
 //! Acts that make no call: of a cell that has not joined, and of one that has nothing to tell.
 use super::names::{Names, claim, die, renew, settle, start, up};
-use super::{Story, is_left, joined, port_of, take, tell, unjoined, whole_wire};
+use super::stories::{
+    Left, NONE, RUNNING, Story, behind, ends, joined, nothing, step, story, tell, unjoined,
+};
+use super::{Site, site_of};
 use crate::Turn;
 use bbs_model::Port;
-use cell_records::{ContainerState, JobName};
+use cell_records::JobName;
 use cell_rep::{CallEnd, CellAct, CellRep, RepRefusal, Wire};
 use container_store::StoreRefusal;
-use diego_names::Instance;
+use diego_names::{Instance, OutOfMemory};
 use evacuation::drained;
 use std::alloc::Global;
 use std::process::Abort;
@@ -18,9 +21,8 @@ const UNKNOWN: CallEnd = CallEnd::Local(RepRefusal::Store(StoreRefusal::Unknown)
 
 #[test]
 fn a_cell_that_never_joined_has_no_answer(rt: HostRuntime) -> Result<(), Fail> {
-    let alloc = rt.alloc();
     let rep = CellRep::new(Names::read()?.cell);
-    assert!(rt; rep.answer(alloc)?.is_none());
+    assert!(rt; rep.answer(rt.alloc())?.is_none());
     assert!(rt; rep.containers().is_empty());
     assert!(rt; drained(&rep));
     Ok(())
@@ -30,29 +32,22 @@ fn up_with(job: JobName) -> Turn {
     Turn::Act(CellAct::Up { job: Some(job) })
 }
 
-// Takes turns of which each has this end, and then knows nothing of the cell.
+// Turns of a cell that has not joined, of which each has this end.
 fn each_ends<P: Port, W: Wire>(
     rt: &impl Abort,
     alloc: Global,
-    port: &mut P,
-    wire: &mut W,
+    site: &mut Site<P, W>,
     turns: &[Turn],
     end: CallEnd,
-) -> Result<(), Fail> {
-    let rep = &mut CellRep::new(Names::read()?.cell);
+) -> Result<(), OutOfMemory> {
     for turn in turns {
-        take(rt, alloc, rep, port, wire, &[*turn], &[end])?;
+        step(rt, alloc, site, turn, &[end], &unjoined())?;
     }
-    is_left(rt, alloc, rep, &unjoined())
+    Ok(())
 }
 
-#[test]
-fn whoever_has_not_joined_is_down(rt: HostRuntime) -> Result<(), Fail> {
-    let alloc = rt.alloc();
-    let names = Names::read()?;
-    let mut port = port_of(alloc, None)?;
-    let mut wire = whole_wire(alloc);
-    let turns = [
+fn needs_a_join(names: &Names) -> [Turn; 11] {
+    [
         renew(600),
         claim(names.lrp()),
         names.run(),
@@ -64,93 +59,46 @@ fn whoever_has_not_joined_is_down(rt: HostRuntime) -> Result<(), Fail> {
         Turn::Drain,
         Turn::Evacuate,
         start(names.lrp()),
-    ];
-    each_ends(&rt, alloc, &mut port, &mut wire, &turns, DOWN)
+    ]
 }
 
 #[test]
-fn a_cell_that_has_not_joined_may_die_and_has_nothing_to_stop(rt: HostRuntime) -> Result<(), Fail> {
+fn who_has_not_joined_is_down(rt: HostRuntime) -> Result<(), Fail> {
     let alloc = rt.alloc();
-    let mut port = port_of(alloc, None)?;
-    let mut wire = whole_wire(alloc);
+    let names = Names::read()?;
+    let mut site = site_of(alloc, names.cell, None, None)?;
     let stop = Turn::Stop(Instance {
         epoch: 0,
         number: 1,
     });
-    each_ends(&rt, alloc, &mut port, &mut wire, &[die()], CallEnd::Idle)?;
-    each_ends(&rt, alloc, &mut port, &mut wire, &[stop], UNKNOWN)
+    each_ends(&rt, alloc, &mut site, &needs_a_join(&names), DOWN)?;
+    each_ends(&rt, alloc, &mut site, &[die()], CallEnd::Idle)?;
+    Ok(each_ends(&rt, alloc, &mut site, &[stop], UNKNOWN)?)
 }
 
-#[test]
-fn a_cell_that_dies_knows_nothing(rt: HostRuntime) -> Result<(), Fail> {
-    let names = Names::read()?;
-    let story = Story {
-        before: &[names.run()],
-        turn: die(),
-        ends: &[CallEnd::Idle],
-        left: unjoined(),
-    };
-    tell(&rt, rt.alloc(), &names, &story)
+fn at_once(turn: &Turn, end: CallEnd) -> Story {
+    story(&nothing(), turn, ends(end), joined(NONE))
 }
 
-#[test]
-fn an_empty_cell_is_idle(rt: HostRuntime) -> Result<(), Fail> {
-    let alloc = rt.alloc();
-    let names = Names::read()?;
-    for turn in [up(), settle()] {
-        let story = Story {
-            before: &[],
-            turn,
-            ends: &[CallEnd::Idle],
-            left: joined(&[]),
-        };
-        tell(&rt, alloc, &names, &story)?;
-    }
-    Ok(())
+fn later(before: &Turn, turn: &Turn, end: CallEnd, left: Left) -> Story {
+    story(&behind(before), turn, ends(end), left)
 }
 
+// The board has a task RUNNING when its container comes up.
 #[test]
-fn what_is_not_there_is_unknown(rt: HostRuntime) -> Result<(), Fail> {
-    let alloc = rt.alloc();
+fn what_has_nothing_to_tell_makes_no_call(rt: HostRuntime) -> Result<(), Fail> {
     let names = Names::read()?;
-    for turn in [
-        names.crash(),
-        names.finish(false),
-        up_with(names.lrp()),
-        up_with(names.task()),
-    ] {
-        let story = Story {
-            before: &[],
-            turn,
-            ends: &[UNKNOWN],
-            left: joined(&[]),
-        };
-        tell(&rt, alloc, &names, &story)?;
-    }
-    Ok(())
-}
-
-// A task's container comes up without a call, since the board has it RUNNING already.
-#[test]
-fn a_task_comes_up_silently(rt: HostRuntime) -> Result<(), Fail> {
-    let names = Names::read()?;
-    let story = Story {
-        before: &[claim(names.task())],
-        turn: up_with(names.task()),
-        ends: &[CallEnd::Idle],
-        left: joined(&[ContainerState::Running]),
-    };
-    tell(&rt, rt.alloc(), &names, &story)
-}
-
-#[test]
-fn what_runs_does_not_come_up_again(rt: HostRuntime) -> Result<(), Fail> {
-    let names = Names::read()?;
-    let story = Story {
-        before: &[names.run()],
-        turn: up_with(names.lrp()),
-        ends: &[UNKNOWN],
-        left: joined(&[ContainerState::Running]),
-    };
-    tell(&rt, rt.alloc(), &names, &story)
+    let (lrp, task) = (up_with(names.lrp()), up_with(names.task()));
+    let stories = [
+        at_once(&up(), CallEnd::Idle),
+        at_once(&settle(), CallEnd::Idle),
+        at_once(&lrp, UNKNOWN),
+        at_once(&task, UNKNOWN),
+        at_once(&names.crash(), UNKNOWN),
+        at_once(&names.finish(false), UNKNOWN),
+        later(&claim(names.task()), &task, CallEnd::Idle, joined(RUNNING)),
+        later(&names.run(), &lrp, UNKNOWN, joined(RUNNING)),
+        later(&names.run(), &die(), CallEnd::Idle, unjoined()),
+    ];
+    Ok(tell(&rt, rt.alloc(), &names, &stories)?)
 }

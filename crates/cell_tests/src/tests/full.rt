@@ -1,13 +1,13 @@
 //! A cell with too little room: what it has too little of is told in the order memory, disk, slots, and it stays as
 //! it was.
-use super::names::{Names, TTL};
-use super::{done, port_of, take, take_done, whole_wire};
+use super::names::TTL;
+use super::{Site, done, site_of, take, take_done};
 use crate::Turn;
 use bbs_model::{Op, Port};
 use cell_records::{Amounts, Job, JobName};
 use cell_rep::{CallEnd, CellAct, CellRep, RepRefusal, Wire};
 use container_store::StoreRefusal;
-use diego_names::{Instance, Name};
+use diego_names::{Instance, Key, Name, OutOfMemory};
 use std::alloc::Global;
 use std::process::Abort;
 use std::test::Fail;
@@ -22,78 +22,98 @@ fn told(why: StoreRefusal) -> CallEnd {
     CallEnd::Local(RepRefusal::Store(why))
 }
 
-fn task(number: u8) -> Result<Name, Fail> {
-    Ok(Name::read(&[b't', number])?)
+// Five tasks.
+#[derive(Clone, Copy)]
+struct Tasks {
+    names: [Name; 5],
 }
 
-fn new_task(number: u8) -> Result<Turn, Fail> {
-    Ok(Turn::Board(Op::NewTask {
-        name: task(number)?,
+fn read_tasks() -> Result<Tasks, Fail> {
+    Ok(Tasks {
+        names: [
+            Name::read(b"t1")?,
+            Name::read(b"t2")?,
+            Name::read(b"t3")?,
+            Name::read(b"t4")?,
+            Name::read(b"t5")?,
+        ],
+    })
+}
+
+fn new_task(name: Name) -> Turn {
+    Turn::Board(Op::NewTask {
+        name,
         memory: 0,
         disk: 0,
         tag: None,
-    }))
+    })
 }
 
-fn claim(number: u8, memory: u32, disk: u32) -> Result<Turn, Fail> {
-    let job = JobName::Task(task(number)?);
-    Ok(Turn::Act(CellAct::Claim { job, memory, disk }))
+fn claim(name: Name, memory: u32, disk: u32) -> Turn {
+    let job = JobName::Task(name);
+    Turn::Act(CellAct::Claim { job, memory, disk })
 }
 
-// Five tasks wait, and then the cell joins, under the epoch 5.
-fn begin<P: Port, W: Wire>(
-    rt: &impl Abort,
-    alloc: Global,
-    rep: &mut CellRep,
-    port: &mut P,
-    wire: &mut W,
-) -> Result<(), Fail> {
-    for number in *b"12345" {
-        take_done(rt, alloc, rep, port, wire, &[new_task(number)?])?;
-    }
-    let join = Turn::Act(CellAct::Join {
-        zone: rep.cell(),
+fn join(cell: Name) -> Turn {
+    Turn::Act(CellAct::Join {
+        zone: cell,
         tag: None,
         totals: TOTALS,
         ttl: TTL,
-    });
-    take_done(rt, alloc, rep, port, wire, &[join])
+    })
+}
+
+// They wait, and then the cell joins, under the epoch 5.
+fn begin<P: Port, W: Wire>(
+    rt: &impl Abort,
+    alloc: Global,
+    site: &mut Site<P, W>,
+    tasks: &Tasks,
+) -> Result<(), OutOfMemory> {
+    for name in &tasks.names {
+        take_done(rt, alloc, site, &[new_task(*name)])?;
+    }
+    let join = join(site.rep.cell());
+    take_done(rt, alloc, site, &[join])
 }
 
 // What is free, the last number that was given, and how many containers there are.
-fn room_of(alloc: Global, rep: &CellRep) -> Result<Option<(Amounts, u32, usize)>, Fail> {
+type Room = (Amounts, u32, usize);
+
+fn room_of(alloc: Global, rep: &CellRep) -> Result<Option<Room>, OutOfMemory> {
     match rep.answer(alloc)? {
         None => Ok(None),
         Some(answer) => Ok(Some((answer.free, answer.last, answer.containers.len()))),
     }
 }
 
-fn left(memory: u32, disk: u32, containers: u32) -> Amounts {
-    Amounts {
+fn room(memory: u32, disk: u32, containers: u32, last: u32) -> Option<Room> {
+    let free = Amounts {
         memory,
         disk,
         containers,
-    }
+    };
+    Some((free, last, last as usize))
 }
 
 // Two containers fit, and no more than two; one that never was can't be given up.
 fn fill<P: Port, W: Wire>(
     rt: &impl Abort,
     alloc: Global,
-    rep: &mut CellRep,
-    port: &mut P,
-    wire: &mut W,
-) -> Result<(), Fail> {
-    begin(rt, alloc, rep, port, wire)?;
+    site: &mut Site<P, W>,
+    tasks: &Tasks,
+) -> Result<(), OutOfMemory> {
+    begin(rt, alloc, site, tasks)?;
+    let [one, two, three, four, _] = tasks.names;
     let stop = Turn::Stop(Instance {
         epoch: 5,
         number: 9,
     });
     let turns = [
-        claim(b'1', 60, 10)?,
-        claim(b'2', 50, 10)?,
-        claim(b'3', 40, 90)?,
-        claim(b'4', 0, 0)?,
+        claim(one, 60, 10),
+        claim(two, 50, 10),
+        claim(three, 40, 90),
+        claim(four, 0, 0),
         stop,
     ];
     let ends = [
@@ -103,65 +123,64 @@ fn fill<P: Port, W: Wire>(
         told(StoreRefusal::NoSlot),
         told(StoreRefusal::Unknown),
     ];
-    take(rt, alloc, rep, port, wire, &turns, &ends)?;
-    assert_eq!(rt; room_of(alloc, rep)?, Some((left(0, 0, 0), 2, 2)));
+    take(rt, alloc, site, &turns, &ends)?;
+    assert_eq!(rt; room_of(alloc, &site.rep)?, room(0, 0, 0, 2));
     Ok(())
+}
+
+// The epochs and numbers of two containers.
+fn instances(rep: &CellRep) -> Option<(Instance, Instance)> {
+    match rep.containers() {
+        [one, two] => Some((one.instance, two.instance)),
+        _ => None,
+    }
+}
+
+fn numbered(number: u32) -> Instance {
+    Instance { epoch: 5, number }
 }
 
 #[test]
 fn a_cell_of_two_slots_has_two_containers(rt: HostRuntime) -> Result<(), Fail> {
     let alloc = rt.alloc();
-    let mut rep = CellRep::new(Names::read()?.cell);
-    let mut port = port_of(alloc, None)?;
-    fill(&rt, alloc, &mut rep, &mut port, &mut whole_wire(alloc))?;
-    let numbers = match rep.containers() {
-        [one, two] => (one.instance.number, two.instance.number),
-        _ => (0, 0),
-    };
-    assert_eq!(rt; numbers, (1, 2));
+    let tasks = read_tasks()?;
+    let mut site = site_of(alloc, Name::read(b"c1")?, None, None)?;
+    fill(&rt, alloc, &mut site, &tasks)?;
+    assert_eq!(rt; instances(&site.rep), Some((numbered(1), numbered(2))));
     Ok(())
 }
 
 // A claim, a run and a start by a round, of these amounts.
-fn asked(number: u8, memory: u32, disk: u32) -> Result<[Turn; 3], Fail> {
-    let job = JobName::Task(task(number)?);
+fn asked(name: Name, memory: u32, disk: u32) -> [Turn; 3] {
+    let process = name;
+    let key = Key { process, index: 0 };
+    let job = JobName::Task(name);
     let tag = None;
-    let run = CellAct::Run {
-        key: Names::read()?.key(),
-        memory,
-        disk,
-    };
-    let start = Turn::Start(Job {
+    let run = CellAct::Run { key, memory, disk };
+    let start = Job {
         job,
         memory,
         disk,
         tag,
-    });
-    Ok([claim(number, memory, disk)?, Turn::Act(run), start])
+    };
+    [
+        claim(name, memory, disk),
+        Turn::Act(run),
+        Turn::Start(start),
+    ]
 }
 
 // Each of them is refused for this, and the cell stays as it was.
 fn is_refused<P: Port, W: Wire>(
     rt: &impl Abort,
     alloc: Global,
-    rep: &mut CellRep,
-    port: &mut P,
-    wire: &mut W,
-    amounts: (u32, u32),
+    site: &mut Site<P, W>,
+    turns: &[Turn; 3],
     why: StoreRefusal,
-) -> Result<(), Fail> {
-    let before = room_of(alloc, rep)?;
-    let turns = asked(b'5', amounts.0, amounts.1)?;
-    take(
-        rt,
-        alloc,
-        rep,
-        port,
-        wire,
-        &turns,
-        &[told(why), told(why), told(why)],
-    )?;
-    assert_eq!(rt; room_of(alloc, rep)?, before);
+) -> Result<(), OutOfMemory> {
+    let before = room_of(alloc, &site.rep)?;
+    take(rt, alloc, site, turns, &[told(why), told(why), told(why)])?;
+    assert_eq!(rt; room_of(alloc, &site.rep)?, before);
     Ok(())
 }
 
@@ -169,41 +188,35 @@ fn is_refused<P: Port, W: Wire>(
 fn ask_for_more<P: Port, W: Wire>(
     rt: &impl Abort,
     alloc: Global,
-    rep: &mut CellRep,
-    port: &mut P,
-    wire: &mut W,
-) -> Result<(), Fail> {
-    begin(rt, alloc, rep, port, wire)?;
-    take_done(rt, alloc, rep, port, wire, &[claim(b'1', 60, 90)?])?;
+    site: &mut Site<P, W>,
+    tasks: &Tasks,
+) -> Result<(), OutOfMemory> {
+    let [one, two, three, _, _] = tasks.names;
+    begin(rt, alloc, site, tasks)?;
+    take_done(rt, alloc, site, &[claim(one, 60, 90)])?;
     is_refused(
         rt,
         alloc,
-        rep,
-        port,
-        wire,
-        (41, 11),
+        site,
+        &asked(three, 41, 11),
         StoreRefusal::NoMemoryLeft,
     )?;
     is_refused(
         rt,
         alloc,
-        rep,
-        port,
-        wire,
-        (40, 11),
+        site,
+        &asked(three, 40, 11),
         StoreRefusal::NoDiskLeft,
     )?;
-    assert_eq!(rt; room_of(alloc, rep)?, Some((left(40, 10, 1), 1, 1)));
-    take_done(rt, alloc, rep, port, wire, &[claim(b'2', 0, 0)?])?;
-    is_refused(rt, alloc, rep, port, wire, (40, 10), StoreRefusal::NoSlot)?;
-    assert_eq!(rt; room_of(alloc, rep)?, Some((left(40, 10, 0), 2, 2)));
-    Ok(())
+    assert_eq!(rt; room_of(alloc, &site.rep)?, room(40, 10, 1, 1));
+    take_done(rt, alloc, site, &[claim(two, 0, 0)])?;
+    is_refused(rt, alloc, site, &asked(three, 40, 10), StoreRefusal::NoSlot)
 }
 
 #[test]
 fn a_cell_without_room_stays_as_it_was(rt: HostRuntime) -> Result<(), Fail> {
     let alloc = rt.alloc();
-    let mut rep = CellRep::new(Names::read()?.cell);
-    let mut port = port_of(alloc, None)?;
-    ask_for_more(&rt, alloc, &mut rep, &mut port, &mut whole_wire(alloc))
+    let tasks = read_tasks()?;
+    let mut site = site_of(alloc, Name::read(b"c1")?, None, None)?;
+    Ok(ask_for_more(&rt, alloc, &mut site, &tasks)?)
 }

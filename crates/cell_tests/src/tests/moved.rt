@@ -1,10 +1,13 @@
 //! A cell whose name has joined from elsewhere: the board's row has a new epoch. What names the cell is stale, and
 //! what names an instance alone is judged by that.
 use super::names::{Names, claim, renew, settle, start, up};
-use super::{Story, done, draining, joined, refused, tell};
+use super::stories::{
+    Left, NONE, RUNNING, Story, behind, behind_three, behind_two, draining, ends, joined, story,
+    tell, two_ends,
+};
+use super::{done, refused};
 use crate::Turn;
 use bbs_model::BoardRefusal;
-use cell_records::ContainerState;
 use cell_rep::CallEnd;
 use std::test::Fail;
 
@@ -16,102 +19,64 @@ fn stale(epoch: u64) -> CallEnd {
     )
 }
 
-#[test]
-fn a_renewal_and_a_drain_are_stale(rt: HostRuntime) -> Result<(), Fail> {
-    let alloc = rt.alloc();
-    let names = Names::read()?;
-    for turn in [renew(700), Turn::Drain, Turn::Evacuate] {
-        let story = Story {
-            before: &[names.join_elsewhere()],
-            turn,
-            ends: &[stale(4)],
-            left: joined(&[]),
-        };
-        tell(&rt, alloc, &names, &story)?;
-    }
-    Ok(())
+// The first act behind the move of the name.
+fn at_once(names: &Names, turn: &Turn) -> Story {
+    let before = behind(&names.join_elsewhere());
+    story(&before, turn, ends(stale(4)), joined(NONE))
 }
 
 #[test]
-fn a_claim_that_is_stale_keeps_nothing(rt: HostRuntime) -> Result<(), Fail> {
-    let alloc = rt.alloc();
+fn what_names_the_cell_is_stale(rt: HostRuntime) -> Result<(), Fail> {
     let names = Names::read()?;
-    for turn in [
-        claim(names.lrp()),
-        claim(names.task()),
-        start(names.lrp()),
-        start(names.task()),
-        names.run(),
-    ] {
-        let story = Story {
-            before: &[names.join_elsewhere()],
-            turn,
-            ends: &[stale(4)],
-            left: joined(&[]),
-        };
-        tell(&rt, alloc, &names, &story)?;
-    }
-    Ok(())
+    let stories = [
+        at_once(&names, &renew(700)),
+        at_once(&names, &Turn::Drain),
+        at_once(&names, &Turn::Evacuate),
+        at_once(&names, &claim(names.lrp())),
+        at_once(&names, &claim(names.task())),
+        at_once(&names, &start(names.lrp())),
+        at_once(&names, &start(names.task())),
+        at_once(&names, &names.run()),
+    ];
+    Ok(tell(&rt, rt.alloc(), &names, &stories)?)
+}
+
+// What comes up, and then what has not ended.
+fn has_none_left(names: &Names) -> [Story; 2] {
+    let moved = names.join_elsewhere();
+    let one = behind_two(&claim(names.lrp()), &moved);
+    let both = behind_three(&claim(names.task()), &names.run(), &moved);
+    [
+        story(&one, &up(), ends(stale(5)), joined(NONE)),
+        story(&both, &settle(), two_ends(stale(6), stale(6)), joined(NONE)),
+    ]
 }
 
 #[test]
-fn what_comes_up_is_stale(rt: HostRuntime) -> Result<(), Fail> {
+fn a_container_that_is_told_of_goes(rt: HostRuntime) -> Result<(), Fail> {
     let names = Names::read()?;
-    let story = Story {
-        before: &[claim(names.lrp()), names.join_elsewhere()],
-        turn: up(),
-        ends: &[stale(5)],
-        left: joined(&[]),
-    };
-    tell(&rt, rt.alloc(), &names, &story)
+    Ok(tell(&rt, rt.alloc(), &names, &has_none_left(&names))?)
+}
+
+fn ended(names: &Names, before: &Turn, turn: &Turn) -> Story {
+    let before = behind_two(before, &names.join_elsewhere());
+    story(&before, turn, ends(done(6)), joined(NONE))
+}
+
+// A cell that was being emptied before its name moved.
+fn given_back(names: &Names, before: &Turn, left: Left) -> Story {
+    let before = behind_three(before, &Turn::Drain, &names.join_elsewhere());
+    story(&before, &settle(), ends(done(7)), left)
 }
 
 #[test]
-fn a_settle_leaves_nothing_that_has_not_ended(rt: HostRuntime) -> Result<(), Fail> {
+fn what_names_an_instance_alone_is_judged_by_that(rt: HostRuntime) -> Result<(), Fail> {
     let names = Names::read()?;
-    let story = Story {
-        before: &[claim(names.task()), names.run(), names.join_elsewhere()],
-        turn: settle(),
-        ends: &[stale(6), stale(6)],
-        left: joined(&[]),
-    };
-    tell(&rt, rt.alloc(), &names, &story)
-}
-
-#[test]
-fn what_has_ended_is_judged_by_its_instance(rt: HostRuntime) -> Result<(), Fail> {
-    let alloc = rt.alloc();
-    let names = Names::read()?;
-    for (before, turn) in [
-        (names.run(), names.crash()),
-        (claim(names.task()), names.finish(false)),
-    ] {
-        let story = Story {
-            before: &[before, names.join_elsewhere()],
-            turn,
-            ends: &[done(6)],
-            left: joined(&[]),
-        };
-        tell(&rt, alloc, &names, &story)?;
-    }
-    Ok(())
-}
-
-#[test]
-fn what_a_draining_cell_gives_back_is_judged_by_its_instance(rt: HostRuntime) -> Result<(), Fail> {
-    let alloc = rt.alloc();
-    let names = Names::read()?;
-    let reserved = Story {
-        before: &[claim(names.lrp()), Turn::Drain, names.join_elsewhere()],
-        turn: settle(),
-        ends: &[done(7)],
-        left: draining(&[]),
-    };
-    tell(&rt, alloc, &names, &reserved)?;
-    let running = Story {
-        before: &[names.run(), Turn::Drain, names.join_elsewhere()],
-        left: draining(&[ContainerState::Running]),
-        ..reserved
-    };
-    tell(&rt, alloc, &names, &running)
+    let stories = [
+        ended(&names, &names.run(), &names.crash()),
+        ended(&names, &claim(names.task()), &names.finish(false)),
+        given_back(&names, &claim(names.lrp()), draining(NONE)),
+        given_back(&names, &names.run(), draining(RUNNING)),
+    ];
+    Ok(tell(&rt, rt.alloc(), &names, &stories)?)
 }

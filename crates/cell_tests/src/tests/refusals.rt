@@ -2,26 +2,25 @@
 ghost use Rattle.bbs_model.specs.Valid.{IsValid};
 
 use super::names::{Names, claim, settle, start, up};
-use super::{
-    Story, done, draining, first_board, is_left, joined, refused, take, tell, unjoined, whole_wire,
+use super::stories::{
+    NONE, Story, behind_two, draining, ends, joined, nothing, step, story, tell, two_ends, unjoined,
 };
+use super::{Site, done, first_board, refused};
 use crate::{FailingPort, Turn};
 use bbs_model::{BoardRefusal, Port, Rows};
 use cell_records::JobName;
-use cell_rep::{CellAct, CellRep, Wire};
-use diego_names::{Instance, Key, Name, StateName};
+use cell_rep::{CellAct, CellRep, MemoryWire, Wire};
+use diego_names::{Instance, Key, OutOfMemory, StateName};
 use std::alloc::Global;
 use std::process::Abort;
 use std::test::Fail;
 use task_records::TaskRefusal;
 
-// The first container of a cell that joined as the board's first transition.
-const FIRST: Instance = Instance {
-    epoch: 0,
-    number: 1,
-};
-
 const UNKNOWN: BoardRefusal = BoardRefusal::Unknown;
+
+const HAS_ENDED: BoardRefusal = BoardRefusal::Task(TaskRefusal::WrongState {
+    state: StateName::Completed,
+});
 
 // A board without rows that has made as many transitions as one may make.
 fn full_board(alloc: Global) -> Rows
@@ -34,25 +33,28 @@ fn full_board(alloc: Global) -> Rows
     }
 }
 
-// A join is the only call of a cell that no row is needed for.
+// A join is the only call of a cell that needs no row.
 fn join_refused<P: Port, W: Wire>(
     rt: &impl Abort,
     alloc: Global,
-    port: &mut P,
-    wire: &mut W,
-) -> Result<(), Fail> {
-    let names = Names::read()?;
-    let rep = &mut CellRep::new(names.cell);
+    site: &mut Site<P, W>,
+    names: &Names,
+) -> Result<(), OutOfMemory> {
     let ends = [refused(BoardRefusal::BoardFull, 0)];
-    take(rt, alloc, rep, port, wire, &[names.join()], &ends)?;
-    is_left(rt, alloc, rep, &unjoined())
+    step(rt, alloc, site, &names.join(), &ends, &unjoined())
 }
 
 #[test]
 fn a_full_board_lets_nobody_join(rt: HostRuntime) -> Result<(), Fail> {
     let alloc = rt.alloc();
-    let mut port = FailingPort::new(alloc, 7, full_board(alloc), None)?;
-    join_refused(&rt, alloc, &mut port, &mut whole_wire(alloc))
+    let names = Names::read()?;
+    let port = FailingPort::new(alloc, 7, full_board(alloc), None)?;
+    let mut site = Site {
+        rep: CellRep::new(names.cell),
+        port,
+        wire: MemoryWire::new(Vec::new(alloc)),
+    };
+    Ok(join_refused(&rt, alloc, &mut site, &names)?)
 }
 
 fn another(names: &Names) -> Key {
@@ -62,82 +64,72 @@ fn another(names: &Names) -> Key {
     }
 }
 
-#[test]
-fn what_no_row_waits_for_is_refused(rt: HostRuntime) -> Result<(), Fail> {
-    let alloc = rt.alloc();
-    let names = Names::read()?;
-    let lrp = JobName::Lrp(another(&names));
-    let task = JobName::Task(Name::read(b"other")?);
-    let run = Turn::Act(CellAct::Run {
-        key: another(&names),
+fn run_another(names: &Names) -> Turn {
+    Turn::Act(CellAct::Run {
+        key: another(names),
         memory: 64,
         disk: 128,
-    });
-    for turn in [claim(lrp), claim(task), start(lrp), start(task), run] {
-        let story = Story {
-            before: &[],
-            turn,
-            ends: &[refused(UNKNOWN, 4)],
-            left: joined(&[]),
-        };
-        tell(&rt, alloc, &names, &story)?;
-    }
-    Ok(())
+    })
+}
+
+// No row waits for what the cell makes room for.
+fn unwanted(turn: &Turn) -> Story {
+    story(&nothing(), turn, ends(refused(UNKNOWN, 4)), joined(NONE))
+}
+
+// The first container of a cell that joined as the board's first transition loses its row.
+fn dropped(names: &Names, before: &Turn, turn: &Turn) -> Story {
+    let instance = Instance {
+        epoch: 0,
+        number: 1,
+    };
+    let before = behind_two(before, &names.remove(instance));
+    story(&before, turn, ends(refused(UNKNOWN, 6)), joined(NONE))
 }
 
 #[test]
-fn what_is_there_and_has_no_row_more_is_refused(rt: HostRuntime) -> Result<(), Fail> {
-    let alloc = rt.alloc();
+fn what_has_no_row_is_refused(rt: HostRuntime) -> Result<(), Fail> {
     let names = Names::read()?;
-    for (before, turn) in [
-        (claim(names.lrp()), up()),
-        (claim(names.lrp()), settle()),
-        (claim(names.lrp()), names.run()),
-        (names.run(), names.crash()),
-        (names.run(), settle()),
-    ] {
-        let story = Story {
-            before: &[before, names.remove(FIRST)],
-            turn,
-            ends: &[refused(UNKNOWN, 6)],
-            left: joined(&[]),
-        };
-        tell(&rt, alloc, &names, &story)?;
-    }
-    Ok(())
+    let lrp = JobName::Lrp(another(&names));
+    let task = JobName::Task(names.web);
+    let stories = [
+        unwanted(&claim(lrp)),
+        unwanted(&claim(task)),
+        unwanted(&start(lrp)),
+        unwanted(&start(task)),
+        unwanted(&run_another(&names)),
+        dropped(&names, &claim(names.lrp()), &up()),
+        dropped(&names, &claim(names.lrp()), &settle()),
+        dropped(&names, &claim(names.lrp()), &names.run()),
+        dropped(&names, &names.run(), &names.crash()),
+        dropped(&names, &names.run(), &settle()),
+    ];
+    Ok(tell(&rt, rt.alloc(), &names, &stories)?)
+}
+
+// A client has given the task up, which is its outcome.
+fn cancelled(names: &Names, turn: &Turn) -> Story {
+    let before = behind_two(&claim(names.task()), &names.cancel());
+    story(&before, turn, ends(refused(HAS_ENDED, 6)), joined(NONE))
+}
+
+// A cell that is emptied gives up what has no row more.
+fn emptied(names: &Names, before: &Turn) -> Story {
+    let mut story = dropped(names, before, &Turn::Evacuate);
+    story.ends = two_ends(done(6), refused(UNKNOWN, 7));
+    story.left = draining(NONE);
+    story
 }
 
 #[test]
-fn a_task_that_was_cancelled_has_its_outcome(rt: HostRuntime) -> Result<(), Fail> {
-    let alloc = rt.alloc();
+fn what_is_over_is_refused(rt: HostRuntime) -> Result<(), Fail> {
     let names = Names::read()?;
-    let why = BoardRefusal::Task(TaskRefusal::WrongState {
-        state: StateName::Completed,
-    });
-    for turn in [names.finish(false), settle(), claim(names.task())] {
-        let story = Story {
-            before: &[claim(names.task()), names.cancel()],
-            turn,
-            ends: &[refused(why, 6)],
-            left: joined(&[]),
-        };
-        tell(&rt, alloc, &names, &story)?;
-    }
-    Ok(())
-}
-
-#[test]
-fn a_draining_cell_gives_up_what_has_no_row_more(rt: HostRuntime) -> Result<(), Fail> {
-    let alloc = rt.alloc();
-    let names = Names::read()?;
-    for before in [claim(names.lrp()), names.run()] {
-        let story = Story {
-            before: &[before, names.remove(FIRST)],
-            turn: Turn::Evacuate,
-            ends: &[done(6), refused(UNKNOWN, 7)],
-            left: draining(&[]),
-        };
-        tell(&rt, alloc, &names, &story)?;
-    }
-    Ok(())
+    let stories = [
+        cancelled(&names, &names.finish(false)),
+        cancelled(&names, &settle()),
+        cancelled(&names, &claim(names.task())),
+        emptied(&names, &claim(names.lrp())),
+        emptied(&names, &names.run()),
+    ];
+    Ok(tell(&rt, rt.alloc(), &names, &stories)?)
 }

@@ -1,17 +1,15 @@
 //! Two cells and one instance.
 use super::names::{Names, claim, settle};
-use super::{done, is_left, joined, port_of, refused, same, take, take_done, whole_wire};
+use super::{Site, done, refused, same, site_of, take, take_done};
 use crate::Turn;
 use bbs_model::{BoardRefusal, Op, Port, Reply};
-use cell_records::ContainerState;
-use cell_rep::{CallEnd, CellRep, Delivery, MemoryWire, Wire};
-use diego_names::{Instance, Name};
+use cell_rep::{CallEnd, CellRep, Delivery, Wire};
+use diego_names::{Instance, Name, OutOfMemory};
 use lrp_records::LrpRefusal;
 use std::alloc::Global;
+use std::mem::swap;
 use std::process::Abort;
 use std::test::Fail;
-
-const RESERVED: ContainerState = ContainerState::Reserved;
 
 // The first container of the cell that joined as the first transition, or as the second, has the row.
 fn held_by(epoch: u64) -> BoardRefusal {
@@ -20,124 +18,131 @@ fn held_by(epoch: u64) -> BoardRefusal {
     })
 }
 
-// Two cells that have joined, in this order, and an instance that waits.
+// Another cell joins, and then the cell of the site; and an instance waits.
 fn both_join<P: Port, W: Wire>(
     rt: &impl Abort,
     alloc: Global,
-    port: &mut P,
-    wire: &mut W,
-) -> Result<(CellRep, CellRep), Fail> {
-    let names = Names::read()?;
-    let mut one = CellRep::new(names.cell);
-    let mut two = CellRep::new(Name::read(b"c2")?);
-    take_done(rt, alloc, &mut one, port, wire, &[names.join()])?;
-    let turns = [names.join(), names.desire(), names.make()];
-    take_done(rt, alloc, &mut two, port, wire, &turns)?;
-    Ok((one, two))
+    site: &mut Site<P, W>,
+    other: &mut CellRep,
+    names: &Names,
+) -> Result<(), OutOfMemory> {
+    swap(&mut site.rep, other);
+    take_done(rt, alloc, site, &[names.join()])?;
+    swap(&mut site.rep, other);
+    take_done(
+        rt,
+        alloc,
+        site,
+        &[names.join(), names.desire(), names.make()],
+    )
 }
 
-// Both claim, in this order: the first has the row, by the epoch under which it joined, and the second keeps
-// nothing.
+// The cell of the site claims first, and has the row; the other keeps nothing.
 fn both_claim<P: Port, W: Wire>(
     rt: &impl Abort,
     alloc: Global,
-    port: &mut P,
-    wire: &mut W,
-    first: &mut CellRep,
+    site: &mut Site<P, W>,
+    other: &mut CellRep,
+    names: &Names,
     epoch: u64,
-    second: &mut CellRep,
-) -> Result<(), Fail> {
-    let turns = [claim(Names::read()?.lrp())];
-    take(rt, alloc, first, port, wire, &turns, &[done(4)])?;
-    let held = refused(held_by(epoch), 5);
-    take(rt, alloc, second, port, wire, &turns, &[held])?;
-    take(rt, alloc, first, port, wire, &turns, &[same(5)])?;
+) -> Result<(), OutOfMemory> {
+    let turns = [claim(names.lrp())];
+    take(rt, alloc, site, &turns, &[done(4)])?;
+    swap(&mut site.rep, other);
+    take(rt, alloc, site, &turns, &[refused(held_by(epoch), 5)])?;
     assert_eq!(rt;
-        (first.containers().len(), second.containers().len()),
-        (1, 0)
+        (site.rep.containers().len(), other.containers().len()),
+        (0, 1)
     );
     Ok(())
 }
 
+// Two claims, by the second cell first or by the first.
+fn claims_in_order(
+    rt: &impl Abort,
+    alloc: Global,
+    names: &Names,
+    is_second_first: bool,
+) -> Result<(), OutOfMemory> {
+    let mut site = site_of(alloc, names.cell, None, None)?;
+    let mut other = CellRep::new(names.job);
+    both_join(rt, alloc, &mut site, &mut other, names)?;
+    if !is_second_first {
+        swap(&mut site.rep, &mut other);
+    }
+    let epoch = u64::from(is_second_first);
+    both_claim(rt, alloc, &mut site, &mut other, names, epoch)
+}
+
 #[test]
 fn the_second_of_two_claims_is_refused(rt: HostRuntime) -> Result<(), Fail> {
-    let alloc = rt.alloc();
-    let mut port = port_of(alloc, None)?;
-    let mut wire = whole_wire(alloc);
-    let (mut one, mut two) = both_join(&rt, alloc, &mut port, &mut wire)?;
-    both_claim(&rt, alloc, &mut port, &mut wire, &mut one, 0, &mut two)
+    let names = Names::read()?;
+    claims_in_order(&rt, rt.alloc(), &names, true)?;
+    Ok(claims_in_order(&rt, rt.alloc(), &names, false)?)
 }
 
-#[test]
-fn the_second_is_refused_in_the_other_order_too(rt: HostRuntime) -> Result<(), Fail> {
-    let alloc = rt.alloc();
-    let mut port = port_of(alloc, None)?;
-    let mut wire = whole_wire(alloc);
-    let (mut one, mut two) = both_join(&rt, alloc, &mut port, &mut wire)?;
-    both_claim(&rt, alloc, &mut port, &mut wire, &mut two, 1, &mut one)
-}
-
-// A round could not place the instance. The first cell claims it, does not hear of it, and claims it again; then
-// the second does.
+// A round could not place the instance. The second cell claims it, does not hear of it, and claims it again; then
+// the first does.
 fn claim_unheard<P: Port, W: Wire>(
     rt: &impl Abort,
     alloc: Global,
-    port: &mut P,
-    wire: &mut W,
-) -> Result<(), Fail> {
-    let names = Names::read()?;
-    let (mut one, mut two) = both_join(rt, alloc, port, wire)?;
+    site: &mut Site<P, W>,
+    other: &mut CellRep,
+    names: &Names,
+) -> Result<(), OutOfMemory> {
+    both_join(rt, alloc, site, other, names)?;
     let place_fail = Turn::Board(Op::PlaceFail { key: names.key() });
     let unheard = CallEnd::ReplyLost(Ok(Reply::Ok { place: 5, stamp: 5 }));
-    let turns = [place_fail, claim(names.lrp()), claim(names.lrp())];
-    take(
-        rt,
-        alloc,
-        &mut one,
-        port,
-        wire,
-        &turns,
-        &[done(4), unheard, same(6)],
-    )?;
-    let held = refused(held_by(0), 6);
+    take(rt, alloc, site, &[place_fail], &[done(4)])?;
+    let turns = [claim(names.lrp()), claim(names.lrp())];
+    take(rt, alloc, site, &turns, &[unheard, same(6)])?;
+    swap(&mut site.rep, other);
     let turns = [claim(names.lrp())];
-    take(rt, alloc, &mut two, port, wire, &turns, &[held])?;
-    is_left(rt, alloc, &one, &joined(&[RESERVED]))?;
-    assert!(rt; two.containers().is_empty());
+    take(rt, alloc, site, &turns, &[refused(held_by(1), 6)])?;
+    assert_eq!(rt;
+        (site.rep.containers().len(), other.containers().len()),
+        (0, 1)
+    );
     Ok(())
 }
 
+// Each cell has made one delivery, for its join.
 #[test]
 fn a_claim_stands_though_its_reply_was_lost(rt: HostRuntime) -> Result<(), Fail> {
     let alloc = rt.alloc();
-    let mut port = port_of(alloc, None)?;
-    // Each cell has made one delivery, for its join.
-    let mut lost = Vec::new(alloc);
-    lost.push((3, Delivery::ReplyLost))?;
-    claim_unheard(&rt, alloc, &mut port, &mut MemoryWire::new(lost))
+    let names = Names::read()?;
+    let lost = Some((3, Delivery::ReplyLost));
+    let mut site = site_of(alloc, names.cell, None, lost)?;
+    let mut other = CellRep::new(Name::read(b"c2")?);
+    Ok(claim_unheard(&rt, alloc, &mut site, &mut other, &names)?)
 }
 
 // What runs has the row, whoever claimed it.
 fn run_over<P: Port, W: Wire>(
     rt: &impl Abort,
     alloc: Global,
-    port: &mut P,
-    wire: &mut W,
-) -> Result<(), Fail> {
-    let names = Names::read()?;
-    let (mut one, mut two) = both_join(rt, alloc, port, wire)?;
-    take_done(rt, alloc, &mut one, port, wire, &[claim(names.lrp())])?;
-    take_done(rt, alloc, &mut two, port, wire, &[names.run()])?;
-    let held = refused(held_by(1), 6);
-    take(rt, alloc, &mut one, port, wire, &[settle()], &[held])?;
-    is_left(rt, alloc, &one, &joined(&[]))?;
-    assert_eq!(rt; two.containers().len(), 1);
+    site: &mut Site<P, W>,
+    other: &mut CellRep,
+    names: &Names,
+) -> Result<(), OutOfMemory> {
+    both_join(rt, alloc, site, other, names)?;
+    take_done(rt, alloc, site, &[claim(names.lrp())])?;
+    swap(&mut site.rep, other);
+    take_done(rt, alloc, site, &[names.run()])?;
+    swap(&mut site.rep, other);
+    take(rt, alloc, site, &[settle()], &[refused(held_by(0), 6)])?;
+    assert_eq!(rt;
+        (site.rep.containers().len(), other.containers().len()),
+        (0, 1)
+    );
     Ok(())
 }
 
 #[test]
 fn a_run_takes_over_what_another_has_claimed(rt: HostRuntime) -> Result<(), Fail> {
     let alloc = rt.alloc();
-    let mut port = port_of(alloc, None)?;
-    run_over(&rt, alloc, &mut port, &mut whole_wire(alloc))
+    let names = Names::read()?;
+    let mut site = site_of(alloc, names.cell, None, None)?;
+    let mut other = CellRep::new(Name::read(b"c2")?);
+    Ok(run_over(&rt, alloc, &mut site, &mut other, &names)?)
 }

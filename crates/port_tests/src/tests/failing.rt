@@ -9,9 +9,10 @@ use std::test::Fail;
 
 // The first call meets a fault, and the same call again is the first transition.
 fn call_twice<P: Port>(rt: &impl Abort, port: &mut P) -> Result<(), Fail> {
-    let command = desire(b'w')?;
-    assert_eq!(rt; port.call(command), Err(CallFault::Disk { place: 0 }));
-    assert_eq!(rt; port.call(command), Ok(Reply::Ok { place: 1, stamp: 0 }));
+    let first = port.call(desire(b'w')?);
+    assert_eq!(rt; first, Err(CallFault::Disk { place: 0 }));
+    let again = port.call(desire(b'w')?);
+    assert_eq!(rt; again, Ok(Reply::Ok { place: 1, stamp: 0 }));
     assert_eq!(rt; port.place(), 2);
     Ok(())
 }
