@@ -1,7 +1,7 @@
 //! Acts that make no call: of a cell that has not joined, and of one that has nothing to tell.
 use super::names::{Names, claim, die, renew, settle, start, up};
 use super::stories::{
-    Left, NONE, RUNNING, Story, behind, ends, joined, nothing, step, story, tell, unjoined,
+    Left, NONE, RUNNING, Story, behind, joined, nothing, one_end, row, step, tell, unjoined,
 };
 use super::{Site, site_of};
 use crate::Turn;
@@ -77,11 +77,11 @@ fn who_has_not_joined_is_down(rt: HostRuntime) -> Result<(), Fail> {
 }
 
 fn at_once(turn: &Turn, end: CallEnd) -> Story {
-    story(&nothing(), turn, ends(end), joined(NONE))
+    row(&nothing(), turn, one_end(end), joined(NONE))
 }
 
 fn later(before: &Turn, turn: &Turn, end: CallEnd, left: Left) -> Story {
-    story(&behind(before), turn, ends(end), left)
+    row(&behind(before), turn, one_end(end), left)
 }
 
 // The board has a task RUNNING when its container comes up.

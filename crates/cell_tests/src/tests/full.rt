@@ -87,7 +87,7 @@ fn room_of(alloc: Global, rep: &CellRep) -> Result<Option<Room>, OutOfMemory> {
     }
 }
 
-fn room(memory: u32, disk: u32, containers: u32, last: u32) -> Option<Room> {
+fn leaves(memory: u32, disk: u32, containers: u32, last: u32) -> Option<Room> {
     let free = Amounts {
         memory,
         disk,
@@ -124,7 +124,7 @@ fn fill<P: Port, W: Wire>(
         told(StoreRefusal::Unknown),
     ];
     take(rt, alloc, site, &turns, &ends)?;
-    assert_eq!(rt; room_of(alloc, &site.rep)?, room(0, 0, 0, 2));
+    assert_eq!(rt; room_of(alloc, &site.rep)?, leaves(0, 0, 0, 2));
     Ok(())
 }
 
@@ -208,7 +208,7 @@ fn ask_for_more<P: Port, W: Wire>(
         &asked(three, 40, 11),
         StoreRefusal::NoDiskLeft,
     )?;
-    assert_eq!(rt; room_of(alloc, &site.rep)?, room(40, 10, 1, 1));
+    assert_eq!(rt; room_of(alloc, &site.rep)?, leaves(40, 10, 1, 1));
     take_done(rt, alloc, site, &[claim(two, 0, 0)])?;
     is_refused(rt, alloc, site, &asked(three, 40, 10), StoreRefusal::NoSlot)
 }

@@ -3,7 +3,8 @@ ghost use Rattle.bbs_model.specs.Valid.{IsValid};
 
 use super::names::{Names, claim, settle, start, up};
 use super::stories::{
-    NONE, Story, behind_two, draining, ends, joined, nothing, step, story, tell, two_ends, unjoined,
+    NONE, Story, behind_two, draining, joined, nothing, one_end, row, step, tell, two_ends,
+    unjoined,
 };
 use super::{Site, done, first_board, refused};
 use crate::{FailingPort, Turn};
@@ -74,7 +75,7 @@ fn run_another(names: &Names) -> Turn {
 
 // No row waits for what the cell makes room for.
 fn unwanted(turn: &Turn) -> Story {
-    story(&nothing(), turn, ends(refused(UNKNOWN, 4)), joined(NONE))
+    row(&nothing(), turn, one_end(refused(UNKNOWN, 4)), joined(NONE))
 }
 
 // The first container of a cell that joined as the board's first transition loses its row.
@@ -84,7 +85,7 @@ fn dropped(names: &Names, before: &Turn, turn: &Turn) -> Story {
         number: 1,
     };
     let before = behind_two(before, &names.remove(instance));
-    story(&before, turn, ends(refused(UNKNOWN, 6)), joined(NONE))
+    row(&before, turn, one_end(refused(UNKNOWN, 6)), joined(NONE))
 }
 
 #[test]
@@ -110,7 +111,7 @@ fn what_has_no_row_is_refused(rt: HostRuntime) -> Result<(), Fail> {
 // A client has given the task up, which is its outcome.
 fn cancelled(names: &Names, turn: &Turn) -> Story {
     let before = behind_two(&claim(names.task()), &names.cancel());
-    story(&before, turn, ends(refused(HAS_ENDED, 6)), joined(NONE))
+    row(&before, turn, one_end(refused(HAS_ENDED, 6)), joined(NONE))
 }
 
 // A cell that is emptied gives up what has no row more.

@@ -83,7 +83,7 @@ pub fn behind_three(one: &Turn, two: &Turn, three: &Turn) -> Turns {
     [Some(*one), Some(*two), Some(*three)]
 }
 
-pub fn ends(one: CallEnd) -> Ends {
+pub fn one_end(one: CallEnd) -> Ends {
     [Some(one), None, None]
 }
 
@@ -91,7 +91,7 @@ pub fn two_ends(one: CallEnd, two: CallEnd) -> Ends {
     [Some(one), Some(two), None]
 }
 
-pub fn story(before: &Turns, turn: &Turn, ends: Ends, left: Left) -> Story {
+pub fn row(before: &Turns, turn: &Turn, ends: Ends, left: Left) -> Story {
     Story {
         before: *before,
         turn: *turn,
