@@ -1,5 +1,7 @@
 //! What cells come to when a call, its reply or the disk fails, when the board refuses them, and when there is no
 //! room on them. What has to come is taken from the rules of cells and of the board's step.
+ghost use Rattle.std.specs.Prelude.{◌≤◌};
+ghost use Rattle.bbs_model.specs.Limits.{most_transitions};
 ghost use Rattle.bbs_model.specs.Valid.{IsValid};
 
 mod again;
@@ -13,7 +15,6 @@ mod rivals;
 mod stories;
 
 use super::*;
-use bbs_laws::first_board_is_valid;
 use bbs_model::{BoardRefusal, Port, Reply, Rows};
 use cell_rep::{CallEnd, Called, CellRep, Delivery, MemoryWire, Wire};
 use crash_backoff::Moment;
@@ -21,16 +22,17 @@ use diego_names::{List, Name, OutOfMemory};
 use std::alloc::Global;
 use std::process::Abort;
 
-fn first_board(alloc: Global) -> Rows
+// A board without rows that has made so many transitions.
+fn empty_board(alloc: Global, next: u64) -> Rows
+    requires { next ≤ most_transitions }
     ensures { IsValid result }
 {
-    first_board_is_valid();
     Rows {
         desired: List::new(alloc),
         actual: List::new(alloc),
         tasks: List::new(alloc),
         cells: List::new(alloc),
-        next: 0,
+        next,
     }
 }
 
@@ -53,7 +55,7 @@ fn site_of(
     if let Some(entry) = lost {
         listed.push(entry)?;
     }
-    let port = FailingPort::new(alloc, 7, first_board(alloc), fails_at)?;
+    let port = FailingPort::new(alloc, 7, empty_board(alloc, 0), fails_at)?;
     Ok(Site {
         rep: CellRep::new(cell),
         port,

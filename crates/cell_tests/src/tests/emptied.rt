@@ -1,8 +1,8 @@
 //! Cells that are emptied.
 use super::names::{Names, claim, start, up};
 use super::stories::{
-    NONE, RESERVED, RUNNING, States, Story, behind, behind_two, draining, is_left, nothing,
-    one_end, row, step, tell, two_ends,
+    NONE, RESERVED, RUNNING, States, Story, behind, behind_two, draining, nothing, one_end, row,
+    step, tell, two_ends,
 };
 use super::{Site, done, same, site_of, take_done};
 use crate::Turn;

@@ -1,14 +1,12 @@
 //! Acts whose refusal by the board is heard: a container that is told of goes.
-ghost use Rattle.bbs_model.specs.Valid.{IsValid};
-
 use super::names::{Names, claim, settle, start, up};
 use super::stories::{
     NONE, Story, behind_two, draining, joined, nothing, one_end, row, step, tell, two_ends,
     unjoined,
 };
-use super::{Site, done, first_board, refused};
+use super::{Site, done, empty_board, refused};
 use crate::{FailingPort, Turn};
-use bbs_model::{BoardRefusal, Port, Rows};
+use bbs_model::{BoardRefusal, Port};
 use cell_records::JobName;
 use cell_rep::{CellAct, CellRep, MemoryWire, Wire};
 use diego_names::{Instance, Key, OutOfMemory, StateName};
@@ -23,18 +21,7 @@ const HAS_ENDED: BoardRefusal = BoardRefusal::Task(TaskRefusal::WrongState {
     state: StateName::Completed,
 });
 
-// A board without rows that has made as many transitions as one may make.
-fn full_board(alloc: Global) -> Rows
-    ensures { IsValid result }
-{
-    let rows = first_board(alloc);
-    Rows {
-        next: 1000000,
-        ..rows
-    }
-}
-
-// A join is the only call of a cell that needs no row.
+// A join needs no row, and is refused by a board that has made as many transitions as one may make.
 fn join_refused<P: Port, W: Wire>(
     rt: &impl Abort,
     alloc: Global,
@@ -49,7 +36,7 @@ fn join_refused<P: Port, W: Wire>(
 fn a_full_board_lets_nobody_join(rt: HostRuntime) -> Result<(), Fail> {
     let alloc = rt.alloc();
     let names = Names::read()?;
-    let port = FailingPort::new(alloc, 7, full_board(alloc), None)?;
+    let port = FailingPort::new(alloc, 7, empty_board(alloc, 1000000), None)?;
     let mut site = Site {
         rep: CellRep::new(names.cell),
         port,
