@@ -2,7 +2,7 @@
 use super::{at, begin, close, desire, desire_each, disk_of, done, make};
 use bbs_model::{Change, Command, Event, Heard, Op, Port, Row};
 use cell_records::Amounts;
-use diego_names::{Instance, Key, Name};
+use diego_names::{Instance, Key, List, Name, OutOfMemory};
 use event_hub::Subscription;
 use sole_port::SolePort;
 use std::alloc::Global;
@@ -67,13 +67,26 @@ fn a_part_of_the_log_is_heard(rt: HostRuntime) -> Result<(), Fail> {
     end
 }
 
+// A reader is never beyond the end of the log.
+fn poll<P: Port>(
+    rt: &impl Abort,
+    alloc: Global,
+    port: &mut P,
+    reader: &mut Subscription,
+    max: u32,
+) -> Result<List<Event>, OutOfMemory> {
+    let (at, end) = (reader.at(), port.place());
+    assert!(rt; at <= end);
+    reader.poll(alloc, port, max)
+}
+
 // Polls of several sizes between calls: each item is heard once.
 fn polls_between_calls<P: Port>(rt: &impl Abort, alloc: Global, port: &mut P) -> Result<(), Fail> {
     let mut reader = Subscription::new(0);
     let mut names = Vec::new(alloc);
     for (letters, max) in [("abc", 2), ("d", 0), ("", 1), ("ef", 100), ("", 100)] {
         desire_each(rt, port, letters.as_bytes())?;
-        let events = reader.poll(alloc, port, max)?;
+        let events = poll(rt, alloc, port, &mut reader, max)?;
         names.extend_from_slice(&desired_by(alloc, events.items())?)?;
     }
     assert_eq!(rt; names.as_slice(), b"abcdef".as_slice());
