@@ -77,11 +77,11 @@ fn who_has_not_joined_is_down(rt: HostRuntime) -> Result<(), Fail> {
 }
 
 fn at_once(turn: &Turn, end: CallEnd) -> Story {
-    row(&nothing(), turn, one_end(end), joined(NONE))
+    row(nothing(), turn, one_end(end), joined(NONE))
 }
 
 fn later(before: &Turn, turn: &Turn, end: CallEnd, left: Left) -> Story {
-    row(&behind(before), turn, one_end(end), left)
+    row(behind(before), turn, one_end(end), left)
 }
 
 // The board has a task RUNNING when its container comes up.

@@ -2,7 +2,7 @@
 use super::names::{Names, claim, start, up};
 use super::stories::{
     NONE, RESERVED, RUNNING, States, Story, behind, behind_two, draining, nothing, one_end, row,
-    step, tell, two_ends,
+    step, tell, three_ends, two_ends,
 };
 use super::{Site, done, same, site_of, take_done};
 use crate::Turn;
@@ -106,8 +106,8 @@ fn what_runs_on_an_emptied_cell_runs_on(rt: HostRuntime) -> Result<(), Fail> {
 // A task's container stays RESERVED: only what is an instance's is given back or placed anew.
 fn beside_a_task(names: &Names, first: &Turn, states: States) -> Story {
     let before = behind_two(first, &claim(names.task()));
-    let mut story = row(&before, &Turn::Evacuate, one_end(done(6)), draining(states));
-    story.ends = [Some(done(6)), Some(done(7)), Some(same(8))];
+    let mut story = row(before, &Turn::Evacuate, one_end(done(6)), draining(states));
+    story.ends = three_ends(done(6), done(7), same(8));
     story
 }
 
@@ -125,13 +125,8 @@ fn an_emptied_cell_gives_back_what_does_not_run(rt: HostRuntime) -> Result<(), F
     let stories = [
         beside_a_task(&names, &claim(names.lrp()), RESERVED),
         beside_a_task(&names, &names.run(), both),
-        row(&nothing(), &Turn::Evacuate, first, draining(NONE)),
-        row(
-            &behind(&Turn::Drain),
-            &Turn::Evacuate,
-            again,
-            draining(NONE),
-        ),
+        row(nothing(), &Turn::Evacuate, first, draining(NONE)),
+        row(behind(&Turn::Drain), &Turn::Evacuate, again, draining(NONE)),
     ];
     Ok(tell(&rt, rt.alloc(), &names, &stories)?)
 }

@@ -22,7 +22,7 @@ fn stale(epoch: u64) -> CallEnd {
 // The first act behind the move of the name.
 fn at_once(names: &Names, turn: &Turn) -> Story {
     let before = behind(&names.join_elsewhere());
-    row(&before, turn, one_end(stale(4)), joined(NONE))
+    row(before, turn, one_end(stale(4)), joined(NONE))
 }
 
 #[test]
@@ -47,8 +47,8 @@ fn has_none_left(names: &Names) -> [Story; 2] {
     let one = behind_two(&claim(names.lrp()), &moved);
     let both = behind_three(&claim(names.task()), &names.run(), &moved);
     [
-        row(&one, &up(), one_end(stale(5)), joined(NONE)),
-        row(&both, &settle(), two_ends(stale(6), stale(6)), joined(NONE)),
+        row(one, &up(), one_end(stale(5)), joined(NONE)),
+        row(both, &settle(), two_ends(stale(6), stale(6)), joined(NONE)),
     ]
 }
 
@@ -60,13 +60,13 @@ fn a_container_that_is_told_of_goes(rt: HostRuntime) -> Result<(), Fail> {
 
 fn ended(names: &Names, before: &Turn, turn: &Turn) -> Story {
     let before = behind_two(before, &names.join_elsewhere());
-    row(&before, turn, one_end(done(6)), joined(NONE))
+    row(before, turn, one_end(done(6)), joined(NONE))
 }
 
 // A cell that was being emptied before its name moved.
 fn given_back(names: &Names, before: &Turn, left: Left) -> Story {
     let before = behind_three(before, &Turn::Drain, &names.join_elsewhere());
-    row(&before, &settle(), one_end(done(7)), left)
+    row(before, &settle(), one_end(done(7)), left)
 }
 
 #[test]

@@ -62,7 +62,7 @@ fn run_another(names: &Names) -> Turn {
 
 // No row waits for what the cell makes room for.
 fn unwanted(turn: &Turn) -> Story {
-    row(&nothing(), turn, one_end(refused(UNKNOWN, 4)), joined(NONE))
+    row(nothing(), turn, one_end(refused(UNKNOWN, 4)), joined(NONE))
 }
 
 // The first container of a cell that joined as the board's first transition loses its row.
@@ -72,7 +72,7 @@ fn dropped(names: &Names, before: &Turn, turn: &Turn) -> Story {
         number: 1,
     };
     let before = behind_two(before, &names.remove(instance));
-    row(&before, turn, one_end(refused(UNKNOWN, 6)), joined(NONE))
+    row(before, turn, one_end(refused(UNKNOWN, 6)), joined(NONE))
 }
 
 #[test]
@@ -98,7 +98,7 @@ fn what_has_no_row_is_refused(rt: HostRuntime) -> Result<(), Fail> {
 // A client has given the task up, which is its outcome.
 fn cancelled(names: &Names, turn: &Turn) -> Story {
     let before = behind_two(&claim(names.task()), &names.cancel());
-    row(&before, turn, one_end(refused(HAS_ENDED, 6)), joined(NONE))
+    row(before, turn, one_end(refused(HAS_ENDED, 6)), joined(NONE))
 }
 
 // A cell that is emptied gives up what has no row more.

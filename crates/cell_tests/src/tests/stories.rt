@@ -91,9 +91,13 @@ pub fn two_ends(one: CallEnd, two: CallEnd) -> Ends {
     [Some(one), Some(two), None]
 }
 
-pub fn row(before: &Turns, turn: &Turn, ends: Ends, left: Left) -> Story {
+pub fn three_ends(one: CallEnd, two: CallEnd, three: CallEnd) -> Ends {
+    [Some(one), Some(two), Some(three)]
+}
+
+pub fn row(before: Turns, turn: &Turn, ends: Ends, left: Left) -> Story {
     Story {
-        before: *before,
+        before,
         turn: *turn,
         ends,
         left,

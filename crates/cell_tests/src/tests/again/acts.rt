@@ -40,6 +40,10 @@ fn settles(before: &Turn, left: States, at_last: States) -> Tried {
     }
 }
 
+fn first(turn: &Turn) -> [Option<Turn>; 2] {
+    [Some(*turn), None]
+}
+
 // A claim goes on with what a round started.
 fn started(names: &Names) -> Tried {
     let mut tried = twice(&claim(names.lrp()), joined(RESERVED));
@@ -50,7 +54,7 @@ fn started(names: &Names) -> Tried {
 // What came up is no longer RESERVED, so that it takes a settle to tell of it.
 fn came_up(names: &Names) -> Tried {
     let mut tried = twice(&settle(), joined(RUNNING));
-    tried.before = [Some(claim(names.lrp())), None];
+    tried.before = first(&claim(names.lrp()));
     tried.turn = up();
     tried
 }
@@ -139,7 +143,7 @@ fn a_join_that_was_done_unheard_is_done_anew(rt: HostRuntime) -> Result<(), Fail
 // Nothing settles before the board's agreement is heard.
 fn evacuated(names: &Names) -> Tried {
     let mut tried = twice(&Turn::Evacuate, joined(RUNNING));
-    tried.before = [Some(names.run()), None];
+    tried.before = first(&names.run());
     tried.at_last = draining(RUNNING);
     tried
 }
