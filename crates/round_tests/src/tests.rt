@@ -1,0 +1,47 @@
+//! Lives of boards with rounds in them, written down as turns. What must come of a turn follows from the
+//! rules of commands, cells and rounds.
+mod answered;
+mod asked;
+mod boards;
+mod crashes;
+mod failing;
+mod full;
+mod lives;
+mod losses;
+mod naming;
+mod playing;
+mod strays;
+mod turns;
+
+use bbs_model::{Item, Op};
+use boards::{told, told_by_a_board};
+use cell_records::JobName;
+use cell_rep::{CellAct, Delivery};
+use crash_backoff::Moment;
+use diego_names::{Instance, Key, Name};
+use lrp_records::{Actual, LrpState, Presence};
+use naming::{Names, claim, container, desire, join, make, read_names, task, unclaim, undesire};
+use playing::{Counts, asking};
+use std::alloc::Global;
+use std::process::Abort;
+use std::test::Fail;
+use turns::Turn;
+use turns::Turn::{Cell, Client, Evacuate, Gone, Loses, Round, RoundLoses};
+
+// Everything that waits on the cell comes up.
+const UP: CellAct = CellAct::Up { job: None };
+
+// A round at this second, after these turns, must do these operations, one after another.
+fn round_does(
+    rt: &impl Abort,
+    alloc: Global,
+    story: &[(u32, Turn)],
+    now: u32,
+    ops: &[Op],
+) -> Result<(), Fail> {
+    let mut turns = story.to_vec(alloc)?;
+    turns.push((now, Round))?;
+    let told = told(alloc, &turns)?;
+    assert_eq!(rt; told.last(alloc)?.as_slice(), ops, "at {now}");
+    Ok(())
+}
