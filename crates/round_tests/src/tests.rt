@@ -13,14 +13,14 @@ mod playing;
 mod strays;
 mod turns;
 
-use bbs_model::{Item, Op};
+use bbs_model::Op;
 use boards::{told, told_by_a_board};
 use cell_records::JobName;
 use cell_rep::{CellAct, Delivery};
 use crash_backoff::Moment;
 use diego_names::{Instance, Key, Name};
 use lrp_records::{Actual, LrpState, Presence};
-use naming::{Names, claim, container, desire, join, make, read_names, task, unclaim, undesire};
+use naming::*;
 use playing::{Counts, asking};
 use std::alloc::Global;
 use std::process::Abort;
@@ -31,6 +31,17 @@ use turns::Turn::{Cell, Client, Evacuate, Gone, Loses, Round, RoundLoses};
 // Everything that waits on the cell comes up.
 const UP: CellAct = CellAct::Up { job: None };
 
+// A story that goes on.
+fn then(
+    alloc: Global,
+    story: &[(u32, Turn)],
+    more: &[(u32, Turn)],
+) -> Result<Vec<(u32, Turn)>, Fail> {
+    let mut turns = story.to_vec(alloc)?;
+    turns.extend_from_slice(more)?;
+    Ok(turns)
+}
+
 // A round at this second, after these turns, must do these operations, one after another.
 fn round_does(
     rt: &impl Abort,
@@ -39,8 +50,7 @@ fn round_does(
     now: u32,
     ops: &[Op],
 ) -> Result<(), Fail> {
-    let mut turns = story.to_vec(alloc)?;
-    turns.push((now, Round))?;
+    let turns = then(alloc, story, &[(now, Round)])?;
     let told = told(alloc, &turns)?;
     assert_eq!(rt; told.last(alloc)?.as_slice(), ops, "at {now}");
     Ok(())

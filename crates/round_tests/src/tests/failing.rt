@@ -66,12 +66,32 @@ const LOAD: u64 = 7;
 
 const APPEND: u64 = 4;
 
-#[test]
-fn a_round_ends_where_its_disk_fails_and_the_next_one_does_the_rest(
-    rt: HostRuntime,
+// The items of the story.
+const BEFORE: u64 = 5;
+
+// What the round does, each by one append, behind the five items of the story.
+fn done_by(names: &Names) -> [Op; 4] {
+    let other = Key {
+        process: names.job,
+        index: 0,
+    };
+    [
+        make(other),
+        unclaim(names.web(0), container(0, 1)),
+        claim(names.web(0), container(0, 2), names.c1),
+        place_fail(other),
+    ]
+}
+
+// The device call of this number fails, within the round's operation at this place.
+fn fails_within(
+    rt: &impl Abort,
+    alloc: Global,
+    names: &Names,
+    at: u64,
+    op: &Op,
+    failing: u64,
 ) -> Result<(), Fail> {
-    let alloc = rt.alloc();
-    let names = read_names()?;
     let story = [
         (0, Cell(0, join(names.z1, 600))),
         (0, Client(desire(names.web, 1))),
@@ -79,37 +99,38 @@ fn a_round_ends_where_its_disk_fails_and_the_next_one_does_the_rest(
         (2, Client(desire_elsewhere(names.job))),
         (2, Gone(0, container(0, 1))),
     ];
-    let (web, other) = (
-        names.web(0),
-        Key {
-            process: names.job,
-            index: 0,
-        },
-    );
-    // What the round does, each by one append, behind the five of the story.
-    let ops = [
-        make(other),
-        unclaim(web, container(0, 1)),
-        claim(web, container(0, 2), names.c1),
-        Op::PlaceFail { key: other },
-    ];
-    for (at, op) in ops.iter().enumerate() {
+    let place = BEFORE + at;
+    let disk = disk_with(alloc, &[0; 3], &[failing])?;
+    let (fault, counts, log) = rounds_over(alloc, disk, &story)?;
+    let now = Moment(3);
+    let doubt = Item::Doubt(CALLER, Command { now, op: *op });
+    // A claim that is in doubt leaves a container, which the next round stops.
+    let next = Counts {
+        unplaced: 1,
+        stopped: usize::from(at == 2),
+        ..asking(1, 4 - at)
+    };
+    let is_told = (fault, log.get(place as usize), counts)
+        == (CallFault::Disk { place }, Some(&doubt), next);
+    assert!(rt; is_told, "at {failing}: {counts:?}");
+    Ok(())
+}
+
+#[test]
+fn a_round_ends_where_its_disk_fails_and_the_next_one_does_the_rest(
+    rt: HostRuntime,
+) -> Result<(), Fail> {
+    let (alloc, names) = (rt.alloc(), &read_names()?);
+    for (at, op) in (0u64..4).zip(done_by(names).iter()) {
         for call in 1..APPEND + 1 {
-            let place = 5 + at as u64;
-            let failing = LOAD + APPEND * place + call;
-            let disk = disk_with(alloc, &[0; 3], &[failing])?;
-            let (fault, counts, log) = rounds_over(alloc, disk, &story)?;
-            let now = Moment(3);
-            let doubt = Item::Doubt(CALLER, Command { now, op: *op });
-            // A claim that is in doubt leaves a container, which the next round stops.
-            let next = Counts {
-                unplaced: 1,
-                stopped: usize::from(at == 2),
-                ..asking(1, 4 - at as u64)
-            };
-            let is_told = (fault, log.get(place as usize), counts)
-                == (CallFault::Disk { place }, Some(&doubt), next);
-            assert!(rt; is_told, "at {failing}: {counts:?}");
+            fails_within(
+                &rt,
+                alloc,
+                names,
+                at,
+                op,
+                LOAD + APPEND * (BEFORE + at) + call,
+            )?;
         }
     }
     Ok(())

@@ -16,7 +16,7 @@ fn rounds_are(
     rounds: &[Counts],
     number: u32,
 ) -> Result<(), Fail> {
-    let names = read_names()?;
+    let names = &read_names()?;
     let story = [
         (0, Cell(0, join(names.z1, 600))),
         (0, Client(desire(names.web, 1))),

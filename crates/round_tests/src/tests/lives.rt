@@ -32,9 +32,8 @@ fn moved(names: &Names) -> [(u32, Turn); 10] {
 fn an_instance_moves_and_its_old_row_is_dropped_once_the_new_one_runs(
     rt: HostRuntime,
 ) -> Result<(), Fail> {
-    let alloc = rt.alloc();
-    let names = read_names()?;
-    let told = told_by_a_board(alloc, &moved(&names))?;
+    let (alloc, names) = (rt.alloc(), &read_names()?);
+    let told = told_by_a_board(alloc, &moved(names))?;
     let rounds = [
         asking(1, 2),
         Counts {
@@ -64,9 +63,8 @@ fn an_instance_moves_and_its_old_row_is_dropped_once_the_new_one_runs(
 fn an_instance_without_room_has_an_error_and_keeps_its_old_row(
     rt: HostRuntime,
 ) -> Result<(), Fail> {
-    let alloc = rt.alloc();
-    let names = read_names()?;
-    let told = told_by_a_board(alloc, &moved(&names)[..6])?;
+    let (alloc, names) = (rt.alloc(), &read_names()?);
+    let told = told_by_a_board(alloc, &moved(names)[..6])?;
     let kept = running(
         names.web(0),
         Presence::Evacuating,
@@ -95,8 +93,7 @@ fn an_instance_without_room_has_an_error_and_keeps_its_old_row(
 fn a_cell_that_was_not_heard_keeps_its_work_until_its_lease_ends(
     rt: HostRuntime,
 ) -> Result<(), Fail> {
-    let alloc = rt.alloc();
-    let names = read_names()?;
+    let (alloc, names) = (rt.alloc(), &read_names()?);
     let story = [
         (0, Cell(0, join(names.z1, 600))),
         (0, Cell(1, join(names.z2, 3600))),
@@ -116,7 +113,7 @@ fn a_cell_that_was_not_heard_keeps_its_work_until_its_lease_ends(
         asking(1, 3),
     ];
     let ops = [
-        Op::Vanish { cell: names.c1 },
+        vanish(names.c1),
         unclaim(names.web(0), container(0, 1)),
         claim(names.web(0), container(1, 1), names.c2),
     ];
@@ -131,13 +128,8 @@ fn a_cell_that_was_not_heard_keeps_its_work_until_its_lease_ends(
 
 #[test]
 fn a_container_whose_claim_was_lost_is_stopped(rt: HostRuntime) -> Result<(), Fail> {
-    let alloc = rt.alloc();
-    let names = read_names()?;
-    let lost = CellAct::Claim {
-        job: JobName::Lrp(names.web(0)),
-        memory: 64,
-        disk: 64,
-    };
+    let (alloc, names) = (rt.alloc(), &read_names()?);
+    let lost = take(JobName::Lrp(names.web(0)));
     let story = [
         (0, Cell(0, join(names.z1, 600))),
         (1, Loses(0, lost, Delivery::CallLost)),

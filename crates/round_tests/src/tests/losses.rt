@@ -10,7 +10,7 @@ fn lost_once(
     end: Delivery,
     rounds: &[Counts],
 ) -> Result<(), Fail> {
-    let names = read_names()?;
+    let names = &read_names()?;
     let story = [
         (0, Cell(0, join(names.z1, 600))),
         (0, Client(desire(names.web, 1))),
@@ -84,29 +84,31 @@ fn a_claim_whose_reply_was_lost_stands(rt: HostRuntime) -> Result<(), Fail> {
     lost_once(&rt, alloc, 3, Delivery::ReplyLost, &rounds)
 }
 
+// A container whose claim was lost, a round that loses its stop so, and two rounds more.
+fn stop_lost(names: &Names, end: Delivery) -> [(u32, Turn); 5] {
+    [
+        (0, Cell(0, join(names.z1, 600))),
+        (
+            1,
+            Loses(0, take(JobName::Lrp(names.web(0))), Delivery::CallLost),
+        ),
+        (2, RoundLoses(2, end)),
+        (3, Round),
+        (4, Round),
+    ]
+}
+
 #[test]
 fn a_stop_that_was_lost_is_made_in_the_next_round(rt: HostRuntime) -> Result<(), Fail> {
-    let alloc = rt.alloc();
-    let names = read_names()?;
-    let key = names.web(0);
-    let job = JobName::Lrp(key);
-    let (memory, disk) = (64, 64);
-    let unheard = Loses(0, CellAct::Claim { job, memory, disk }, Delivery::CallLost);
+    let (alloc, names) = (rt.alloc(), &read_names()?);
+    let second = Counts {
+        stopped: 1,
+        ..asking(1, 0)
+    };
     for end in [Delivery::CallLost, Delivery::ReplyLost] {
-        let story = [
-            (0, Cell(0, join(names.z1, 600))),
-            (1, unheard),
-            (2, RoundLoses(2, end)),
-            (3, Round),
-            (4, Round),
-        ];
-        let told = told_by_a_board(alloc, &story)?;
-        let second = Counts {
-            stopped: 1,
-            ..asking(1, 0)
-        };
-        let is_told = told.rounds() == [losing_one(0), second, asking(1, 0)].as_slice();
-        assert!(rt; is_told, "{end:?}");
+        let told = told_by_a_board(alloc, &stop_lost(names, end))?;
+        let rounds = [losing_one(0), second, asking(1, 0)];
+        assert_eq!(rt; told.rounds(), rounds.as_slice(), "{end:?}");
     }
     Ok(())
 }

@@ -1,6 +1,6 @@
 //! The names of the stories, and the commands and acts in them.
 use bbs_model::Op;
-use cell_records::Amounts;
+use cell_records::{Amounts, JobName};
 use cell_rep::CellAct;
 use diego_names::{Instance, Key, Name};
 use lrp_records::Desired;
@@ -70,10 +70,6 @@ pub fn desire(process: Name, instances: u32) -> Op {
     Op::Desire { desired }
 }
 
-pub fn undesire(process: Name) -> Op {
-    Op::Undesire { process }
-}
-
 pub fn task(name: Name) -> Op {
     let (memory, disk, tag) = (64, 64, None);
     Op::NewTask {
@@ -84,8 +80,28 @@ pub fn task(name: Name) -> Op {
     }
 }
 
+pub fn undesire(process: Name) -> Op {
+    Op::Undesire { process }
+}
+
+pub fn vanish(cell: Name) -> Op {
+    Op::Vanish { cell }
+}
+
 pub fn make(key: Key) -> Op {
     Op::Make { key }
+}
+
+pub fn restart(key: Key) -> Op {
+    Op::Restart { key }
+}
+
+pub fn place_fail(key: Key) -> Op {
+    Op::PlaceFail { key }
+}
+
+pub fn remove(key: Key, instance: Option<Instance>) -> Op {
+    Op::Remove { key, instance }
 }
 
 pub fn claim(key: Key, instance: Instance, cell: Name) -> Op {
@@ -98,4 +114,36 @@ pub fn claim(key: Key, instance: Instance, cell: Name) -> Op {
 
 pub fn unclaim(key: Key, instance: Instance) -> Op {
     Op::Unclaim { key, instance }
+}
+
+pub fn crashed(key: Key, instance: Instance) -> Op {
+    Op::Crash { key, instance }
+}
+
+pub fn drop_evacuating(key: Key, instance: Instance) -> Op {
+    Op::DropEvacuating { key, instance }
+}
+
+pub fn cancel(name: Name) -> Op {
+    Op::CancelTask { name }
+}
+
+/// The cell makes room for it.
+pub fn take(job: JobName) -> CellAct {
+    let (memory, disk) = (64, 64);
+    CellAct::Claim { job, memory, disk }
+}
+
+/// The cell makes room for it, and runs it.
+pub fn run(key: Key) -> CellAct {
+    let (memory, disk) = (64, 128);
+    CellAct::Run { key, memory, disk }
+}
+
+pub fn crash(key: Key) -> CellAct {
+    CellAct::Crash { key }
+}
+
+pub fn finish(name: Name, failed: bool) -> CellAct {
+    CellAct::Finish { name, failed }
 }

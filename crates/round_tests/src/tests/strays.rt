@@ -12,17 +12,9 @@ fn strays_are(
     Ok(())
 }
 
-// The cell claims it, and the board isn't told.
-fn claims_unheard(at: usize, job: JobName) -> Turn {
-    let (memory, disk) = (64, 64);
-    Loses(at, CellAct::Claim { job, memory, disk }, Delivery::CallLost)
-}
-
 #[test]
 fn a_container_that_a_row_names_is_no_stray_unless_it_ended(rt: HostRuntime) -> Result<(), Fail> {
-    let alloc = rt.alloc();
-    let names = read_names()?;
-    let key = names.web(0);
+    let (alloc, names) = (rt.alloc(), &read_names()?);
     let story = [
         (0, Cell(0, join(names.z1, 9000))),
         (0, Client(desire(names.web, 1))),
@@ -34,44 +26,36 @@ fn a_container_that_a_row_names_is_no_stray_unless_it_ended(rt: HostRuntime) -> 
     // The auction places the instance first, and then the task.
     strays_are(&rt, alloc, &story[..4], &[])?;
     strays_are(&rt, alloc, &story, &[])?;
-    let unheard = Loses(0, CellAct::Crash { key }, Delivery::CallLost);
-    let [a, b, c, d, e, f] = story;
-    strays_are(
-        &rt,
-        alloc,
-        &[a, b, c, d, e, f, (4, unheard)],
-        &[(names.c1, container(0, 1))],
-    )?;
-    let name = names.job;
-    let failed = true;
-    let unheard = Loses(0, CellAct::Finish { name, failed }, Delivery::CallLost);
-    strays_are(
-        &rt,
-        alloc,
-        &[a, b, c, d, e, (4, unheard)],
-        &[(names.c1, container(0, 2))],
-    )
+    let unheard = Loses(0, crash(names.web(0)), Delivery::CallLost);
+    let crashed = then(alloc, &story, &[(4, unheard)])?;
+    strays_are(&rt, alloc, &crashed, &[(names.c1, container(0, 1))])?;
+    let unheard = Loses(0, finish(names.job, true), Delivery::CallLost);
+    let finished = then(alloc, &story[..5], &[(4, unheard)])?;
+    strays_are(&rt, alloc, &finished, &[(names.c1, container(0, 2))])
+}
+
+// Three containers whose claims were lost. The second cell joins first.
+fn three_left(names: &Names) -> [(u32, Turn); 6] {
+    let lost = Delivery::CallLost;
+    [
+        (0, Cell(1, join(names.z2, 9000))),
+        (0, Cell(0, join(names.z1, 9000))),
+        (1, Loses(1, take(JobName::Lrp(names.web(0))), lost)),
+        (1, Loses(0, take(JobName::Task(names.job)), lost)),
+        (1, Loses(0, take(JobName::Lrp(names.web(0))), lost)),
+        (2, Round),
+    ]
 }
 
 #[test]
 fn a_container_that_no_row_names_is_a_stray(rt: HostRuntime) -> Result<(), Fail> {
-    let alloc = rt.alloc();
-    let names = read_names()?;
-    let (web, job) = (JobName::Lrp(names.web(0)), JobName::Task(names.job));
-    // The second cell joins first. What is left over stands by cell and number.
-    let story = [
-        (0, Cell(1, join(names.z2, 9000))),
-        (0, Cell(0, join(names.z1, 9000))),
-        (1, claims_unheard(1, web)),
-        (1, claims_unheard(0, job)),
-        (1, claims_unheard(0, web)),
-        (2, Round),
-    ];
+    let (alloc, names) = (rt.alloc(), &read_names()?);
     let left = [
         (names.c1, container(1, 1)),
         (names.c1, container(1, 2)),
         (names.c2, container(0, 1)),
     ];
+    let story = three_left(names);
     strays_are(&rt, alloc, &story[..5], &left)?;
     let told = told(alloc, &story)?;
     let Some(report) = &told.end.report else {
@@ -84,8 +68,7 @@ fn a_container_that_no_row_names_is_a_stray(rt: HostRuntime) -> Result<(), Fail>
 
 #[test]
 fn a_container_whose_row_was_removed_is_a_stray(rt: HostRuntime) -> Result<(), Fail> {
-    let alloc = rt.alloc();
-    let names = read_names()?;
+    let (alloc, names) = (rt.alloc(), &read_names()?);
     let story = [
         (0, Cell(0, join(names.z1, 9000))),
         (0, Client(desire(names.web, 1))),
@@ -98,7 +81,6 @@ fn a_container_whose_row_was_removed_is_a_stray(rt: HostRuntime) -> Result<(), F
         ..asking(1, 1)
     };
     let told = told(alloc, &story)?;
-    let is_told = told.rounds() == [asking(1, 2), counts].as_slice();
-    assert!(rt; is_told);
+    assert_eq!(rt; told.rounds(), [asking(1, 2), counts].as_slice());
     Ok(())
 }
