@@ -9,3 +9,4 @@ pub mod HeardLaws
 pub mod Apart
 pub mod JobsApart
 pub mod RoundLaws
+pub mod CellJobLaws

@@ -1,6 +1,7 @@
 pub mod Each
 pub mod Tallies
 pub mod Callings
+pub mod CellJobs
 pub mod Sendings
 pub mod Reps
 pub mod Jobs

@@ -2,6 +2,7 @@
 ghost use Rattle.std.specs.Prelude.{◌≡◌, ◌<◌, ℕ, List, length, slice_get, Some, IfOk, OnOk};
 ghost use Rattle.bbs_model.specs.Valid.{IsValid};
 ghost use Rattle.converge_round.specs.Callings.{AreOf};
+ghost use Rattle.converge_round.specs.CellJobs.{AreCellJobs};
 ghost use Rattle.converge_round.specs.Each.{Each};
 ghost use Rattle.converge_round.specs.Items.{HasItems};
 ghost use Rattle.converge_round.specs.Phases as told;
@@ -11,9 +12,10 @@ ghost use Rattle.converge_round.specs.Rounds.{IsRound, standing};
 ghost use Rattle.converge_round.specs.Sendings.{wire_at};
 ghost use Rattle.converge_round.specs.Starts.{IsClaimOfOne};
 
+use crate::cell_jobs::CellJobs;
 use crate::closing::{call_fails, report_of};
 use crate::opening::open_round;
-use crate::placing::{Places, jobs_on};
+use crate::placing::Places;
 use crate::rep_index::RepIndex;
 use crate::starting::claim_on;
 use crate::tally::Tally;
@@ -63,11 +65,12 @@ fn start_on<P: Port, W: Wire>(
     wire: &mut W,
     now: Moment,
     places: &Places,
+    kept: &CellJobs,
     answer: &Answer,
     tally: &mut Tally,
 ) -> Result<(), CallFault>
     requires index { IsRepIndex (names_of cells.old) index.now }
-    requires valid { IsValid places.now.rows }
+    requires kept { AreCellJobs places.now.rows places.now.placements kept.now }
     ensures keeps { P.keeps port.old port.new }
     ensures number { P.number port.new ≡ P.number port.old }
     ensures own { AreOf (P.number port.old) (IsClaimOfOne now answer.entry.now.cell
@@ -81,14 +84,12 @@ fn start_on<P: Port, W: Wire>(
         (told.course (P.view port.new) tally.new cells.new
         (wire_at (W.ends wire.new) (W.losses wire.new)))) }
 {
-    let cell = answer.cell;
-    let jobs = match jobs_on(alloc, &places.rows, places.placements.items(), &cell) {
-        Err(_) => return Err(CallFault::OutOfMemory),
-        Ok(jobs) => jobs,
-    };
-    match index.find(&cell) {
+    match index.find(&answer.cell) {
         None => Ok(()),
-        Some(at) => claim_at(alloc, port, cells, at, wire, jobs.items(), now, tally),
+        Some(at) => {
+            let jobs = kept.on(&answer.cell);
+            claim_at(alloc, port, cells, at, wire, jobs, now, tally)
+        }
     }
 }
 
@@ -118,8 +119,14 @@ fn start_each<P: Port, W: Wire>(
         (told.course (P.view port.new) tally.new cells.new
         (wire_at (W.ends wire.new) (W.losses wire.new)))) }
 {
+    let kept = match CellJobs::of(alloc, &places.rows, places.placements.items()) {
+        Err(_) => return Err(CallFault::OutOfMemory),
+        Ok(kept) => kept,
+    };
     for answer in places.roomy.items() {
-        match start_on(alloc, port, cells, index, wire, now, places, answer, tally) {
+        match start_on(
+            alloc, port, cells, index, wire, now, places, &kept, answer, tally,
+        ) {
             Err(fault) => return Err(fault),
             Ok(()) => {}
         }

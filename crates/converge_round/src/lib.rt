@@ -5,6 +5,7 @@
 mod adding;
 mod asking;
 mod calls;
+mod cell_jobs;
 mod closing;
 mod converging;
 mod jobs;

@@ -9,11 +9,11 @@ ghost use Rattle.converge_round.specs.Reps.{names_of, IsRepIndex};
 
 use crate::adding::add;
 use crate::asking::{add_answer, answer_of_cell};
-use crate::jobs::{jobs_of, named_job};
+use crate::jobs::jobs_of;
 use crate::rep_index::RepIndex;
 use auctioneer::{Placement, run_auction};
 use bbs_model::{Command, Op, Rows};
-use cell_records::{Answer, Job, JobName};
+use cell_records::{Answer, JobName};
 use cell_rep::CellRep;
 use convergence::find_sorted;
 use crash_backoff::Moment;
@@ -139,40 +139,6 @@ pub(crate) fn place_on(
             }),
         },
     }
-}
-
-/// The job of a placement, if it is on that cell.
-fn job_on(rows: &Rows, cell: &Name, placement: &Placement) -> Option<Job>
-    requires { IsValid rows.now }
-    ensures { result ≡ told.job_on rows.now cell.now placement.now }
-{
-    match placement {
-        Placement::NoRoom { .. } => None,
-        Placement::On { job, cell: other } => {
-            if other == cell {
-                named_job(rows, job)
-            } else {
-                None
-            }
-        }
-    }
-}
-
-/// The jobs that go to that cell, in the order of the auction.
-pub(crate) fn jobs_on(
-    alloc: Global,
-    rows: &Rows,
-    placements: &[Placement],
-    cell: &Name,
-) -> Result<List<Job>, OutOfMemory>
-    requires { IsValid rows.now }
-    ensures { IfOk result (λ jobs. jobs ≡ told.jobs_on rows.now placements.now cell.now) }
-{
-    let mut jobs = List::new(alloc);
-    for placement in placements {
-        add(&mut jobs, job_on(rows, cell, placement))?;
-    }
-    Ok(jobs)
 }
 
 /// The job that no cell had room for, if there was none.

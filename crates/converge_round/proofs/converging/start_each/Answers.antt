@@ -20,7 +20,7 @@ loop-answer-init g c = record {
 pub loop-answer-preserved : goal.loop-answer-preserved
 loop-answer-preserved g c =
     let i = c.loop-answer.invariant in
-    let p = c.in-Ok.ensures in
+    let p = c.in-Ok-start_on.ensures in
     let places = c.args.places.now in
     let k = c.loop-answer.answer-index in
     let item = c.answer-item.result in
@@ -36,8 +36,11 @@ loop-answer-preserved g c =
       serves = each-more-by (λ by. ServesOne by c.args.now places) _ _ places.roomy k item _ _ _ i.number within is i.serves p.serves;
     }
 
-pub returns-in-Err-clause-own : goal.returns-in-Err-clause-own
-returns-in-Err-clause-own g c =
+pub returns-in-Err-clause-own : goal.returns-in-Err-CellJobs-clause-own
+returns-in-Err-clause-own g c = own_none _ _ _
+
+pub returns-in-Err-start_on-clause-own : goal.returns-in-Err-start_on-clause-own
+returns-in-Err-start_on-clause-own g c =
     let i = c.loop-answer.invariant in
     let places = c.args.places.now in
     let k = c.loop-answer.answer-index in
@@ -45,7 +48,7 @@ returns-in-Err-clause-own g c =
     let within : k < length places.roomy = subst (λ (xs : List Answer). k < length xs) c.items-answer-items.ensures c.loop-answer-test.true in
     let is : item ≡ get_or places.roomy k item = subst (λ (xs : List Answer). item ≡ get_or xs k item) c.items-answer-items.ensures c.answer-item.is in
     own_more _ _ (IsClaimFor c.args.now places places.roomy) _ _ _ _ i.number
-    (claim_for_one c.args.now places k item within is) i.own c.in-Err.ensures.own
+    (claim_for_one c.args.now places k item within is) i.own c.in-Err-start_on.ensures.own
 
-pub returns-in-Err-clause-cells : goal.returns-in-Err-clause-cells
-returns-in-Err-clause-cells g c = keep-then _ _ _ c.loop-answer.invariant.cells c.in-Err.ensures.cells
+pub returns-in-Err-start_on-clause-cells : goal.returns-in-Err-start_on-clause-cells
+returns-in-Err-start_on-clause-cells g c = keep-then _ _ _ c.loop-answer.invariant.cells c.in-Err-start_on.ensures.cells
