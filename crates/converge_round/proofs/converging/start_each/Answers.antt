@@ -36,7 +36,7 @@ loop-answer-preserved g c =
       serves = each-more-by (λ by. ServesOne by c.args.now places) _ _ places.roomy k item _ _ _ i.number within is i.serves p.serves;
     }
 
-pub returns-in-Err-clause-own : goal.returns-in-Err-CellJobs-clause-own
+pub returns-in-Err-clause-own : goal.returns-in-Err-clause-own
 returns-in-Err-clause-own g c = own_none _ _ _
 
 pub returns-in-Err-start_on-clause-own : goal.returns-in-Err-start_on-clause-own
@@ -52,3 +52,6 @@ returns-in-Err-start_on-clause-own g c =
 
 pub returns-in-Err-start_on-clause-cells : goal.returns-in-Err-start_on-clause-cells
 returns-in-Err-start_on-clause-cells g c = keep-then _ _ _ c.loop-answer.invariant.cells c.in-Err-start_on.ensures.cells
+
+pub returns-in-Err-clause-cells : goal.returns-in-Err-clause-cells
+returns-in-Err-clause-cells g c = keep-same _
