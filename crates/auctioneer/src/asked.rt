@@ -6,7 +6,7 @@ use cell_records::{Amounts, Answer, Job};
 
 /// Whether no two jobs have one name. It compares each two of them.
 pub fn are_jobs(jobs: &[Job]) -> bool
-    ensures { IsTrue result → AreJobs jobs.now }
+    ensures { IsTrue result ↔ AreJobs jobs.now }
 {
     for i in 0..jobs.len() {
         for j in 0..i {
@@ -20,7 +20,7 @@ pub fn are_jobs(jobs: &[Job]) -> bool
 
 // Whether the sums of an answer are sound.
 fn is_sound(answer: &Answer) -> bool
-    ensures { IsTrue result → IsSoundAnswer answer.now }
+    ensures { IsTrue result ↔ IsSoundAnswer answer.now }
 {
     let Amounts {
         memory,
@@ -36,7 +36,7 @@ fn is_sound(answer: &Answer) -> bool
 /// Whether there are at most 1,000 answers, no two of one cell, each with sums that are within its
 /// totals. It compares each two of them.
 pub fn are_cells(cells: &[Answer]) -> bool
-    ensures { IsTrue result → AreAnswers cells.now }
+    ensures { IsTrue result ↔ AreAnswers cells.now }
 {
     if cells.len() > 1000 {
         return false;
