@@ -1,13 +1,15 @@
 -- A job's container among containers in order of number.
-use Rattle.std.proofs.Common.{◌≡◌, ℕ, zero, suc, ◌+◌, ◌-◌, ◌<◌, Bool, true, false, ◌&&◌, Option, List, length, get_or, nat_lt, Some, None, find, refl, sym, ap, subst, ◌∙◌, arith}
+use Rattle.std.proofs.Common.{◌≡◌, ℕ, zero, suc, ◌+◌, ◌-◌, ◌<◌, Bool, true, false, cond, eqb, ltb, ◌&&◌, Option, List, [], ◌∷◌, length, get_or, nat_lt, Some, None, find, refl, sym, ap, subst, ◌∙◌, arith}
+use Rattle.std.proofs.lemmas.Bool.{ltb-true}
 use Rattle.std.proofs.lemmas.Bool.Decides.{nat_tests}
 use Rattle.std.proofs.lemmas.Cmp.{nat_cmp_total}
+use Rattle.std.proofs.lemmas.List.Elements.{All-head}
 use Rattle.std.specs.Cmp.{nat_cmp_is}
 use Rattle.std.specs.FinMap.{nat_cmp-IsAntisymmetric}
 use Rattle.std.specs.List.{AllAdjacentBelow, IsAllAdjacentAnswer, Contains}
 use Rattle.std.specs.Prelude.{MatchBool}
 use Rattle.std.specs.Ordering.{nat_cmp}
-use Rattle.std.specs.declared.cmp.Ordering.TheVariants.{Less}
+use Rattle.std.specs.declared.cmp.Ordering.TheVariants.{Less, Equal, Greater}
 use Rattle.cell_records.specs.declared.container.Container.{Container}
 use Rattle.cell_records.specs.declared.job_name.JobName.{JobName}
 use Rattle.container_store.specs.Jobs.{is_same_job}
@@ -15,7 +17,7 @@ use Rattle.container_store.specs.Store.{number_of}
 use Rattle.diego_names.specs.declared.instance.Instance.{Instance}
 use Rattle.lrp_records.specs.States.{is_same_instance}
 use Rattle.row_tables.specs.Table.{IsKeyOrder, find_row, IsRising}
-use Rattle.row_tables.proofs.Public.{Contains-find_row, find_row-Contains, IsRising-from_pairs}
+use Rattle.row_tables.proofs.Public.{Contains-find_row, find_row-Contains, IsRising-from_pairs, IsRising-tail, All-above, below_rest}
 use Rattle.convergence.specs.Containers.{is_container_of}
 use Rattle.convergence.proofs.Finds.{find-passes, find-fails}
 
@@ -51,6 +53,38 @@ IsRising-from_adjacent cs answer is said =
     subst (λ (r : Bool). MatchBool r (AllAdjacentBelow (λ (a b : Container). true ≡ nat_lt a.instance.number b.instance.number) cs (length cs))
     ((k : ℕ) × (k + 1 < length cs) × ((d : Container) → false ≡ nat_lt (get_or cs k d).instance.number (get_or cs (k + 1) d).instance.number))) is said in
     IsRising-from_steps cs (λ k d lt. let test : true ≡ nat_lt (number_of (get_or cs k d)) (number_of (get_or cs (k + 1) d)) = all k d lt in grind (arith, nat_tests))
+
+lt_from_less : (a b : ℕ) → nat_cmp a b ≡ Less → a < b
+lt_from_less a b e =
+    elim (ltb a b) as (λ t. ltb a b ≡ t → cond t Less (cond (eqb a b) Equal Greater) ≡ Less → a < b) [
+      | true ↦ λ is h. ltb-true a b is
+      | false ↦ λ is h. elim (eqb a b) as (λ u. cond u Equal Greater ≡ Less → a < b) [ true ↦ λ k. cc | false ↦ λ k. cc ] h
+    ] refl e
+
+first_below : (x : Container) (cs : List Container) (d : Container) → IsRising nat_cmp number_of (x ∷ cs) → 1 < length (x ∷ cs) → number_of x < number_of (get_or cs 0 d)
+first_below x [] d up lt = absurd (omega (arith, lt))
+first_below x (y ∷ cs) d up lt =
+    lt_from_less (number_of x) (number_of y)
+    (All-head (λ z. nat_cmp (number_of x) (number_of z) ≡ Less) y cs (All-above nat_cmp number_of (number_of x) (y ∷ cs) (below_rest nat_cmp number_of x (y ∷ cs) up)))
+
+-- of containers in order each has a lower number than the next
+pub StepUp-from_rising : (cs : List Container) → IsRising nat_cmp number_of cs → StepUp cs
+StepUp-from_rising [] up k d lt = absurd (omega (arith, lt))
+StepUp-from_rising (x ∷ cs) up zero d lt = first_below x cs d up lt
+StepUp-from_rising (x ∷ cs) up (suc k) d lt =
+    let next : suc (k + 1) ≡ suc k + 1 = omega arith in
+    subst (λ (j : ℕ). number_of (get_or (x ∷ cs) (suc k) d) < number_of (get_or (x ∷ cs) j d)) next
+    (StepUp-from_rising cs (IsRising-tail nat_cmp number_of x cs up) k d (omega (arith, lt)))
+
+-- what a test of neighbours says of containers in order
+pub adjacent-from_rising : (cs : List Container) (answer : Bool) → IsRising nat_cmp number_of cs
+    → IsAllAdjacentAnswer (λ (a b : Container) (t : Bool). t ≡ nat_lt a.instance.number b.instance.number) cs answer → answer ≡ true
+adjacent-from_rising cs true up said = refl
+adjacent-from_rising [] false up said = absurd (omega (arith, said.1))
+adjacent-from_rising (x ∷ cs) false up said =
+    let test : false ≡ nat_lt (number_of (get_or (x ∷ cs) said.0 x)) (number_of (get_or (x ∷ cs) (said.0 + 1) x)) = said.2 x in
+    let above : number_of (get_or (x ∷ cs) said.0 x) < number_of (get_or (x ∷ cs) (said.0 + 1) x) = StepUp-from_rising (x ∷ cs) up said.0 x said.1 in
+    absurd (grind (arith, nat_tests))
 
 same_number : (a b : Instance) → is_same_instance a b ≡ true → b.number ≡ a.number
 same_number a b e = grind (arith, nat_tests)

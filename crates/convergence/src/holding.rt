@@ -1,5 +1,5 @@
 //! A job's container among those of a cell.
-ghost use Rattle.std.specs.Prelude.{◌≡◌, true, find};
+ghost use Rattle.std.specs.Prelude.{◌≡◌, ◌↔◌, true, find};
 ghost use Rattle.std.specs.Ordering.{nat_cmp};
 ghost use Rattle.container_store.specs.Changes.{is_uncompleted};
 ghost use Rattle.container_store.specs.Store.{number_of};
@@ -21,7 +21,7 @@ pub fn is_uncompleted(container: &Container) -> bool
 
 /// Whether they are in order of number; if not, they are found by a scan.
 pub fn rises(containers: &[Container]) -> bool
-    ensures { result ≡ true → IsRising nat_cmp number_of containers.now }
+    ensures { result ≡ true ↔ IsRising nat_cmp number_of containers.now }
 {
     containers.is_sorted_by(|a, b| a.instance.number < b.instance.number)
 }
