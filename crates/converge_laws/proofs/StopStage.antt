@@ -2,11 +2,14 @@
 use Rattle.std.proofs.Common.{◌≡◌, ℕ, Bool, true, false, ◌&&◌, ◌||◌, ◌==◌, not, filter, List, Option, Some, None, nat_eq, refl, ap, sym, ◌∙◌, subst}
 use Rattle.std.specs.Cmp.Lexicographic.{pointwise}
 use Rattle.std.specs.List.{AllZip, Contains, flat_map}
+use Rattle.std.specs.Option.{unwrap_or}
+use Rattle.std.specs.Ordering.{nat_cmp}
 use Rattle.cell_records.specs.declared.answer.Answer.{Answer}
 use Rattle.cell_records.specs.declared.container.Container.{Container}
 use Rattle.cell_records.specs.declared.job_name.JobName.{JobName}
 use Rattle.cell_records.specs.declared.job_name.JobName.TheVariants as job
 use Rattle.container_store.specs.Changes.{is_uncompleted}
+use Rattle.container_store.specs.Store.{number_of}
 use Rattle.crash_backoff.specs.declared.moment.Moment.{Moment}
 use Rattle.diego_names.specs.declared.instance.Instance.{Instance}
 use Rattle.diego_names.specs.declared.key.Key.{Key}
@@ -19,6 +22,7 @@ use Rattle.task_records.specs.declared.state.TaskState.{TaskState}
 use Rattle.task_records.specs.declared.state.TaskState.TheVariants as task
 use Rattle.task_records.specs.declared.task.Task.{Task}
 use Rattle.bbs_model.specs.Tables.{find_actual, find_task}
+use Rattle.row_tables.specs.Table.{IsRising}
 use Rattle.task_records.specs.States.{runner_of}
 use Rattle.bbs_model.specs.Work.{is_there}
 use Rattle.bbs_model.specs.declared.rows.Rows.{Rows}
@@ -67,7 +71,7 @@ module _ (rows : Rows) (got before after : List Answer) (now : Moment) (heard : 
       let instances : s.2.instance ≡ c.instance = s.6 in
       let one : s.0 ≡ x = heard.differ s.0 x (heard.inside s.0 s.1) in_x cells in
       let here : Contains x.containers s.2 = subst (λ (y : Answer). Contains y.containers s.2) one s.3 in
-      let same : s.2 ≡ c = one_container x (heard.rising x in_x) s.2 c here in_c instances in
+      let same : s.2 ≡ c = one_container x (subst (λ (y : Answer). IsRising nat_cmp number_of y.containers) one (heard.rising s.0 s.1)) s.2 c here in_c instances in
       let stray : is_stray rows c ≡ true = ap (is_stray rows) (sym same) ∙ s.4 in
       cc
 
@@ -87,7 +91,11 @@ module _ (rows : Rows) (got before after : List Answer) (now : Moment) (heard : 
       let other = find-passes (is_container_of j instance) y.0.containers found.0 found.1 in
       let in_x : Contains h.answer.containers found.0 = ((y.2.left found.0).0 other.0).0 in
       let instances : found.0.instance ≡ h.container.instance = sym (looked_for j instance found.0 other.1).0 ∙ (looked_for j instance h.container at.1).0 in
-      let same : found.0 ≡ h.container = one_container h.answer (heard.rising h.answer in_before) found.0 h.container in_x at.0 instances in
+      let f = found-there rows got before now heard cell instance.epoch h.there in
+      let in_got = (find-passes (is_answer_of cell instance.epoch) got f.answer f.in_got).0 in
+      let one : f.answer ≡ h.answer = ap (λ (o : Option Answer). unwrap_or o f.answer) (sym f.in_stores ∙ h.from) in
+      let rising = subst (λ (x : Answer). IsRising nat_cmp number_of x.containers) one (heard.rising f.answer in_got) in
+      let same : found.0 ≡ h.container = one_container h.answer rising found.0 h.container in_x at.0 instances in
       held-from rows after now j instance cell y.0 found.0 h.there y.1 found.1 (ap (λ (k : Container). is_uncompleted k.state) same ∙ h.runs)
 
   state-stays : (key : Key) (a : Actual) (s : LrpState) → find_actual rows key Ordinary ≡ Some a → a.state ≡ s → a.key ≡ key → MayBePlaced rows before now a s → MayBePlaced rows after now a s

@@ -78,7 +78,7 @@ pub record HaveAnswered (rows : Rows) (got stores : List Answer) (now : Moment) 
   pub inside : (x : Answer) → Contains got x → Contains stores x
   pub differ : (x y : Answer) → Contains stores x → Contains stores y → x.cell ≡ y.cell → x ≡ y
   pub there : (cell : List ℕ) (epoch : ℕ) → is_there rows now cell epoch ≡ true → IsSome (answer_from got cell epoch)
-  pub rising : (x : Answer) → Contains stores x → IsRising nat_cmp number_of x.containers
+  pub rising : (x : Answer) → Contains got x → IsRising nat_cmp number_of x.containers
 
 -- the two are of one cell under one epoch
 pub record IsSameCell (x y : Answer) : Type 0 where

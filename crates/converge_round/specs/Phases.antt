@@ -34,8 +34,9 @@ pub record AreFewApart (answers : List Answer) : Type 0 where
   pub few : length answers ≤ 1000
   pub differ : AllPairs (λ a b. a ≢ b) (map (λ (a : Answer). a.cell) answers)
 
--- each cell that is present by these rows was asked
+-- each cell that is present by these rows, which are valid, was asked
 pub record IsHearing (cells : List CellRep) (rows : Rows) (now : Moment) (s s' : WireAt) (h : Hearing) : Type 0 where
+  pub valid : IsValid rows
   pub asked : h.asked ≡ length (present rows now)
   pub got : Each (AsksOne cells) (present rows now) (questions s []) (questions s' h.got)
   pub apart : AreFewApart h.got

@@ -35,6 +35,16 @@ counted c (ReplyLost (Err why)) t = t
 counted c (Local why) t = lost_one t
 counted c Idle t = lost_one t
 
+-- neither the call nor its reply, if it was lost, was a fault
+abbrev pub HasNoFault : CallEnd → Type 0
+HasNoFault (Got reply) = Unit {0}
+HasNoFault (Fault why) = ⊥
+HasNoFault CallLost = Unit {0}
+HasNoFault (ReplyLost (Ok reply)) = Unit {0}
+HasNoFault (ReplyLost (Err why)) = ⊥
+HasNoFault (Local why) = Unit {0}
+HasNoFault Idle = Unit {0}
+
 -- the command is a claim of that job on that cell
 abbrev pub IsClaim : Moment → List ℕ → Job → Command → Type 0
 IsClaim now cell job c = (i : Instance) × (c ≡ at now (claim_op cell job.job i))
@@ -59,6 +69,7 @@ pub record IsStartTaken (by : ℕ) (now : Moment) (job : Job) (wire : WireAt) (s
   pub answer : Called
   pub started : IsStarted by job now (stage s.rep s.view wire.ends wire.losses [])
       (stage s'.rep s'.view s'.wire.ends s'.wire.losses (answer ∷ []))
+  pub ended : HasNoFault answer.end
   pub counts : s'.tally ≡ counted answer.command answer.end s.tally
 
 -- a start that was lost

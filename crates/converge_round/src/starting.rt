@@ -30,7 +30,8 @@ fn count_answer(
 
 /// The end of a start counts. A reply that was lost counts as if it had been heard, and as a loss.
 fn count_end(tally: &mut Tally, called: &Called) -> Result<(), CallFault>
-    ensures { OnOk result (tally.new
+    ensures ended { OnOk result (told.HasNoFault called.entry.now.end) }
+    ensures counts { OnOk result (tally.new
         ≡ told.counted called.entry.now.command called.entry.now.end tally.old) }
 {
     match &called.end {

@@ -22,6 +22,7 @@ returns g c =
     (questions (wire_at (g.W.Wire.ends c.ask_each.new.wire) (g.W.Wire.losses c.ask_each.new.wire)) c.in_ok-got.got))
     (c.items.ensures ∙ c.in_ok-present.ensures) c.in_ok-got.ensures in
     record {
+      valid = c.requires.valid;
       asked = c.len.ensures ∙ ap length c.in_ok-present.ensures;
       got = got;
       apart = heard_apart c.args.rows.now c.args.now c.args.cells.now _ _ c.requires.valid refl got;
