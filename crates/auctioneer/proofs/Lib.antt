@@ -10,3 +10,4 @@ pub mod SpotOrders
 pub mod SpotLists
 pub mod Offers
 pub mod Groups
+pub mod Public

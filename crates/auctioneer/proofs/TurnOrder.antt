@@ -44,7 +44,7 @@ not_of_tasks : (n : ℕ) → ◌≡◌ {A = ℕ} (cond (eqb n 0) 0 2) 1 → ⊥
 not_of_tasks n =
     elim (eqb n 0) as (λ b. ◌≡◌ {A = ℕ} (cond b 0 2) 1 → ⊥) [ true ↦ λ e. absurd (omega arith) | false ↦ λ e. absurd (omega arith) ]
 
-same_job : (a b : JobName) → class_of a ≡ class_of b → job_name a ≡ job_name b → index_of a ≡ index_of b → a ≡ b
+pub same_job : (a b : JobName) → class_of a ≡ class_of b → job_name a ≡ job_name b → index_of a ≡ index_of b → a ≡ b
 same_job (Lrp a) (Lrp b) c n i = λ k. Lrp (record { process = n k; index = i k })
 same_job (Lrp a) (Task b) c n i = absurd (not_of_tasks a.index c)
 same_job (Task a) (Lrp b) c n i = absurd (not_of_tasks b.index (sym c))

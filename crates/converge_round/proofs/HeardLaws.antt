@@ -18,10 +18,10 @@ pub if_ok : {X E : Type 0} (A B : X → Type 0) (r : Result X E) → ((x : X) �
 if_ok A B (Ok x) f h = f x h
 if_ok A B (Err e) f h = tt
 
-rep_there : (cells : List CellRep) (cell : List ℕ) (at : ℕ) (rep : CellRep) → StandsFor cells cell at rep → slice_get cells at ≡ Some rep
+pub rep_there : (cells : List CellRep) (cell : List ℕ) (at : ℕ) (rep : CellRep) → StandsFor cells cell at rep → slice_get cells at ≡ Some rep
 rep_there cells cell at rep h = slice_get-get_or cells at rep h.within ∙ ap (λ r. Some r) (sym h.is)
 
-name_there : (cells : List CellRep) (cell : List ℕ) (at : ℕ) (rep : CellRep) → StandsFor cells cell at rep → slice_get (names_of cells) at ≡ Some cell
+pub name_there : (cells : List CellRep) (cell : List ℕ) (at : ℕ) (rep : CellRep) → StandsFor cells cell at rep → slice_get (names_of cells) at ≡ Some cell
 name_there cells cell at rep h =
     slice_get-map (λ (r : CellRep). r.cell) cells at
     ∙ ap (option_map (λ (r : CellRep). r.cell)) (rep_there cells cell at rep h) ∙ ap (λ n. Some n) h.cell_is

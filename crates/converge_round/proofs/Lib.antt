@@ -10,3 +10,4 @@ pub mod Apart
 pub mod JobsApart
 pub mod RoundLaws
 pub mod CellJobLaws
+pub mod Public

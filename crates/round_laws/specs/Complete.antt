@@ -5,7 +5,10 @@ use Rattle.bbs_model.specs.Work.{work}
 use Rattle.convergence.specs.Plans.{plan_of_answers}
 use Rattle.convergence.specs.declared.report.Report.{Report}
 use Rattle.converge_laws.specs.Accepted.{AreAccepted}
+use Rattle.converge_laws.specs.Converged.{IsConverged}
 use Rattle.converge_laws.specs.Laws.{after_work, after_plan}
+use Rattle.converge_round.specs.Askings.{StandApart}
+use Rattle.converge_round.specs.Reps.{names_of}
 use Rattle.converge_round.specs.Rounds.{Standing, IsRound}
 use Rattle.crash_backoff.specs.declared.moment.Moment.{Moment}
 
@@ -29,3 +32,9 @@ pub record HasTakenAll (by : ℕ) (now : Moment) (line : ℕ) (s s' : Standing) 
 abbrev pub CompleteRoundsTakeAll : Type 0
 CompleteRoundsTakeAll = (by : ℕ) (now : Moment) (line : ℕ) (s s' : Standing) (r : Report) (h : IsRound by now line s s' r) →
     IsComplete r → HasTakenAll by now line s s' r h
+
+-- where the names of the reps differ, a complete round leaves all as it should be, by the rows that it has seen and what
+-- the reps answer then
+abbrev pub CompleteRoundsConverge : Type 0
+CompleteRoundsConverge = (by : ℕ) (now : Moment) (line : ℕ) (s s' : Standing) (r : Report) → IsRound by now line s s' r →
+    StandApart (names_of s.reps) → IsComplete r → IsConverged (rows_seen s'.view) r.stores now

@@ -1,8 +1,13 @@
 //! The laws of a whole round. These functions do nothing: they are there for what they ensure.
-ghost use Rattle.round_laws.specs.Complete.{CompleteRoundsTakeAll};
+ghost use Rattle.round_laws.specs.Complete.{CompleteRoundsTakeAll, CompleteRoundsConverge};
 
 /// In a complete round nobody else moved the board, and all that the rows and then the answers
 /// asked for was accepted.
 pub fn complete_rounds_take_all()
     ensures { CompleteRoundsTakeAll }
+{}
+
+/// A complete round over reps whose names differ leaves the board and the cells as they should be.
+pub fn complete_rounds_converge()
+    ensures { CompleteRoundsConverge }
 {}

@@ -3,4 +3,4 @@
 
 mod laws;
 
-pub use laws::complete_rounds_take_all;
+pub use laws::{complete_rounds_converge, complete_rounds_take_all};
