@@ -44,11 +44,15 @@ not_of_tasks : (n : ℕ) → ◌≡◌ {A = ℕ} (cond (eqb n 0) 0 2) 1 → ⊥
 not_of_tasks n =
     elim (eqb n 0) as (λ b. ◌≡◌ {A = ℕ} (cond b 0 2) 1 → ⊥) [ true ↦ λ e. absurd (omega arith) | false ↦ λ e. absurd (omega arith) ]
 
-pub same_job : (a b : JobName) → class_of a ≡ class_of b → job_name a ≡ job_name b → index_of a ≡ index_of b → a ≡ b
+same_job : (a b : JobName) → class_of a ≡ class_of b → job_name a ≡ job_name b → index_of a ≡ index_of b → a ≡ b
 same_job (Lrp a) (Lrp b) c n i = λ k. Lrp (record { process = n k; index = i k })
 same_job (Lrp a) (Task b) c n i = absurd (not_of_tasks a.index c)
 same_job (Task a) (Lrp b) c n i = absurd (not_of_tasks b.index (sym c))
 same_job (Task a) (Task b) c n i = ap Task n
+
+-- jobs of one turn have one name
+pub same_turn : (a b : Job) → turn_of a ≡ turn_of b → a.job ≡ b.job
+same_turn a b e = same_job a.job b.job (ap (λ t. t.class) e) (ap (λ t. t.name) e) (ap (λ t. t.index) e)
 
 -- what tells elements apart by one thing tells them apart by another that shows it
 pub unlike_by : {X A B : Type 0} (f : X → A) (g : X → B) → ((x y : X) → g x ≡ g y → f x ≡ f y) → (xs : List X) → AllPairs (λ a b. a ≢ b) (map f xs) → AllPairs (λ a b. a ≢ b) (map g xs)
@@ -62,4 +66,4 @@ unlike_by f g shows (x ∷ xs) h i j d lt below e =
 
 pub turns_differ : (jobs : List Job) → AllPairs (λ a b. a ≢ b) (map (λ j. j.job) jobs) → AllPairs (λ a b. a ≢ b) (map turn_of jobs)
 turns_differ jobs h =
-    unlike_by (λ j. j.job) turn_of (λ a b e. same_job a.job b.job (ap (λ t. t.class) e) (ap (λ t. t.name) e) (ap (λ t. t.index) e)) jobs h
+    unlike_by (λ j. j.job) turn_of same_turn jobs h

@@ -5,4 +5,14 @@ pub mod Starts
 pub mod Whole
 pub mod Answered
 pub mod RepSets
+pub mod Losses
 pub mod StopsDone
+pub mod StartsMade
+pub mod ClaimLists
+pub mod ClaimsMade
+pub mod CellsServed
+pub mod JobsPlaced
+pub mod PlacesTaken
+pub mod RoomyCells
+pub mod Waiting
+pub mod Converges

@@ -49,7 +49,7 @@ zip_kept R None (Some y) xs ys f g = absurd f
 zip_kept R (Some x) None xs ys f g = absurd f
 zip_kept R (Some x) (Some y) xs ys f g = (f, g)
 
-agree_same : {X : Type 0} (R : X → X → Type 0) (o : Option X) → ((x : X) → o ≡ Some x → R x x) → AgreeIf R o o
+pub agree_same : {X : Type 0} (R : X → X → Type 0) (o : Option X) → ((x : X) → o ≡ Some x → R x x) → AgreeIf R o o
 agree_same R None same = tt
 agree_same R (Some x) same = same x refl
 

@@ -9,6 +9,7 @@ use Rattle.bbs_model.proofs.Public.{later_looks, quiet_first, quiet_second}
 use Rattle.convergence.specs.Plans.{plan_of_answers}
 use Rattle.convergence.specs.declared.report.Report.{Report}
 use Rattle.converge_laws.specs.Accepted.{AreAccepted}
+use Rattle.converge_laws.specs.Laws.{after_plan}
 use Rattle.converge_round.specs.Callings.{Calling, calling}
 use Rattle.converge_round.specs.Phases.{AreCalledBy}
 use Rattle.converge_round.specs.Rounds.{Standing, IsRound}
@@ -74,10 +75,10 @@ module _ (by : ℕ) (now : Moment) (line : ℕ) (s s' : Standing) (r : Report) (
   ef : IsTallied e f
   ef = tallied-looks h.opens.third h.opened.view h.opens.planned.tally h.opens.looks_last
 
-  fg : IsTallied f g
+  pub fg : IsTallied f g
   fg = subst (λ (t : Tally). IsTallied (calling h.opened.view t) g) h.opens.tally_is (tallied-serves by now h.opening_is.places h.opening_is.places.roomy h.opened h.served h.serves)
 
-  gz : IsTallied g z
+  pub gz : IsTallied g z
   gz = tallied-then g h.noted z (tallied-each by _ g h.noted h.notes) (tallied-looks h.noted.view s'.view h.noted.tally h.looks_last)
 
   fz : IsTallied f z
@@ -98,7 +99,7 @@ module _ (by : ℕ) (now : Moment) (line : ℕ) (s s' : Standing) (r : Report) (
   az : IsTallied a z
   az = tallied-then a b z ab bz
 
-  none : h.noted.tally.refused ≡ []
+  pub none : h.noted.tally.refused ≡ []
   none = sym h.reports.refused ∙ complete.refused
 
   alone : (length s'.view.seen - length h.first.seen) - h.noted.tally.own ≡ 0
@@ -119,7 +120,7 @@ module _ (by : ℕ) (now : Moment) (line : ℕ) (s s' : Standing) (r : Report) (
   quiet-e : IsQuiet e.view z.view
   quiet-e = quiet_second d.view e.view z.view de.later ez.later quiet-d
 
-  rows-b : rows_seen b.view ≡ rows_seen a.view
+  pub rows-b : rows_seen b.view ≡ rows_seen a.view
   rows-b = rows-looks a.view b.view h.opens.looks (quiet_first a.view b.view z.view ab.later bz.later quiet)
 
   worked : AreTaken (rows_seen a.view) (work (rows_seen a.view) now) (rows_seen c.view)
@@ -129,15 +130,23 @@ module _ (by : ℕ) (now : Moment) (line : ℕ) (s s' : Standing) (r : Report) (
   planned : AreTaken (rows_seen c.view) (plan_of_answers (rows_seen c.view) h.opens.hearing.got now) (rows_seen d.view)
   planned = taken_called by (λ rows. plan_of_answers rows h.opens.hearing.got now) c d h.opens.plan_called (quiet_first c.view d.view z.view cd.later dz.later quiet-c) (dz.refused none)
 
-  rows-f : rows_seen f.view ≡ rows_seen d.view
-  rows-f = rows-looks e.view f.view h.opens.looks_last (quiet_first e.view f.view z.view ef.later fz.later quiet-e)
-      ∙ rows-looks d.view e.view h.opens.looks_third (quiet_first d.view e.view z.view de.later ez.later quiet-d)
+  pub quiet-f : IsQuiet f.view z.view
+  quiet-f = quiet_second e.view f.view z.view ef.later fz.later quiet-e
+
+  -- the rows after work and plan
+  pub rows-d : rows_seen d.view ≡ after_plan (rows_seen a.view) h.opens.hearing.got now
+  rows-d = planned.rows_are ∙ ap (λ (x : Rows). state_after_all x (plan_of_answers x h.opens.hearing.got now)) worked.rows_are
+
+  pub rows-e : rows_seen e.view ≡ rows_seen d.view
+  rows-e = rows-looks d.view e.view h.opens.looks_third (quiet_first d.view e.view z.view de.later ez.later quiet-d)
+
+  pub rows-f : rows_seen f.view ≡ rows_seen d.view
+  rows-f = rows-looks e.view f.view h.opens.looks_last (quiet_first e.view f.view z.view ef.later fz.later quiet-e) ∙ rows-e
 
   pub takes-all : HasTakenAll by now line s s' r h
   takes-all = record {
     quiet = quiet;
     worked = worked.accepted;
     planned = subst (λ (x : Rows). AreAccepted x (plan_of_answers x h.opens.hearing.got now)) worked.rows_are planned.accepted;
-    auctioned = h.opens.placed.rows_are ∙ rows-f ∙ planned.rows_are
-        ∙ ap (λ (x : Rows). state_after_all x (plan_of_answers x h.opens.hearing.got now)) worked.rows_are;
+    auctioned = h.opens.placed.rows_are ∙ rows-f ∙ rows-d;
   }
