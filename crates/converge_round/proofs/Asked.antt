@@ -118,11 +118,11 @@ asked_list by by' table v m w list same looks is f =
     asked_read by by' (λ rows c. Contains (table rows) c) v m w same looks (subst (λ l. AreOf by' (Contains l) m w) is f)
 
 -- a claim and a note as the rows and the auction ask for them
-claim_in : (now : Moment) (rows : Rows) (reps : List CellRep) (got : List Answer) (p : Places) (c : Command) → ArePlaced rows reps got p → IsClaimFor now p p.roomy c → IsClaimIn rows p.roomy now c
+pub claim_in : (now : Moment) (rows : Rows) (reps : List CellRep) (got : List Answer) (p : Places) (c : Command) → ArePlaced rows reps got p → IsClaimFor now p p.roomy c → IsClaimIn rows p.roomy now c
 claim_in now rows reps got p c is h =
     (h.0, h.1, subst (λ list. IsClaimOfOne now h.0.cell (jobs_on rows list h.0.cell) c) is.placed (subst (λ rs. IsClaimOfOne now h.0.cell (jobs_on rs p.placements h.0.cell) c) is.rows_are h.2))
 
-fail_in : (now : Moment) (rows : Rows) (reps : List CellRep) (got : List Answer) (p : Places) (c : Command) → ArePlaced rows reps got p → Contains (fails_in now p) c → Contains (fails_of rows now (unplaced (placements rows p.roomy))) c
+pub fail_in : (now : Moment) (rows : Rows) (reps : List CellRep) (got : List Answer) (p : Places) (c : Command) → ArePlaced rows reps got p → Contains (fails_in now p) c → Contains (fails_of rows now (unplaced (placements rows p.roomy))) c
 fail_in now rows reps got p c is h =
     subst (λ list. Contains (fails_of rows now (unplaced list)) c) is.placed (subst (λ rs. Contains (fails_of rs now (unplaced p.placements)) c) is.rows_are h)
 

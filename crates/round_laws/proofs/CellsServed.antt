@@ -38,7 +38,7 @@ use Rattle.round_laws.proofs.Starts.{in_course, tallied-serves}
 use Rattle.round_laws.proofs.Tallied.{tallied-each}
 use Rattle.round_laws.proofs.ClaimsMade.{about_job, AreClaimsMade, claims-made}
 
-each_append : {X S : Type 0} (Step : X → S → S → Type 0) (xs ys : List X) (s m t : S) → Each Step xs s m → Each Step ys m t → Each Step (xs ++ ys) s t
+pub each_append : {X S : Type 0} (Step : X → S → S → Type 0) (xs ys : List X) (s m t : S) → Each Step xs s m → Each Step ys m t → Each Step (xs ++ ys) s t
 each_append Step [] ys s m t f g = subst (λ x. Each Step ys x t) f g
 each_append Step (x ∷ xs) ys s m t f g = (f.0, f.1, each_append Step xs ys f.0 m t f.2 g)
 

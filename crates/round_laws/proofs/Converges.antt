@@ -129,7 +129,7 @@ module _ (by : ℕ) (now : Moment) (line : ℕ) (s s' : Standing) (r : Report) (
   no_notes : h.noted ≡ in_course h.served
   no_notes = subst (λ xs. Each (IsNoted by) (fails_of h.opening_is.places.rows now xs) (in_course h.served) h.noted) all_placed h.notes
 
-  roomy_cell : (y : Answer) → Contains roomy y → IsRoomy h.opened.reps got y
+  roomy_cell : (y : Answer) → Contains roomy y → IsRoomy places_rows h.opened.reps got y
   roomy_cell y inside = is-roomy places_rows h.opened.reps got roomy y h.opens.placed.open_are inside
 
   served : AreServed by now h.opening_is.places roomy h.opened h.served

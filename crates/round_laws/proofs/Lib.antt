@@ -15,4 +15,11 @@ pub mod JobsPlaced
 pub mod PlacesTaken
 pub mod RoomyCells
 pub mod Waiting
+pub mod Had
+pub mod StartsHad
+pub mod ServesHad
+pub mod Segments
+pub mod Account
+pub mod WholeAccount
+pub mod Accounted
 pub mod Converges

@@ -21,7 +21,7 @@ use Rattle.converge_round.specs.declared.tally.Tally.{Tally}
 pub one_more-some : (n : ℕ) → one_more n ≡ 0 → ⊥
 one_more-some n e = omega (arith, e)
 
-lost_noted : (c : Command) (r : Reply) (t : Tally) → (noted c r t).lost ≡ t.lost
+pub lost_noted : (c : Command) (r : Reply) (t : Tally) → (noted c r t).lost ≡ t.lost
 lost_noted c (reply.Ok place stamp) t = refl
 lost_noted c (reply.Same place) t = refl
 lost_noted c (reply.Refused why place) t = refl

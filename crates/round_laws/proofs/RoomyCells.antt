@@ -24,44 +24,47 @@ use Rattle.converge_round.specs.Places.{OpensIf, OpensOne, is_being_emptied}
 use Rattle.converge_round.specs.Reps.{names_of}
 use Rattle.converge_round.proofs.Public.{from_kept}
 
-heard_open : (b : Bool) (cells : List CellRep) (x : Answer) (y : Answer) → OpensIf b cells x (Some y) → IsHeardFrom cells x.cell x.epoch y
+heard_open : (b : Bool) (cells : List CellRep) (x : Answer) (y : Answer) → OpensIf b cells x (Some y) → IsHeardFrom cells x.cell x.epoch y × (b ≡ false)
 heard_open true cells x y h = absurd cc
-heard_open false cells x y h = h
+heard_open false cells x y h = (h, refl)
 
 -- the answer is what a cell that answered has now
-pub record IsRoomy (cells : List CellRep) (got : List Answer) (y : Answer) : Type 0 where
+pub record IsRoomy (rows : Rows) (cells : List CellRep) (got : List Answer) (y : Answer) : Type 0 where
   pub answer : Answer
   pub inside : Contains got answer
   pub heard : IsHeardFrom cells answer.cell answer.epoch y
+  pub kept : is_being_emptied rows answer.cell ≡ false
 
-roomy_more : (cells : List CellRep) (x : Answer) (got : List Answer) (y : Answer) → IsRoomy cells got y → IsRoomy cells (x ∷ got) y
-roomy_more cells x got y h = record { answer = h.answer; inside = inside_rest h.answer x got h.inside; heard = h.heard }
+roomy_more : (rows : Rows) (cells : List CellRep) (x : Answer) (got : List Answer) (y : Answer) → IsRoomy rows cells got y → IsRoomy rows cells (x ∷ got) y
+roomy_more rows cells x got y h = record { answer = h.answer; inside = inside_rest h.answer x got h.inside; heard = h.heard; kept = h.kept }
 
 roomy_now : (rows : Rows) (cells : List CellRep) (x : Answer) (got : List Answer) (s m : List Answer) (o : Option Answer) (y : Answer)
-    → OpensIf (is_being_emptied rows x.cell) cells x o → m ≡ s ++ option_to_list o → Contains m y → Contains s y ⊎ IsRoomy cells (x ∷ got) y
+    → OpensIf (is_being_emptied rows x.cell) cells x o → m ≡ s ++ option_to_list o → Contains m y → Contains s y ⊎ IsRoomy rows cells (x ∷ got) y
 roomy_now rows cells x got s m None y opens more inside = inl (subst (λ xs. Contains xs y) (more ∙ append-nil s) inside)
 roomy_now rows cells x got s m (Some z) y opens more inside =
     ⊎_elim
     (λ (old : Contains s y). inl old)
     (λ (new : Contains (z ∷ []) y).
     ⊎_elim
-    (λ (is : z ≡ y). inr (record { answer = x; inside = inside_first x got; heard = subst (IsHeardFrom cells x.cell x.epoch) is (heard_open (is_being_emptied rows x.cell) cells x z opens) }))
+    (λ (is : z ≡ y).
+    let told = heard_open (is_being_emptied rows x.cell) cells x z opens in
+    inr (record { answer = x; inside = inside_first x got; heard = subst (IsHeardFrom cells x.cell x.epoch) is told.0; kept = told.1 }))
     (λ (rest : Contains [] y). absurd (omega (arith, rest.1)))
     (first_or_rest y z [] new))
     (Contains-append_cases s (z ∷ []) y (subst (λ xs. Contains xs y) more inside))
 
-roomy_from : (rows : Rows) (cells : List CellRep) (got : List Answer) (s t : List Answer) (y : Answer) → Each (OpensOne rows cells) got s t → Contains t y → Contains s y ⊎ IsRoomy cells got y
+roomy_from : (rows : Rows) (cells : List CellRep) (got : List Answer) (s t : List Answer) (y : Answer) → Each (OpensOne rows cells) got s t → Contains t y → Contains s y ⊎ IsRoomy rows cells got y
 roomy_from rows cells [] s t y f inside = inl (subst (λ xs. Contains xs y) f inside)
 roomy_from rows cells (x ∷ got) s t y f inside =
     ⊎_elim
     (λ (old : Contains f.0 y). roomy_now rows cells x got s f.0 f.1.now y f.1.opens f.1.more old)
-    (λ (later : IsRoomy cells got y). inr (roomy_more cells x got y later))
+    (λ (later : IsRoomy rows cells got y). inr (roomy_more rows cells x got y later))
     (roomy_from rows cells got f.0 t y f.2 inside)
 
 -- each roomy cell is one that answered
-pub is-roomy : (rows : Rows) (cells : List CellRep) (got roomy : List Answer) (y : Answer) → Each (OpensOne rows cells) got [] roomy → Contains roomy y → IsRoomy cells got y
+pub is-roomy : (rows : Rows) (cells : List CellRep) (got roomy : List Answer) (y : Answer) → Each (OpensOne rows cells) got [] roomy → Contains roomy y → IsRoomy rows cells got y
 is-roomy rows cells got roomy y f inside =
-    ⊎_elim (λ (none : Contains [] y). absurd (omega (arith, none.1))) (λ (r : IsRoomy cells got y). r) (roomy_from rows cells got [] roomy y f inside)
+    ⊎_elim (λ (none : Contains [] y). absurd (omega (arith, none.1))) (λ (r : IsRoomy rows cells got y). r) (roomy_from rows cells got [] roomy y f inside)
 
 pub heard_named : (cells : List CellRep) (cell : List ℕ) (epoch : ℕ) (y : Answer) → IsHeardFrom cells cell epoch y → Contains (names_of cells) cell
 heard_named cells cell epoch y h =

@@ -109,7 +109,7 @@ gone_from : (cell : List ℕ) (i : Instance) (o : Option Joined) → AgreeIf (Is
 gone_from cell i None = tt
 gone_from cell i (Some j) = gone_by cell i j (find_container i j.store.containers) refl
 
-cell_stays : (cell : List ℕ) (i : Instance) (o : Option Joined) → (without (rep_of cell o) i).cell ≡ cell
+pub cell_stays : (cell : List ℕ) (i : Instance) (o : Option Joined) → (without (rep_of cell o) i).cell ≡ cell
 cell_stays cell i None = refl
 cell_stays cell i (Some j) = cell_by cell i j (find_container i j.store.containers)
 

@@ -1,4 +1,5 @@
 //! The laws of a whole round. These functions do nothing: they are there for what they ensure.
+ghost use Rattle.round_laws.specs.Accounts.{RoundsHaveAccounts};
 ghost use Rattle.round_laws.specs.Complete.{CompleteRoundsTakeAll, CompleteRoundsConverge};
 
 /// In a complete round nobody else moved the board, and all that the rows and then the answers
@@ -10,4 +11,10 @@ pub fn complete_rounds_take_all()
 /// A complete round over reps whose names differ leaves the board and the cells as they should be.
 pub fn complete_rounds_converge()
     ensures { CompleteRoundsConverge }
+{}
+
+/// Each round has its account by places of the log: who answered, what was called and why, and,
+/// where nobody else called, each command.
+pub fn rounds_have_accounts()
+    ensures { RoundsHaveAccounts }
 {}
