@@ -22,4 +22,7 @@ pub mod Segments
 pub mod Account
 pub mod WholeAccount
 pub mod Accounted
+pub mod Hearings
+pub mod Causes
+pub mod Lost
 pub mod Converges

@@ -1,3 +1,4 @@
 pub mod Complete
 pub mod Alone
 pub mod Accounts
+pub mod Losses

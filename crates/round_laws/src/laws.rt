@@ -1,6 +1,7 @@
 //! The laws of a whole round. These functions do nothing: they are there for what they ensure.
 ghost use Rattle.round_laws.specs.Accounts.{RoundsHaveAccounts};
 ghost use Rattle.round_laws.specs.Complete.{CompleteRoundsTakeAll, CompleteRoundsConverge};
+ghost use Rattle.round_laws.specs.Losses.{RoundsHearWhatGetsThrough, RoundsLoseWhatTheWireLost};
 
 /// In a complete round nobody else moved the board, and all that the rows and then the answers
 /// asked for was accepted.
@@ -17,4 +18,15 @@ pub fn complete_rounds_converge()
 /// where nobody else called, each command.
 pub fn rounds_have_accounts()
     ensures { RoundsHaveAccounts }
+{}
+
+/// What a round lost was lost by the wire, or a cell had nothing to tell, or a rep declined a start.
+pub fn rounds_lose_what_the_wire_lost()
+    ensures { RoundsLoseWhatTheWireLost }
+{}
+
+/// Where the wire tells its ends, a cell that has joined under the epoch of its row is heard if its
+/// question gets through.
+pub fn rounds_hear_what_gets_through()
+    ensures { RoundsHearWhatGetsThrough }
 {}

@@ -5,4 +5,7 @@ mod converging;
 mod laws;
 
 pub use converging::converge;
-pub use laws::{complete_rounds_converge, complete_rounds_take_all, rounds_have_accounts};
+pub use laws::{
+    complete_rounds_converge, complete_rounds_take_all, rounds_have_accounts,
+    rounds_hear_what_gets_through, rounds_lose_what_the_wire_lost,
+};
