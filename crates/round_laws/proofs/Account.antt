@@ -1,20 +1,16 @@
 -- The account of a round, part by part.
-use Rattle.std.proofs.Common.{◌≡◌, ◌⊎◌, ℕ, ◌+◌, ◌-◌, ◌≤◌, ◌^◌, min, Bool, true, false, List, [], ◌∷◌, ◌++◌, length, drop, map, filter_map, refl, sym, ap, subst, ◌∙◌, arith, append_assoc, length-append, inl, inr, ⊎_elim}
+use Rattle.std.proofs.Common.{◌≡◌, ◌⊎◌, ℕ, Bool, true, false, List, [], ◌∷◌, length, sym, subst, arith, inl, inr, ⊎_elim}
 use Rattle.std.specs.List.{Contains}
-use Rattle.std.proofs.lemmas.List.{append-nil}
 use Rattle.std.proofs.lemmas.List.Elements.{Contains-append_cases}
 use Rattle.auctioneer.specs.declared.placement.Placement.{Placement}
-use Rattle.bbs_model.specs.PortView.{PortView, rows_seen, Looks, IsLater, IsQuiet}
+use Rattle.bbs_model.specs.PortView.{PortView}
 use Rattle.bbs_model.specs.Replay.{command_in}
-use Rattle.bbs_model.specs.Work.{work}
 use Rattle.bbs_model.specs.declared.command.Command.{Command}
 use Rattle.bbs_model.specs.declared.item.Item.{Item}
 use Rattle.bbs_model.specs.declared.rows.Rows.{Rows}
 use Rattle.cell_records.specs.declared.answer.Answer.{Answer}
-use Rattle.convergence.specs.Plans.{plan_of_answers}
-use Rattle.converge_round.specs.Callings.{Calling, calling, AreOf}
 use Rattle.converge_round.specs.Each.{Each}
-use Rattle.converge_round.specs.Items.{IsOfTable, IsAskedBetween, AreAsked}
+use Rattle.converge_round.specs.Items.{IsOfTable, IsAskedBetween}
 use Rattle.converge_round.specs.Places.{jobs_on}
 use Rattle.converge_round.specs.Starts.{IsClaim, IsClaimOfOne}
 use Rattle.converge_round.specs.Stops.{if_done, Stopped, StopsOne}
@@ -23,7 +19,7 @@ use Rattle.crash_backoff.specs.declared.moment.Moment.{Moment}
 use Rattle.diego_names.specs.declared.instance.Instance.{Instance}
 use Rattle.converge_laws.proofs.Public.{inside_first, inside_rest, first_or_rest}
 use Rattle.round_laws.specs.Accounts.{IsItemAsked}
-use Rattle.round_laws.specs.Alone.{rows_then, AreClaimsOn, AreClaims}
+use Rattle.round_laws.specs.Alone.{AreClaimsOn, AreClaims}
 use Rattle.round_laws.proofs.Segments.{then-seen, after-seen, seen-grows}
 
 -- a claim of these jobs is one of a job of them

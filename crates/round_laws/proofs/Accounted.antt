@@ -1,41 +1,31 @@
 -- Each round has its account: what its parts say together.
-use Rattle.std.proofs.Common.{◌≡◌, ◌⊎◌, ℕ, ◌+◌, ◌-◌, ◌≤◌, ◌^◌, min, false, List, [], ◌∷◌, ◌++◌, length, map, refl, sym, ap, subst, ◌∙◌, arith, append_assoc, length-append, inl, inr, ⊎_elim}
+use Rattle.std.proofs.Common.{◌≡◌, ℕ, ◌+◌, ◌-◌, ◌^◌, min, false, List, [], ◌++◌, length, sym, ap, subst, ◌∙◌, arith, ⊎_elim}
 use Rattle.std.specs.List.{Contains}
 use Rattle.auctioneer.specs.declared.placement.Placement.{Placement}
-use Rattle.bbs_model.specs.PortView.{PortView, rows_seen, Looks, IsLater, IsQuiet}
+use Rattle.bbs_model.specs.PortView.{PortView, rows_seen, IsLater, IsQuiet}
 use Rattle.bbs_model.specs.Runs.{state_after_all}
 use Rattle.bbs_model.specs.Work.{work}
 use Rattle.bbs_model.specs.declared.command.Command.{Command}
-use Rattle.bbs_model.specs.declared.item.Item.{Item}
 use Rattle.bbs_model.specs.declared.rows.Rows.{Rows}
-use Rattle.bbs_model.proofs.Public.{later_looks, later_then, quiet_first, quiet_second}
+use Rattle.bbs_model.proofs.Public.{later_looks, quiet_first}
 use Rattle.cell_records.specs.declared.answer.Answer.{Answer}
-use Rattle.cell_rep.specs.declared.rep.CellRep.{CellRep}
 use Rattle.convergence.specs.Plans.{plan_of_answers}
 use Rattle.convergence.specs.Strays.{strays}
 use Rattle.convergence.specs.declared.report.Report.{Report}
 use Rattle.converge_laws.specs.Laws.{after_work, after_plan}
 use Rattle.converge_round.specs.Askings.{present, questions}
-use Rattle.converge_round.specs.Callings.{Calling, calling, AreOf}
-use Rattle.converge_round.specs.Each.{Each}
-use Rattle.converge_round.specs.Items.{IsOfTable, AreAsked}
-use Rattle.converge_round.specs.Phases.{fails_in, IsClaimFor}
+use Rattle.converge_round.specs.Callings.{calling}
 use Rattle.converge_round.specs.Places.{is_being_emptied, placements, unplaced, fails_of}
-use Rattle.converge_round.specs.Reps.{names_of}
 use Rattle.converge_round.specs.Rounds.{Standing, IsRound}
 use Rattle.converge_round.specs.Stops.{stops_at, so_far}
-use Rattle.converge_round.specs.Tallies.{no_calls}
-use Rattle.converge_round.proofs.Public.{asked_here, asked_looks, asked_then, asked_weaker, asked_list, claim_in, fail_in, own_then, own_weaker}
 use Rattle.crash_backoff.specs.declared.moment.Moment.{Moment}
 use Rattle.round_laws.specs.Accounts.{Readings, AreListed, AreCounted, HasAccount}
 use Rattle.round_laws.specs.Alone.{rows_then, items_of, refused_of, AreClaims, IsAlone}
-use Rattle.round_laws.proofs.Account.{claim_from, stopped_from, item-asked}
+use Rattle.round_laws.proofs.Account.{stopped_from, item-asked}
 use Rattle.round_laws.proofs.Answered.{are-heard, heard_cell}
-use Rattle.round_laws.proofs.Had.{Had, had, IsHad, AreCountedIn, AreTurns, each-had, own-had}
+use Rattle.round_laws.proofs.Had.{had, AreTurns, each-had}
 use Rattle.round_laws.proofs.Losses.{lost_each}
-use Rattle.round_laws.proofs.RoomyCells.{IsRoomy, is-roomy, heard_named}
-use Rattle.round_laws.proofs.Segments.{IsPart, had_at, part-looks, part-each, part-then, part-end, then-seen, seen-grows, after_append}
-use Rattle.round_laws.proofs.ServesHad.{AreServesHad, serves-had}
+use Rattle.round_laws.proofs.Segments.{IsPart, part-each, part-then, then-seen, seen-grows, after_append}
 use Rattle.round_laws.proofs.Starts.{in_course}
 use Rattle.round_laws.proofs.WholeAccount as parts
 

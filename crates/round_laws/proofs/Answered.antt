@@ -1,12 +1,11 @@
 -- Where no question was lost each cell that is there has answered.
-use Rattle.std.proofs.Common.{◌≡◌, ◌⊎◌, ℕ, ◌+◌, ◌≤◌, Bool, true, false, ◌&&◌, ◌==◌, cond, List, [], ◌∷◌, ◌++◌, length, get_or, filter_map, Option, Some, None, IsSome, refl, sym, ap, subst, ◌∙◌, arith, ⊎_elim, append_assoc, nat_eq, slice_get}
+use Rattle.std.proofs.Common.{◌≡◌, ℕ, ◌≤◌, Bool, true, false, ◌&&◌, ◌==◌, cond, List, [], ◌∷◌, ◌++◌, length, filter_map, Option, Some, None, IsSome, refl, sym, ap, subst, ◌∙◌, arith, ⊎_elim, append_assoc, nat_eq, slice_get}
 use Rattle.std.specs.Cmp.Lexicographic.{pointwise}
 use Rattle.std.specs.List.{Contains}
 use Rattle.std.specs.Option.{option_map_or, option_to_list}
 use Rattle.std.proofs.lemmas.Bool.{eqb-true, eq-eqb}
 use Rattle.std.proofs.lemmas.Cmp.{nat_list_eq_equiv}
 use Rattle.std.proofs.lemmas.List.{append-nil}
-use Rattle.std.proofs.lemmas.List.Elements.{Contains-get_or}
 use Rattle.cell_records.specs.Presence.{is_present}
 use Rattle.cell_records.specs.declared.answer.Answer.{Answer}
 use Rattle.cell_records.specs.declared.cell_row.CellRow.{CellRow}
@@ -20,7 +19,7 @@ use Rattle.row_tables.proofs.Public.{Contains-find_row, key-find_row}
 use Rattle.bbs_model.specs.Tables.{find_cell, cell_name_of}
 use Rattle.bbs_model.specs.Work.{is_there}
 use Rattle.bbs_model.specs.declared.rows.Rows.{Rows}
-use Rattle.convergence.specs.Containers.{is_answer_of, answer_from}
+use Rattle.convergence.specs.Containers.{is_answer_of}
 use Rattle.convergence.proofs.Public.{find-some}
 use Rattle.converge_laws.specs.Stages.{HaveAnswered}
 use Rattle.converge_laws.proofs.Public.{inside_first, inside_rest, first_or_rest}

@@ -1,5 +1,5 @@
 -- What a round lost was lost by the wire, or there was nothing to be had.
-use Rattle.std.proofs.Common.{◌≡◌, ◌⊎◌, ℕ, ◌+◌, ◌-◌, ◌≤◌, ◌^◌, min, Bool, true, false, not, ◌||◌, List, [], ◌∷◌, ◌++◌, length, Option, Some, None, Ok, Err, refl, sym, ap, subst, ◌∙◌, arith, inl, inr, ⊎_elim, length-append}
+use Rattle.std.proofs.Common.{◌≡◌, ℕ, ◌+◌, ◌-◌, ◌≤◌, Bool, true, false, not, ◌||◌, List, [], ◌∷◌, length, Option, Some, None, Ok, Err, refl, sym, ap, subst, ◌∙◌, arith, inl, inr, ⊎_elim, length-append}
 use Rattle.std.specs.List.{Contains}
 use Rattle.std.specs.Option.{option_to_list}
 use Rattle.byte_ports.specs.Cause.{Rose, HasCause}
@@ -18,16 +18,15 @@ use Rattle.bbs_model.specs.declared.command.Command.{Command}
 use Rattle.bbs_model.specs.declared.reply.Reply.{Reply}
 use Rattle.cell_rep.specs.Ends.{without}
 use Rattle.converge_laws.proofs.Public.{inside_first, inside_rest}
-use Rattle.convergence.specs.declared.report.Report.{Report}
 use Rattle.converge_round.specs.Askings.{HearsIf, Asking, AsksOne}
 use Rattle.converge_round.specs.Each.{Each}
 use Rattle.converge_round.specs.Phases.{Course, ServesOne}
 use Rattle.converge_round.specs.Places.{jobs_on}
 use Rattle.converge_round.specs.Reps.{names_of}
-use Rattle.converge_round.specs.Sendings.{WireAt, IsSent}
+use Rattle.converge_round.specs.Sendings.{WireAt}
 use Rattle.converge_round.specs.Starts.{Serving, serving, answered, counted, HasNoFault, TakesIf, StartsOne}
 use Rattle.converge_round.specs.Stops.{StopsIf, if_done, Stopped, StopsOne}
-use Rattle.converge_round.specs.Tallies.{one_more, lost_one}
+use Rattle.converge_round.specs.Tallies.{lost_one}
 use Rattle.converge_round.specs.declared.placing.Places.{Places}
 use Rattle.converge_round.specs.declared.tally.Tally.{Tally}
 use Rattle.crash_backoff.specs.declared.moment.Moment.{Moment}

@@ -1,40 +1,25 @@
 -- The starts on one cell, and then on all, where none counts a loss or a refusal.
-use Rattle.std.proofs.Common.{◌≡◌, ◌⊎◌, ℕ, List, [], ◌∷◌, ◌++◌, map, filter_map, Option, Some, None, refl, sym, ap, subst, ◌∙◌, arith, ⊎_elim}
-use Rattle.std.specs.List.{Contains, flat_map}
+use Rattle.std.proofs.Common.{◌≡◌, ℕ, List, [], ◌∷◌, map, Option, Some, refl, sym, ap, subst, ◌∙◌, arith, ⊎_elim}
+use Rattle.std.specs.List.{Contains}
 use Rattle.std.specs.Option.{option_map, option_map_or}
-use Rattle.std.proofs.lemmas.List.{map-append}
-use Rattle.std.proofs.lemmas.List.Elements.{Contains-append_cases}
 use Rattle.cell_records.specs.declared.answer.Answer.{Answer}
 use Rattle.cell_records.specs.declared.job.Job.{Job}
-use Rattle.cell_rep.specs.Acts.{claim_op}
 use Rattle.cell_rep.specs.Reps.{answer_of, answer_in}
 use Rattle.cell_rep.specs.declared.joined.Joined.{Joined}
 use Rattle.cell_rep.specs.declared.rep.CellRep.{CellRep}
 use Rattle.container_store.specs.Changes.{next_of, reserved}
 use Rattle.crash_backoff.specs.declared.moment.Moment.{Moment}
 use Rattle.bbs_model.specs.declared.command.Command.{Command}
-use Rattle.bbs_model.specs.declared.reply.Reply.{Reply}
-use Rattle.bbs_model.specs.declared.reply.Reply.TheVariants as reply
 use Rattle.convergence.specs.Subjects.{Subject, subject_in}
-use Rattle.converge_laws.specs.Stages.{IsWith, AreWith}
-use Rattle.converge_laws.proofs.Public.{first_or_rest, zip_back, subject_for, claim-about}
-use Rattle.converge_round.specs.Askings.{StandApart}
+use Rattle.converge_laws.specs.Stages.{IsWith}
+use Rattle.converge_laws.proofs.Public.{first_or_rest, subject_for, claim-about}
 use Rattle.converge_round.specs.Callings.{Calling, calling, IsNoted}
 use Rattle.converge_round.specs.Each.{Each}
-use Rattle.converge_round.specs.Phases.{Course, ClaimsAt, ServesOne}
-use Rattle.converge_round.specs.Places.{jobs_on}
-use Rattle.converge_round.specs.Reps.{names_of}
-use Rattle.converge_round.specs.Starts.{Serving, serving, StartsOne}
-use Rattle.converge_round.specs.Tallies.{noted}
-use Rattle.converge_round.specs.declared.placing.Places.{Places}
-use Rattle.converge_round.specs.declared.tally.Tally.{Tally}
-use Rattle.round_laws.proofs.Answered.{answer_cell}
-use Rattle.round_laws.proofs.ClaimLists.{IsClaimAt, claims_itself, with_none, with_then, with_other, with_next_one}
-use Rattle.round_laws.proofs.Lists.{AgreeIf, agree_then, agree_same, zip_then, zip_same, zip_set}
+use Rattle.converge_round.specs.Starts.{Serving, StartsOne}
+use Rattle.round_laws.proofs.ClaimLists.{IsClaimAt, claims_itself, with_none, with_then, with_next_one}
+use Rattle.round_laws.proofs.Lists.{AgreeIf, agree_then, agree_same}
 use Rattle.round_laws.proofs.Losses.{lost_each}
-use Rattle.round_laws.proofs.RepSets.{names_set, others_named}
-use Rattle.round_laws.proofs.StartsMade.{next_claim, with_next, IsClaimMade, claim-made}
-use Rattle.round_laws.proofs.Starts.{in_course}
+use Rattle.round_laws.proofs.StartsMade.{next_claim, IsClaimMade, claim-made}
 use Rattle.round_laws.proofs.Tallied.{tallied-each}
 
 -- what a job's command is about

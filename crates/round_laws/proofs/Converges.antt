@@ -1,42 +1,34 @@
 -- A complete round leaves all as it should be.
-use Rattle.std.proofs.Common.{◌≡◌, ℕ, ◌+◌, ◌-◌, ◌^◌, ◌≤◌, min, true, List, [], length, map, filter_map, Option, Some, refl, sym, ap, subst, ◌∙◌, arith}
-use Rattle.std.specs.List.{AllZip, Contains, flat_map}
+use Rattle.std.proofs.Common.{◌≡◌, ℕ, ◌+◌, ◌-◌, ◌^◌, min, true, List, [], length, map, filter_map, sym, ap, subst, ◌∙◌, arith}
+use Rattle.std.specs.List.{Contains, flat_map}
 use Rattle.auctioneer.specs.Asked.{AreJobs}
-use Rattle.auctioneer.specs.Laws.{job_in}
 use Rattle.auctioneer.specs.declared.placement.Placement.{Placement}
 use Rattle.cell_records.specs.declared.answer.Answer.{Answer}
-use Rattle.cell_records.specs.declared.job.Job.{Job}
 use Rattle.cell_records.specs.declared.job_name.JobName.{JobName}
 use Rattle.cell_records.specs.declared.job_name.JobName.TheVariants as name
 use Rattle.cell_rep.specs.Reps.{answer_of}
 use Rattle.cell_rep.specs.declared.rep.CellRep.{CellRep}
 use Rattle.crash_backoff.specs.declared.moment.Moment.{Moment}
 use Rattle.diego_names.specs.declared.instance.Instance.{Instance}
-use Rattle.diego_names.specs.declared.key.Key.{Key}
-use Rattle.lrp_records.specs.declared.actual.Actual.{Actual}
-use Rattle.lrp_records.specs.declared.presence.Presence.TheVariants.{Ordinary}
 use Rattle.bbs_model.specs.PortView.{PortView, rows_seen, Looks, IsQuiet}
 use Rattle.bbs_model.specs.Runs.{state_after_all}
-use Rattle.bbs_model.specs.Tables.{find_actual}
 use Rattle.bbs_model.specs.Valid.{IsValid}
-use Rattle.bbs_model.specs.Work.{is_there, wants, work}
+use Rattle.bbs_model.specs.Work.{is_there, work}
 use Rattle.bbs_model.specs.declared.command.Command.{Command}
 use Rattle.bbs_model.specs.declared.rows.Rows.{Rows}
 use Rattle.bbs_model.proofs.Public.{quiet_first, quiet_second}
-use Rattle.convergence.specs.Plans.{plan_of_answers}
 use Rattle.convergence.specs.Strays.{strays}
-use Rattle.convergence.specs.Subjects.{Subject, subject_in}
+use Rattle.convergence.specs.Subjects.{subject_in}
 use Rattle.convergence.specs.declared.report.Report.{Report}
 use Rattle.converge_laws.specs.Accepted.{AreAccepted, AreApart}
 use Rattle.converge_laws.specs.Converged.{IsConverged}
 use Rattle.converge_laws.specs.Laws.{after_work, after_plan}
-use Rattle.converge_laws.specs.Stages.{HaveAnswered, IsPlaceable, IsPlanned, IsClaimOf, AreWith, AreWithout, PlacesAll}
+use Rattle.converge_laws.specs.Stages.{HaveAnswered, IsPlaceable, IsPlanned, IsClaimOf, AreWithout, PlacesAll}
 use Rattle.converge_laws.proofs.Public.{run-valid, answered-ground, work-ground, work-leaves_nothing, plan-ground, plan-leaves_held, round-converges}
-use Rattle.converge_round.specs.Askings.{present, StandApart, IsHeardFrom, questions}
-use Rattle.converge_round.specs.Callings.{Calling, calling, IsNoted}
+use Rattle.converge_round.specs.Askings.{present, StandApart, questions}
+use Rattle.converge_round.specs.Callings.{Calling, IsNoted}
 use Rattle.converge_round.specs.Each.{Each}
 use Rattle.converge_round.specs.Jobs.{jobs}
-use Rattle.converge_round.specs.Phases.{fails_in}
 use Rattle.converge_round.specs.Places.{placements, jobs_on, unplaced, fails_of}
 use Rattle.converge_round.specs.Reps.{names_of}
 use Rattle.converge_round.specs.Rounds.{Standing, IsRound}
@@ -210,8 +202,7 @@ module _ (by : ℕ) (now : Moment) (line : ℕ) (s s' : Standing) (r : Report) (
       let q = roomy_cell n.served n.among in
       let one : n.answer ≡ n.served = answers_differ h.opened.reps apart_later n.answer n.served n.inside (heard_inside h.opened.reps q.answer.cell q.answer.epoch n.served q.heard) n.cells in
       let cells : n.answer.cell ≡ q.answer.cell = n.cells ∙ heard_cell h.opened.reps q.answer.cell q.answer.epoch n.served q.heard in
-      let epochs : n.claims.instance.epoch ≡ q.answer.epoch = n.claims.epoch_is ∙ ap (λ (x : Answer). x.epoch) one ∙ q.heard.epoch_is in
-      (
+      let epochs : n.claims.instance.epoch ≡ q.answer.epoch = n.claims.epoch_is ∙ ap (λ (x : Answer). x.epoch) one ∙ q.heard.epoch_is in (
         n.claims.job,
         n.claims.instance,
         n.answer.cell,

@@ -1,5 +1,5 @@
 -- Calls that had replies: what they come to where nobody else calls, and what is counted of them.
-use Rattle.std.proofs.Common.{◌≡◌, ◌⊎◌, ℕ, ◌+◌, ◌<◌, ◌≤◌, ◌^◌, List, [], ◌∷◌, ◌++◌, length, map, refl, sym, ap, subst, ◌∙◌, arith, append_assoc, length-append, Ok, Result, ⊎_elim}
+use Rattle.std.proofs.Common.{◌≡◌, ℕ, ◌+◌, ◌<◌, ◌≤◌, ◌^◌, List, [], ◌∷◌, ◌++◌, length, map, refl, sym, ap, subst, ◌∙◌, arith, append_assoc, length-append, Ok, Result, ⊎_elim}
 use Rattle.std.specs.List.{Contains}
 use Rattle.std.proofs.lemmas.List.{append-nil}
 use Rattle.bbs_model.specs.Calls.{Ends, added}
@@ -20,7 +20,7 @@ use Rattle.bbs_model.specs.declared.verdict.Verdict.TheVariants as verdict
 use Rattle.bbs_model.proofs.Public.{later_same, later_called, later_then, quiet_first, quiet_second, quiet_called}
 use Rattle.bbs_laws.proofs.Public.{replay_log-append}
 use Rattle.converge_laws.proofs.Public.{inside_first, inside_rest}
-use Rattle.converge_round.specs.Callings.{Calling, calling, IsNoted, AreOf}
+use Rattle.converge_round.specs.Callings.{Calling, IsNoted, AreOf}
 use Rattle.converge_round.specs.Each.{Each}
 use Rattle.converge_round.specs.Tallies.{one_more, noted}
 use Rattle.converge_round.specs.declared.tally.Tally.{Tally}
@@ -123,8 +123,7 @@ turn_one by c s s' h q =
     let ends = subst (λ (x : Rows). Ends (verdict_of x c) (length (s.view.seen ++ h.called.others)) x.next (Ok h.reply)) same h.called.ends in
     let turn = turn_by by (rows_seen s.view) c h.reply (length (s.view.seen ++ h.called.others)) (rows_seen s.view).next (verdict_of (rows_seen s.view) c) ends in
     let all : s'.view.seen ≡ s.view.seen ++ added (Ok h.reply) by c = ap (λ (v : PortView). v.seen) h.called.is ∙ ap (λ xs. xs ++ added (Ok h.reply) by c) seen in
-    let base : s'.view.base ≡ s.view.base = ap (λ (v : PortView). v.base) h.called.is in
-    (
+    let base : s'.view.base ≡ s.view.base = ap (λ (v : PortView). v.base) h.called.is in (
       all ∙ ap (λ xs. s.view.seen ++ xs) turn.items,
       h.refused ∙ ap (λ xs. s.refused ++ xs) turn.refusal,
       ap (λ (b : Rows). replay_log b s'.view.seen) base ∙ ap (replay_log s.view.base) all ∙ replay_log-append s.view.base s.view.seen (added (Ok h.reply) by c) ∙ turn.rows_are,

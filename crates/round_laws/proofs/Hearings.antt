@@ -1,11 +1,10 @@
 -- A question that gets through to a rep that has joined is answered.
-use Rattle.std.proofs.Common.{◌≡◌, ◌⊎◌, ℕ, zero, suc, ◌+◌, Bool, true, false, not, List, [], ◌∷◌, ◌++◌, filter_map, slice_get, Option, Some, None, refl, sym, ap, subst, ◌∙◌, arith}
+use Rattle.std.proofs.Common.{◌≡◌, ℕ, zero, suc, ◌+◌, Bool, true, false, not, List, [], ◌∷◌, ◌++◌, slice_get, Option, Some, None, refl, sym, ap, subst, ◌∙◌, arith}
 use Rattle.std.specs.List.{Contains}
 use Rattle.std.specs.Option.{option_map_or, option_to_list}
 use Rattle.std.proofs.lemmas.List.Elements.{Contains-append_left, Contains-push}
 use Rattle.cell_records.specs.declared.answer.Answer.{Answer}
 use Rattle.cell_records.specs.declared.cell_row.CellRow.{CellRow}
-use Rattle.cell_rep.specs.Reps.{answer_of}
 use Rattle.cell_rep.specs.Wires.{WireEnds, Delivers, is_delivery_lost}
 use Rattle.cell_rep.specs.declared.rep.CellRep.{CellRep}
 use Rattle.cell_rep.specs.declared.wire.CallKind.TheVariants.{Ask}

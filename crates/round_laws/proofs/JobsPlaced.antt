@@ -1,9 +1,7 @@
 -- Each job that waits goes to one cell, and no two commands are about one.
-use Rattle.std.proofs.Common.{◌≡◌, ◌≢◌, ◌⊎◌, ℕ, zero, suc, Bool, true, false, cond, List, [], ◌∷◌, ◌++◌, map, filter_map, Option, Some, None, IsSome, refl, sym, ap, subst, ◌∙◌, arith, ⊎_elim, nat_eq}
+use Rattle.std.proofs.Common.{◌≡◌, ℕ, zero, suc, Bool, true, false, cond, List, [], ◌∷◌, map, Some, refl, sym, ap, subst, ◌∙◌, arith}
 use Rattle.std.specs.Cmp.{tied_itself}
-use Rattle.std.specs.Cmp.Lexicographic.{pointwise, same_text}
-use Rattle.std.specs.List.{All, AllPairs, Contains, cons_option, flat_map}
-use Rattle.std.specs.Option.{option_map, option_map_or, option_and_then}
+use Rattle.std.specs.List.{All, Contains}
 use Rattle.std.specs.Ordering.{eq_by_cmp}
 use Rattle.std.specs.declared.cmp.Ordering.{Ordering}
 use Rattle.std.specs.declared.cmp.Ordering.TheVariants.{Less, Equal}
@@ -12,16 +10,16 @@ use Rattle.auctioneer.specs.Asked.{AreJobs}
 use Rattle.auctioneer.specs.Auction.{auction}
 use Rattle.auctioneer.specs.Laws.{job_in, NamesAnswer}
 use Rattle.auctioneer.specs.Order.{turn_of, turn_order, in_order}
-use Rattle.auctioneer.specs.Stands.{same_name, stands_of}
+use Rattle.auctioneer.specs.Stands.{stands_of}
 use Rattle.auctioneer.specs.declared.placement.Placement.{Placement}
-use Rattle.auctioneer.specs.declared.placement.Placement.TheVariants.{On, NoRoom}
+use Rattle.auctioneer.specs.declared.placement.Placement.TheVariants.{On}
 use Rattle.auctioneer.proofs.Public.{jobs_placed, names_answers, IsKeyOrder-turn_order, same_turn}
 use Rattle.cell_records.specs.declared.answer.Answer.{Answer}
 use Rattle.cell_records.specs.declared.job.Job.{Job}
 use Rattle.cell_records.specs.declared.job_name.JobName.{JobName}
-use Rattle.row_tables.specs.Table.{IsKeyOrder, IsRising, find_row, put_row, table}
+use Rattle.row_tables.specs.Table.{IsKeyOrder, IsRising, find_row, table}
 use Rattle.row_tables.proofs.Public.{All-above, All-put_row, below_rest, IsRising-tail, IsRising-table, find_row-table, Contains-find_row, key-find_row, ties_itself}
-use Rattle.converge_laws.proofs.Public.{inside_first, inside_rest, first_or_rest, inside_map, from_map}
+use Rattle.converge_laws.proofs.Public.{inside_first, inside_rest, inside_map, from_map}
 use Rattle.round_laws.proofs.Lists.{Differ, differ_pairs, one_of_name}
 
 module _ {K X : Type 0} (R : K → K → Ordering) (key : X → K) (o : IsKeyOrder R) where

@@ -1,7 +1,7 @@
 -- Lists whose elements come of others.
-use Rattle.std.proofs.Common.{◌≡◌, ◌≢◌, ◌⊎◌, ℕ, zero, suc, ◌<◌, List, [], ◌∷◌, ◌++◌, length, map, get_or, set, filter_map, Option, Some, None, refl, sym, ap, subst, ◌∙◌, arith, inl, inr, ⊎_elim}
-use Rattle.std.specs.List.{AllPairs, AllZip, Contains, cons_option, flat_map}
-use Rattle.std.proofs.lemmas.List.Elements.{Contains-get_or, Contains-append_cases}
+use Rattle.std.proofs.Common.{◌≡◌, ◌≢◌, ℕ, zero, suc, ◌<◌, List, [], ◌∷◌, ◌++◌, length, map, get_or, set, filter_map, Option, Some, None, refl, sym, ap, subst, ◌∙◌, arith, ⊎_elim}
+use Rattle.std.specs.List.{AllPairs, AllZip, Contains, cons_option}
+use Rattle.std.proofs.lemmas.List.Elements.{Contains-append_cases}
 use Rattle.converge_laws.proofs.Public.{inside_first, inside_rest, first_or_rest, inside_map}
 
 inside_kept : {X Y : Type 0} (x : X) (ys : List X) (f : X → Option Y) (o : Option Y) (y : Y) → Contains (filter_map f ys) y → Contains (cons_option o (filter_map f ys)) y

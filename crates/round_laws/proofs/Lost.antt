@@ -1,5 +1,5 @@
 -- What each round lost, and what it heard.
-use Rattle.std.proofs.Common.{◌≡◌, ℕ, ◌+◌, ◌-◌, ◌≤◌, ◌^◌, min, List, [], length, refl, sym, ap, subst, ◌∙◌, arith}
+use Rattle.std.proofs.Common.{◌≡◌, ℕ, [], sym, ap, subst, ◌∙◌, arith}
 use Rattle.std.specs.List.{Contains}
 use Rattle.bbs_model.specs.PortView.{rows_seen}
 use Rattle.bbs_model.specs.Work.{work}
@@ -19,7 +19,7 @@ use Rattle.converge_round.specs.declared.tally.Tally.{Tally}
 use Rattle.crash_backoff.specs.declared.moment.Moment.{Moment}
 use Rattle.round_laws.specs.Losses.{HasCauses, RoundsHearWhatGetsThrough}
 use Rattle.round_laws.proofs.Answered.{are-heard, heard_cell}
-use Rattle.round_laws.proofs.Causes.{AreLost, lost-then, asks-lost, stops-lost, serves-lost}
+use Rattle.round_laws.proofs.Causes.{lost-then, asks-lost, stops-lost, serves-lost}
 use Rattle.round_laws.proofs.Hearings.{gets-through}
 use Rattle.round_laws.proofs.Losses.{lost_each}
 use Rattle.round_laws.proofs.RoomyCells.{heard_named}

@@ -1,8 +1,8 @@
 -- What the commands of all cells are about: each job that waits, once.
-use Rattle.std.proofs.Common.{◌≡◌, ◌≢◌, ◌⊎◌, ℕ, Bool, true, false, cond, List, [], ◌∷◌, ◌++◌, map, filter_map, Option, Some, None, refl, sym, ap, subst, ◌∙◌, arith, ⊎_elim}
+use Rattle.std.proofs.Common.{◌≡◌, ℕ, Bool, true, false, cond, List, [], ◌∷◌, map, Option, Some, None, refl, sym, ap, subst, ◌∙◌}
 use Rattle.std.specs.Prelude.{nat_lt}
-use Rattle.std.specs.Cmp.Lexicographic.{pointwise, same_text}
-use Rattle.std.specs.List.{AllPairs, Contains, cons_option, flat_map}
+use Rattle.std.specs.Cmp.Lexicographic.{same_text}
+use Rattle.std.specs.List.{Contains, cons_option, flat_map}
 use Rattle.std.specs.Option.{option_map, option_map_or, option_and_then}
 use Rattle.std.proofs.lemmas.Cmp.{nat_list_eq_equiv}
 use Rattle.auctioneer.specs.Laws.{job_in}
@@ -22,10 +22,10 @@ use Rattle.task_records.specs.declared.task.Task.{Task}
 use Rattle.bbs_model.specs.Tables.{find_desired, find_task, task_name_of}
 use Rattle.bbs_model.specs.declared.command.Command.{Command}
 use Rattle.bbs_model.specs.declared.rows.Rows.{Rows}
-use Rattle.convergence.specs.Subjects.{Subject, subject_in, ordinary_of, OfTask}
+use Rattle.convergence.specs.Subjects.{subject_in}
 use Rattle.converge_laws.specs.Accepted.{AreApart}
-use Rattle.converge_laws.proofs.Public.{inside_first, inside_rest, first_or_rest, inside_map, from_map, inside_flat_map, from_flat_map, subject_for, same_job_as, same_task_as}
-use Rattle.converge_round.specs.Jobs.{job_of_place, instance_job, job_of_task, named_job}
+use Rattle.converge_laws.proofs.Public.{inside_map, from_map, from_flat_map, subject_for, same_job_as, same_task_as}
+use Rattle.converge_round.specs.Jobs.{job_of_place, job_of_task, named_job}
 use Rattle.converge_round.specs.Places.{job_on, jobs_on}
 use Rattle.converge_round.proofs.Public.{from_kept}
 use Rattle.round_laws.proofs.ClaimsMade.{about_job}

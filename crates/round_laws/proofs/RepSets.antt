@@ -1,5 +1,5 @@
 -- One rep of many comes to something of its own.
-use Rattle.std.proofs.Common.{◌≡◌, ◌≢◌, ℕ, zero, suc, ◌<◌, List, [], ◌∷◌, length, get_or, set, map, refl, sym, ap, subst, ◌∙◌, arith}
+use Rattle.std.proofs.Common.{◌≡◌, ◌≢◌, ℕ, zero, suc, ◌<◌, List, [], ◌∷◌, length, get_or, set, ap, ◌∙◌, arith}
 use Rattle.cell_rep.specs.declared.rep.CellRep.{CellRep}
 use Rattle.converge_round.specs.Askings.{StandApart}
 use Rattle.converge_round.specs.Reps.{names_of, StandsFor}

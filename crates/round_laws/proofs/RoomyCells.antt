@@ -1,5 +1,5 @@
 -- The cells that jobs go to have answered, and are there.
-use Rattle.std.proofs.Common.{◌≡◌, ◌⊎◌, ℕ, Bool, true, false, ◌&&◌, ◌==◌, cond, List, [], ◌∷◌, ◌++◌, map, filter_map, Option, Some, None, refl, sym, ap, subst, ◌∙◌, arith, inl, inr, ⊎_elim}
+use Rattle.std.proofs.Common.{◌≡◌, ◌⊎◌, ℕ, Bool, true, false, ◌&&◌, ◌==◌, cond, List, [], ◌∷◌, ◌++◌, Option, Some, None, refl, sym, ap, subst, ◌∙◌, arith, inl, inr, ⊎_elim}
 use Rattle.std.specs.List.{Contains}
 use Rattle.std.specs.Option.{option_map_or, option_to_list}
 use Rattle.std.proofs.lemmas.Bool.{eq-eqb}
@@ -18,7 +18,7 @@ use Rattle.bbs_model.specs.Valid.{IsValid}
 use Rattle.bbs_model.specs.Work.{is_there}
 use Rattle.bbs_model.specs.declared.rows.Rows.{Rows}
 use Rattle.converge_laws.proofs.Public.{inside_first, inside_rest, first_or_rest, inside_map}
-use Rattle.converge_round.specs.Askings.{present_at, present, IsHeardFrom, Hears}
+use Rattle.converge_round.specs.Askings.{present_at, present, IsHeardFrom}
 use Rattle.converge_round.specs.Each.{Each}
 use Rattle.converge_round.specs.Places.{OpensIf, OpensOne, is_being_emptied}
 use Rattle.converge_round.specs.Reps.{names_of}

@@ -1,13 +1,11 @@
 -- Parts of a round one after another, and what was seen at their places.
 use Rattle.std.proofs.Common.{◌≡◌, ℕ, ◌+◌, ◌≤◌, List, [], ◌∷◌, ◌++◌, length, take, drop, map, refl, sym, ap, subst, ◌∙◌, arith, append_assoc, length-append}
-use Rattle.std.specs.List.{Contains}
 use Rattle.std.proofs.lemmas.List.{append-nil, map-append}
 use Rattle.bbs_model.specs.PortView.{PortView, rows_seen, Looks, IsLater, IsQuiet}
 use Rattle.bbs_model.specs.Replay.{replay_log}
 use Rattle.bbs_model.specs.Runs.{if_legal, state_after, state_after_all, legal_ones}
 use Rattle.bbs_model.specs.Step.{verdict_of}
 use Rattle.bbs_model.specs.declared.command.Command.{Command}
-use Rattle.bbs_model.specs.declared.item.Item.{Item}
 use Rattle.bbs_model.specs.declared.rows.Rows.{Rows}
 use Rattle.bbs_model.specs.declared.verdict.BoardRefusal.{BoardRefusal}
 use Rattle.bbs_model.specs.declared.verdict.Verdict.{Verdict}

@@ -1,10 +1,8 @@
 -- The claims of all cells that had replies.
-use Rattle.std.proofs.Common.{◌≡◌, ◌⊎◌, ℕ, ◌+◌, ◌-◌, ◌≤◌, ◌^◌, min, List, [], ◌∷◌, ◌++◌, refl, sym, ap, subst, ◌∙◌, arith, ⊎_elim}
+use Rattle.std.proofs.Common.{◌≡◌, ℕ, ◌+◌, ◌-◌, ◌≤◌, ◌^◌, min, List, [], ◌∷◌, ◌++◌, refl, sym, ap, subst, ◌∙◌, arith, ⊎_elim}
 use Rattle.std.specs.List.{Contains}
-use Rattle.auctioneer.specs.declared.placement.Placement.{Placement}
 use Rattle.bbs_model.specs.declared.command.Command.{Command}
 use Rattle.cell_records.specs.declared.answer.Answer.{Answer}
-use Rattle.cell_rep.specs.declared.rep.CellRep.{CellRep}
 use Rattle.converge_laws.proofs.Public.{inside_first, inside_rest}
 use Rattle.converge_round.specs.Each.{Each}
 use Rattle.converge_round.specs.Phases.{Course, ClaimsAt, ServesOne}
@@ -15,7 +13,7 @@ use Rattle.converge_round.specs.declared.placing.Places.{Places}
 use Rattle.crash_backoff.specs.declared.moment.Moment.{Moment}
 use Rattle.round_laws.specs.Alone.{AreClaims}
 use Rattle.round_laws.proofs.CellsServed.{each_append}
-use Rattle.round_laws.proofs.Had.{Had, had, IsHad}
+use Rattle.round_laws.proofs.Had.{had, IsHad}
 use Rattle.round_laws.proofs.RepSets.{names_set}
 use Rattle.round_laws.proofs.Starts.{in_course}
 use Rattle.round_laws.proofs.StartsHad.{AreStartsHad, starts-had}

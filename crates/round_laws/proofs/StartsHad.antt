@@ -1,7 +1,5 @@
 -- The claims of starts that had replies, heard or lost.
 use Rattle.std.proofs.Common.{◌≡◌, ◌⊎◌, ℕ, ◌+◌, ◌-◌, ◌≤◌, ◌^◌, min, Bool, true, false, List, [], ◌∷◌, ◌++◌, Option, Some, None, Result, Ok, Err, refl, sym, ap, subst, ◌∙◌, arith, inl, inr, ⊎_elim}
-use Rattle.std.specs.List.{Contains}
-use Rattle.cell_records.specs.declared.answer.Answer.{Answer}
 use Rattle.cell_records.specs.declared.job.Job.{Job}
 use Rattle.cell_records.specs.declared.job_name.JobName.{JobName}
 use Rattle.cell_records.specs.declared.job_name.JobName.TheVariants as name
@@ -21,7 +19,6 @@ use Rattle.cell_rep.specs.declared.todo.Todo.TheVariants as todo
 use Rattle.container_store.specs.declared.refusal.StoreRefusal.{StoreRefusal}
 use Rattle.crash_backoff.specs.declared.moment.Moment.{Moment}
 use Rattle.bbs_model.specs.PortView.{PortView, IsCalled}
-use Rattle.bbs_model.specs.Work.{at}
 use Rattle.bbs_model.specs.declared.command.Command.{Command}
 use Rattle.bbs_model.specs.declared.reply.Reply.{Reply}
 use Rattle.bbs_model.specs.declared.reply.Reply.TheVariants as reply
@@ -29,8 +26,8 @@ use Rattle.diego_names.specs.declared.instance.Instance.{Instance}
 use Rattle.converge_round.specs.Callings.{Calling, calling}
 use Rattle.converge_round.specs.Each.{Each}
 use Rattle.converge_round.specs.Sendings.{WireAt}
-use Rattle.converge_round.specs.Starts.{Serving, serving, answered, counted, HasNoFault, IsClaim, TakesIf, StartsOne}
-use Rattle.converge_round.specs.Tallies.{one_more, noted, lost_one}
+use Rattle.converge_round.specs.Starts.{Serving, counted, HasNoFault, IsClaim, TakesIf, StartsOne}
+use Rattle.converge_round.specs.Tallies.{noted, lost_one}
 use Rattle.converge_round.specs.declared.tally.Tally.{Tally}
 use Rattle.round_laws.specs.Alone.{AreClaimsOn}
 use Rattle.round_laws.proofs.Had.{Had, had, IsHad, own_after, refusal_in, own_noted, refused_noted}
@@ -93,12 +90,17 @@ module _ (by : ℕ) (now : Moment) (cell : List ℕ) (job : Job) (s s' : Serving
   -- a reply that counts on a tally with the same own and refused
   replied : (c : Command) (r : Reply) (t : Tally) → t.own ≡ s.tally.own → t.refused ≡ s.tally.refused → min s.tally.lost (2 ^ 64 - 1) ≤ t.lost → IsClaim now cell job c → s'.tally ≡ noted c r t → IsCalled by s.view c (Ok r) s'.view
       → IsTraced by now cell job s s'
-  replied c r t own refused lost claim is h = inl (c, claim, record {
-    reply = r;
-    called = h;
-    own = ap (λ (x : Tally). x.own) is ∙ own_noted c r t ∙ ap (own_after r) own;
-    refused = ap (λ (x : Tally). x.refused) is ∙ refused_noted c r t ∙ ap (λ xs. xs ++ refusal_in c r) refused;
-  }, omega (arith, lost, ap (λ (x : Tally). x.lost) is, lost_noted c r t))
+  replied c r t own refused lost claim is h = inl (
+    c,
+    claim,
+    record {
+      reply = r;
+      called = h;
+      own = ap (λ (x : Tally). x.own) is ∙ own_noted c r t ∙ ap (own_after r) own;
+      refused = ap (λ (x : Tally). x.refused) is ∙ refused_noted c r t ∙ ap (λ xs. xs ++ refusal_in c r) refused;
+    },
+    omega (arith, lost, ap (λ (x : Tally). x.lost) is, lost_noted c r t),
+  )
 
   by_end : (c : Command) (e : CallEnd) → a.end ≡ e → a.command ≡ Some c → IsClaim now cell job c → IsDelivered by s.view c e s'.view → IsTraced by now cell job s s'
   by_end c (Got r) is called claim h =
@@ -129,8 +131,7 @@ module _ (by : ℕ) (now : Moment) (job : Job) (s s' : Serving) (wire : WireAt) 
   left_by out is follows =
       let h = subst (λ xs. Follows by s.rep.cell wire.ends (job_todo job now s.rep.cell s.rep.joined ∷ []) (job_begun job s.rep s.rep.joined) s.view xs s'.rep s'.view) (sym is) follows in
       let x : Todo = job_todo job now s.rep.cell s.rep.joined in
-      let claim : IsJobTodo now s.rep.cell job x = todo_of now s.rep.cell job s.rep.joined in
-      (
+      let claim : IsJobTodo now s.rep.cell job x = todo_of now s.rep.cell job s.rep.joined in (
         by_todo by now s.rep.cell job s s' a ended counts x (job_begun job s.rep s.rep.joined) s'.rep wire.ends claim h,
         ap (λ (r : CellRep). r.cell) h.3.0 ∙ cell_done now s.rep.cell job x a.end (job_begun job s.rep s.rep.joined) claim ∙ cell_begun job s.rep s.rep.joined,
       )

@@ -1,17 +1,16 @@
 -- A start that counts neither a loss nor a refusal: the claim of one container more.
-use Rattle.std.proofs.Common.{◌≡◌, ◌⊎◌, ℕ, ◌+◌, ◌^◌, min, Bool, true, false, cond, eqb, List, [], ◌∷◌, ◌++◌, Option, Some, None, Result, Ok, Err, refl, sym, ap, subst, ◌∙◌, arith, ⊎_elim}
+use Rattle.std.proofs.Common.{◌≡◌, ℕ, Bool, true, false, cond, eqb, List, [], ◌∷◌, Option, Some, None, Result, Ok, Err, refl, sym, ap, subst, ◌∙◌, ⊎_elim}
 use Rattle.std.specs.Prelude.{nat_lt}
 use Rattle.std.specs.Result.{result_unwrap_or}
 use Rattle.cell_records.specs.declared.job.Job.{Job}
 use Rattle.cell_records.specs.declared.job_name.JobName.{JobName}
 use Rattle.cell_records.specs.declared.job_name.JobName.TheVariants as name
-use Rattle.cell_rep.specs.Acts.{claim_op, claim_todo, job_claim, job_todo, job_begun}
+use Rattle.cell_rep.specs.Acts.{claim_op, claim_todo, job_todo, job_begun}
 use Rattle.cell_rep.specs.Claims.{claimed_next, store_claimed}
 use Rattle.cell_rep.specs.Deliveries.{IsDelivered}
 use Rattle.cell_rep.specs.Ends.{after_reply, left}
 use Rattle.cell_rep.specs.Follows.{Stage, stage, Follows, IsStarted, starved}
 use Rattle.cell_rep.specs.Reps.{with_store}
-use Rattle.cell_rep.specs.Wires.{WireEnds}
 use Rattle.cell_rep.specs.declared.call_end.CallEnd.{CallEnd}
 use Rattle.cell_rep.specs.declared.call_end.CallEnd.TheVariants.{Got, Fault, CallLost, ReplyLost, Local, Idle}
 use Rattle.cell_rep.specs.declared.call_end.Called.{Called}
@@ -28,9 +27,9 @@ use Rattle.bbs_model.specs.Work.{at}
 use Rattle.bbs_model.specs.declared.command.Command.{Command}
 use Rattle.bbs_model.specs.declared.reply.Reply.{Reply}
 use Rattle.bbs_model.specs.declared.reply.Reply.TheVariants as reply
-use Rattle.converge_round.specs.Callings.{Calling, calling, IsNoted}
+use Rattle.converge_round.specs.Callings.{calling, IsNoted}
 use Rattle.converge_round.specs.Sendings.{WireAt}
-use Rattle.converge_round.specs.Starts.{Serving, serving, answered, counted, HasNoFault, TakesIf, StartsOne}
+use Rattle.converge_round.specs.Starts.{Serving, counted, HasNoFault, TakesIf, StartsOne}
 use Rattle.converge_round.specs.Tallies.{noted, lost_one}
 use Rattle.converge_round.specs.declared.tally.Tally.{Tally}
 use Rattle.round_laws.proofs.Losses.{one_more-some}

@@ -1,6 +1,6 @@
 -- Where no stop was lost all strays are gone.
-use Rattle.std.proofs.Common.{◌≡◌, ◌≢◌, ◌⊎◌, ℕ, ◌+◌, ◌≤◌, Bool, true, false, not, List, [], ◌∷◌, ◌++◌, length, filter, filter_map, Option, Some, None, Ok, refl, sym, ap, subst, ◌∙◌, arith, ⊎_elim, length-append}
-use Rattle.std.specs.List.{AllZip, Contains}
+use Rattle.std.proofs.Common.{◌≡◌, ◌≢◌, ℕ, ◌+◌, ◌≤◌, Bool, true, false, not, List, [], ◌∷◌, ◌++◌, length, filter_map, Option, Some, None, Ok, refl, sym, ap, subst, ◌∙◌, arith, ⊎_elim, length-append}
+use Rattle.std.specs.List.{Contains}
 use Rattle.std.specs.Result.{result_unwrap_or}
 use Rattle.std.proofs.lemmas.List.Elements.{Contains-append_left, Contains-append_right, Contains-append_cases}
 use Rattle.cell_records.specs.declared.answer.Answer.{Answer}
@@ -50,9 +50,11 @@ without_then as' bs x y z f g = record {
   left = λ c. (
     λ inside.
         let later = (g.left c).0 inside in
-        let first = (f.left c).0 later.0 in
-        (first.0, λ stopped. ⊎_elim first.1 (λ (s : Contains bs (x.cell, c.instance)). later.1 (subst (λ (n : List ℕ). Contains bs (n, c.instance)) (sym f.same.cell) s))
-        (Contains-append_cases as' bs (x.cell, c.instance) stopped)),
+        let first = (f.left c).0 later.0 in (
+          first.0,
+          λ stopped. ⊎_elim first.1 (λ (s : Contains bs (x.cell, c.instance)). later.1 (subst (λ (n : List ℕ). Contains bs (n, c.instance)) (sym f.same.cell) s))
+              (Contains-append_cases as' bs (x.cell, c.instance) stopped),
+        ),
     λ p.
         (g.left c).1 (
           (f.left c).1 (p.0, λ s. p.1 (Contains-append_left as' bs (x.cell, c.instance) s)),

@@ -1,6 +1,5 @@
 -- What waits is among the jobs, and each job that waits is claimed.
-use Rattle.std.proofs.Common.{◌≡◌, ℕ, Bool, true, false, cond, List, [], ◌∷◌, map, filter_map, Option, Some, None, refl, sym, ap, subst, ◌∙◌, arith}
-use Rattle.std.specs.Prelude.{nat_lt}
+use Rattle.std.proofs.Common.{◌≡◌, ℕ, Bool, true, cond, List, [], map, filter_map, Option, Some, None, refl, sym, ap, subst, ◌∙◌, arith}
 use Rattle.std.specs.List.{Contains, flat_map}
 use Rattle.std.specs.Option.{option_map, option_and_then}
 use Rattle.std.proofs.lemmas.List.Elements.{Contains-append_left, Contains-append_right}
@@ -19,11 +18,10 @@ use Rattle.lrp_records.specs.Place.{place_of, place_order}
 use Rattle.lrp_records.specs.declared.actual.Actual.{Actual}
 use Rattle.lrp_records.specs.declared.desired.Desired.{Desired}
 use Rattle.lrp_records.specs.declared.presence.Presence.{Presence}
-use Rattle.lrp_records.specs.declared.presence.Presence.TheVariants.{Ordinary, Evacuating}
+use Rattle.lrp_records.specs.declared.presence.Presence.TheVariants.{Ordinary}
 use Rattle.lrp_records.specs.declared.state.LrpState.{LrpState}
 use Rattle.lrp_records.specs.declared.state.LrpState.TheVariants as lrp
 use Rattle.row_tables.proofs.Public.{Contains-find_row, key-find_row}
-use Rattle.task_records.specs.declared.state.TaskState.{TaskState}
 use Rattle.task_records.specs.declared.state.TaskState.TheVariants as task
 use Rattle.task_records.specs.declared.task.Task.{Task}
 use Rattle.bbs_model.specs.Lrps.{is_wanted}
@@ -31,7 +29,7 @@ use Rattle.bbs_model.specs.Tables.{find_desired, find_actual, find_task, task_na
 use Rattle.bbs_model.specs.Work.{wants}
 use Rattle.bbs_model.specs.declared.command.Command.{Command}
 use Rattle.bbs_model.specs.declared.rows.Rows.{Rows}
-use Rattle.convergence.specs.Subjects.{Subject, subject_in}
+use Rattle.convergence.specs.Subjects.{subject_in}
 use Rattle.converge_laws.proofs.Public.{inside_map, from_map, inside_flat_map, subject_for}
 use Rattle.converge_round.specs.Jobs.{job_of_place, instance_job, waiting_job, row_job, job_of_task, pending_job, task_job, jobs, named_job}
 use Rattle.converge_round.specs.Places.{placements, jobs_on, without_room, unplaced}

@@ -1,4 +1,4 @@
-//! The laws of a whole round of convergence.
+//! A whole round of convergence, and its laws.
 #![tactic(auto)]
 
 mod converging;
