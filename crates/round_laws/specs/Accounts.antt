@@ -36,7 +36,8 @@ pub record AreInOrder (start : ℕ) (at : Readings) (end : ℕ) : Type 0 where
   pub last : at.auction ≤ end
 
 -- an item of that caller that the rows of a place up to its own asked for, from the round's start on
-pub record IsItemAsked (by : ℕ) (now : Moment) (got roomy : List Answer) (start : ℕ) (v : PortView) (i : Item) : Type 0 where
+pub record IsItemAsked (by : ℕ) (now : Moment) (got roomy : List Answer) (start : ℕ) (v : PortView)
+    (i : Item) : Type 0 where
   pub place : ℕ
   pub low : start ≤ place
   pub behind : Contains (drop place v.seen) i

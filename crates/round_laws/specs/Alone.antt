@@ -46,7 +46,8 @@ abbrev pub AreClaimsOn : Moment → List ℕ → List Job → ℕ → List Comma
 AreClaimsOn now cell [] missing cs = (missing ≡ 0) × (cs ≡ [])
 AreClaimsOn now cell (job ∷ jobs) missing cs =
     ((m : ℕ) × (missing ≡ m + 1) × AreClaimsOn now cell jobs m cs)
-    ⊎ ((c : Command) × (rest : List Command) × (cs ≡ c ∷ rest) × IsClaim now cell job c × AreClaimsOn now cell jobs missing rest)
+    ⊎ ((c : Command) × (rest : List Command) × (cs ≡ c ∷ rest) × IsClaim now cell job c
+    × AreClaimsOn now cell jobs missing rest)
 
 -- claims of the jobs of these cells, cell by cell, but for so many
 abbrev pub AreClaims : Moment → Rows → List Placement → List Answer → ℕ → List Command → Type 0
@@ -55,9 +56,9 @@ AreClaims now rows list (x ∷ xs) missing cs =
     (m : ℕ) × (n : ℕ) × (here : List Command) × (rest : List Command) × (missing ≡ m + n) × (cs ≡ here ++ rest)
     × AreClaimsOn now x.cell (jobs_on rows list x.cell) m here × AreClaims now rows list xs n rest
 
--- a round that nobody disturbed: its commands are the work at its start, the plan at the rows after that, and the claims
--- and notes of the auction at the rows after both; its items and its refusals are those of these commands; a claim is
--- missing only where its start was lost
+-- a round that nobody disturbed: its commands are the work at its start, the plan at the rows after that, and the
+-- claims and notes of the auction at the rows after both; its items and its refusals are those of these commands; a
+-- claim is missing only where its start was lost
 pub record IsAlone (by : ℕ) (now : Moment) (got roomy : List Answer) (v : PortView) (r : Report) : Type 0 where
   pub claims : List Command
   pub missing : ℕ

@@ -33,8 +33,9 @@ abbrev pub CompleteRoundsTakeAll : Type 0
 CompleteRoundsTakeAll = (by : ℕ) (now : Moment) (line : ℕ) (s s' : Standing) (r : Report) (h : IsRound by now line s s' r) →
     IsComplete r → HasTakenAll by now line s s' r h
 
--- where the names of the reps differ, a complete round leaves all as it should be, by the rows that it has seen and what
--- the reps answer then
+-- where the names of the reps differ, a complete round leaves all as it should be, by the rows that it has seen
+-- and what the reps answer then
 abbrev pub CompleteRoundsConverge : Type 0
-CompleteRoundsConverge = (by : ℕ) (now : Moment) (line : ℕ) (s s' : Standing) (r : Report) → IsRound by now line s s' r →
-    StandApart (names_of s.reps) → IsComplete r → IsConverged (rows_seen s'.view) r.stores now
+CompleteRoundsConverge = (by : ℕ) (now : Moment) (line : ℕ) (s s' : Standing) (r : Report) →
+    IsRound by now line s s' r → StandApart (names_of s.reps) → IsComplete r →
+    IsConverged (rows_seen s'.view) r.stores now

@@ -51,13 +51,15 @@ declined_if true by now job wire s s' h = declined_end h.answer.end
 declined_if false by now job wire s s' h = 0
 
 -- how many starts on a cell its rep declined
-abbrev pub declined_on : (by : ℕ) (now : Moment) (jobs : List Job) (s s' : Serving) → Each (StartsOne by now) jobs s s' → ℕ
+abbrev pub declined_on : (by : ℕ) (now : Moment) (jobs : List Job) (s s' : Serving) →
+    Each (StartsOne by now) jobs s s' → ℕ
 declined_on by now [] s s' f = 0
 declined_on by now (job ∷ jobs) s s' f =
     declined_if f.1.reached by now job f.1.wire s f.0 f.1.takes + declined_on by now jobs f.0 s' f.2
 
 -- the same where a cell is served
-abbrev pub declined_at : (by : ℕ) (now : Moment) (p : Places) (x : Answer) (s s' : Course) → ServesOne by now p x s s' → ℕ
+abbrev pub declined_at : (by : ℕ) (now : Moment) (p : Places) (x : Answer) (s s' : Course) →
+    ServesOne by now p x s s' → ℕ
 declined_at by now p x s s' (inl c) = declined_on by now (jobs_on p.rows p.placements x.cell)
     (serving c.rep s.view s.tally s.wire) (serving c.after s'.view s'.tally s'.wire) c.starts
 declined_at by now p x s s' (inr none) = 0
@@ -79,12 +81,14 @@ mute_of by now line s s' r h = mute_among s.reps (present (rows_seen h.opens.fir
     (questions s.wire []) (questions h.opens.wire h.opens.hearing.got) h.opens.heard.got
 
 -- how many starts of a round were declined
-abbrev pub declined_of : (by : ℕ) (now : Moment) (line : ℕ) (s s' : Standing) (r : Report) → IsRound by now line s s' r → ℕ
+abbrev pub declined_of : (by : ℕ) (now : Moment) (line : ℕ) (s s' : Standing) (r : Report) →
+    IsRound by now line s s' r → ℕ
 declined_of by now line s s' r h =
     declined_among by now h.opening_is.places h.opening_is.places.roomy h.opened h.served h.serves
 
 -- what a round lost was lost by the wire, or a cell had nothing to tell, or a rep declined a start
-pub record HasCauses (by : ℕ) (now : Moment) (line : ℕ) (s s' : Standing) (r : Report) (h : IsRound by now line s s' r) : Type 0 where
+pub record HasCauses (by : ℕ) (now : Moment) (line : ℕ) (s s' : Standing) (r : Report)
+    (h : IsRound by now line s s' r) : Type 0 where
   pub wire : ℕ
   pub rose : RoseBy wire s.wire.losses s'.wire.losses
   pub lost : r.lost ≤ wire + (mute_of by now line s s' r h + declined_of by now line s s' r h)
