@@ -8,5 +8,6 @@ pub mod Writing
 pub mod Keeping
 pub mod Doubting
 pub mod Held
+pub mod Again
 pub mod Completing
 mod Outcomes

@@ -3,26 +3,14 @@ ghost use Rattle.std.specs.Prelude.{◌≡◌, ◌+◌, ◌<◌, ◌^◌, Ok, Er
 ghost use Rattle.std.specs.Bool.{MatchBool};
 ghost use Rattle.bbs_journal.specs.Reading.{payloads_of, bytes_of};
 ghost use Rattle.bbs_model.specs.Valid.{IsValid};
-ghost use Rattle.bbs_board.specs.Opening.{after_legal, after_payload, followed, Tells};
+ghost use Rattle.bbs_board.specs.Opening.{after_payload, followed, Tells};
 
+use crate::redoing::redo_command;
 use bbs_codec::read_command;
 use bbs_index::Index;
 use bbs_journal::LoadFault;
-use bbs_model::{Command, RowStore};
-use bbs_transitions::redo;
 use diego_names::OutOfMemory;
 use disk_trait::Area;
-
-fn follow_command(index: &mut Index, command: &Command) -> Result<bool, OutOfMemory>
-    requires { IsValid index.old.rows }
-    ensures after { IfOk result (λ legal. MatchBool legal
-        (after_legal index.old.rows command.entry.now ≡ Some index.new.rows)
-        (after_legal index.old.rows command.entry.now ≡ None)) }
-    ensures valid { IsValid index.new.rows }
-{
-    index.reserve(2)?;
-    Ok(redo(index, command))
-}
 
 /// Does the command of a payload, and tells whether it is one that is legal there.
 fn follow_payload(index: &mut Index, payload: &[u8]) -> Result<bool, OutOfMemory>
@@ -33,7 +21,7 @@ fn follow_payload(index: &mut Index, payload: &[u8]) -> Result<bool, OutOfMemory
     ensures valid { IsValid index.new.rows }
 {
     match read_command(payload) {
-        Ok(command) => follow_command(index, &command),
+        Ok(command) => redo_command(index, &command),
         Err(_) => Ok(false),
     }
 }

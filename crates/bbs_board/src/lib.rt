@@ -11,6 +11,7 @@ mod loading;
 mod memory_loading;
 mod putting;
 mod reading;
+mod redoing;
 mod room;
 
 pub use bbs_journal::{LoadFault, PrepareFault, prepare};

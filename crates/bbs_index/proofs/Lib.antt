@@ -3,3 +3,5 @@ pub mod Order
 pub mod Rows
 pub mod Counting
 pub mod Boards
+pub mod Numbers
+pub mod Gone

@@ -14,9 +14,11 @@ module _ {K X : Type 0} (R : K → K → Ordering) where
   abbrev pub table_of : List (K × X) → List X
   table_of es = map (λ e. e.1) (in_order es)
 
--- what a shelf holds: its rows in the order of their keys, and how many more fit without memory
+-- what a shelf holds: its rows in the order of their keys and in that of their numbers, and how many more
+-- fit without memory
 pub record Stock (X : Type 0) : Type 0 where
   pub rows : List X
+  pub numbered : List X
   pub spare : ℕ
 
 -- the entries are a shelf: each row stands under its own key, and each entry is a row of the table

@@ -1,6 +1,6 @@
 //! The map under a shelf: what a put and a removal do to its entries.
-ghost use Rattle.std.specs.Prelude.{◌≡◌, ◌+◌, ◌≤◌, None, Some, is_some, if◌then◌else◌};
-ghost use Rattle.indexmap.specs.IndexMap.{get, index_map_len, spare, Updates};
+ghost use Rattle.std.specs.Prelude.{◌≡◌, ◌+◌, ◌<◌, ◌≤◌, None, Some, is_some, if◌then◌else◌};
+ghost use Rattle.indexmap.specs.IndexMap.{get, index_map_len, spare, with_value_at, IsUnique, Updates};
 ghost use Rattle.bbs_model.specs.Store.{HasRoom, TakesRoom};
 
 use bbs_model::Rowed;
@@ -23,6 +23,16 @@ pub(crate) fn put_entry<X: Rowed>(map: &mut IndexMap<X::Key, X>, row: X)
         Ok(_) => {}
         Err(_) => unreachable!(),
     }
+}
+
+// Writes over the row of this number.
+pub(crate) fn put_entry_at<X: Rowed>(map: &mut IndexMap<X::Key, X>, number: usize, row: X)
+    requires { number < index_map_len map.old }
+    ensures rows { map.new ≡ with_value_at map.old number row }
+    ensures unique { IsUnique X.Key.eq map.old }
+{
+    let _len = map.len();
+    map[number] = row;
 }
 
 // Takes the entry at the key away, if there is one.

@@ -5,6 +5,7 @@
 mod entries;
 mod index;
 mod placed;
+mod redoing;
 mod row_store;
 mod shelf;
 mod sorted;

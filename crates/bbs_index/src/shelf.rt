@@ -1,10 +1,11 @@
 //! A shelf is a map from each row's key to the row, and contracts see it as the table of its rows.
 
-ghost use Rattle.std.specs.Prelude.{◌≡◌, ℕ, ◌≤◌, [], length, IsOk, IfOk, OnOk};
+ghost use Rattle.std.specs.Prelude.{◌≡◌, ℕ, ◌<◌, ◌≤◌, [], length, slice_get, Some, IfSome, IsOk, IfOk, OnOk};
+ghost use Rattle.std.specs.Option.{option_map, option_copied, option_and_then};
 ghost use Rattle.row_tables.specs.Table.{find_row, put_row, without_row, IsRising};
 ghost use Rattle.bbs_model.specs.Store.{HasRoom, TakesRoom};
 
-use crate::entries::{put_entry, remove_entry};
+use crate::entries::{put_entry, put_entry_at, remove_entry};
 use crate::sorted::sorted_entries;
 use bbs_model::Rowed;
 use indexmap::IndexMap;
@@ -12,20 +13,24 @@ use std::alloc::{AllocError, Global};
 use std::marker::Model;
 
 /// Rows of one kind, each under its own key. Every look-up, put and removal is a constant number
-/// of map operations. A clause sees the table of the rows, in the order of their keys, and the
-/// spare room: how many rows with new keys fit without memory.
+/// of map operations. A clause sees the table of the rows, in the order of their keys, the rows in
+/// the order of their numbers, and the spare room: how many rows with new keys fit without memory.
 #[derive(Drop)]
 pub struct Shelf<X: Rowed> {
     map: IndexMap<X::Key, X>,
 }
 
 impl<X: Rowed> Model for Shelf<X> {
-    ghost use Rattle.indexmap.specs.IndexMap.{spare};
+    ghost use Rattle.indexmap.specs.IndexMap.{spare, values};
     ghost use Rattle.bbs_index.specs.Shelf.{Stock, table_of, IsShelf};
 
     ghost Value = { Stock X };
 
-    ghost view = { λ a. record { rows = table_of X.Key.cmp a.map.entries; spare = spare a.map } };
+    ghost view = { λ a. record {
+      rows = table_of X.Key.cmp a.map.entries;
+      numbered = values a.map;
+      spare = spare a.map;
+    } };
 
     ghost invariant = { λ a. IsShelf X.Key.cmp X.Key.eq X.key a.map.entries };
 }
@@ -76,6 +81,30 @@ impl<X: Rowed> Shelf<X> {
         self.map.get(key).copied()
     }
 
+    /// The row at the key where it stands, without a copy.
+    pub fn look(&self, key: &X::Key) -> Option<&X>
+        ensures { option_copied result ≡ find_row X.Key.cmp X.key key.now self.now.rows }
+    {
+        self.map.get(key)
+    }
+
+    /// The number of the row at the key. It is the row's until a row is removed.
+    pub fn find(&self, key: &X::Key) -> Option<usize>
+        ensures row { option_and_then (slice_get self.now.numbered) result
+            ≡ find_row X.Key.cmp X.key key.now self.now.rows }
+        ensures within { IfSome result (λ number. number < length self.now.numbered) }
+    {
+        self.map.get_index_of(key)
+    }
+
+    /// The row of this number, where it stands. No key is looked up.
+    pub fn at(&self, number: usize) -> &X
+        requires { number < length self.now.numbered }
+        ensures { slice_get self.now.numbered number ≡ Some result.now }
+    {
+        &self.map[number]
+    }
+
     /// Makes room for `n` more rows with new keys. It fails only for want of memory.
     pub fn reserve(&mut self, n: usize) -> Result<(), AllocError>
         ensures rows { self.new.rows ≡ self.old.rows }
@@ -94,6 +123,15 @@ impl<X: Rowed> Shelf<X> {
             self.old.spare self.new.spare }
     {
         put_entry(&mut self.map, row);
+    }
+
+    /// Puts the row in the place of the one of this number, which has its key. No key is looked up.
+    pub fn put_at(&mut self, number: usize, row: X)
+        requires { option_map X.key (slice_get self.old.numbered number) ≡ Some (X.key row) }
+        ensures rows { self.new.rows ≡ put_row X.Key.cmp X.key row self.old.rows }
+        ensures spare { self.old.spare ≤ self.new.spare }
+    {
+        put_entry_at(&mut self.map, number, row);
     }
 
     /// Takes the row at the key away, if there is one.

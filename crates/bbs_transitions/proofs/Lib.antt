@@ -1,2 +1,3 @@
 mod Doable
-mod After
+pub mod After
+pub mod Public
