@@ -20,19 +20,20 @@ use crate::room::make_room;
 use bbs_codec::write_command;
 use bbs_index::Index;
 use bbs_journal::Journal;
-use bbs_model::{CallFault, Command, Item, Reply, RowStore, Rows, Verdict};
+use bbs_model::{CallFault, Command, Item, Reply, RowStore, Verdict};
 use bbs_transitions::{apply, decide};
 use diego_names::OutOfMemory;
 use disk_trait::Disk;
 use std::marker::Model;
+use std::snapshot::Snapshot;
 
 /// The rows of a board under their index, and the journal that keeps them.
 #[derive(Drop)]
 pub struct Board<D: Disk> {
     pub(crate) journal: Journal<D>,
     pub(crate) index: Index,
-    // The rows that the disk held when it was loaded.
-    pub(crate) base: Rows,
+    // The rows that the disk held when it was loaded, for clauses alone: it has no bytes.
+    pub(crate) base: Snapshot<Index>,
     pub(crate) history: History,
     // The disk's clock and its count of faults at the end of the load.
     pub(crate) since: u64,
@@ -47,7 +48,7 @@ impl<D: Disk> Model for Board<D> {
 
     ghost view = { λ b. record {
       disk = b.journal.disk;
-      base = b.base;
+      base = b.base.value.rows;
       log = b.history.log;
       marks = b.history.marks;
       since = b.since;
@@ -56,8 +57,8 @@ impl<D: Disk> Model for Board<D> {
       spare = calls_for b.index.spare b.history.room;
     } };
 
-    ghost invariant = { λ b. IsSound D.told D.fault_count b.index.rows b.base b.history.log
-        b.history.marks b.history.told b.since b.faults b.journal };
+    ghost invariant = { λ b. IsSound D.told D.fault_count b.index.rows b.base.value.rows
+        b.history.log b.history.marks b.history.told b.since b.faults b.journal };
 }
 
 /// What is left of a board that was closed.

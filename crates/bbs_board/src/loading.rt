@@ -18,6 +18,7 @@ use bbs_index::Index;
 use bbs_journal::{LoadFault, Loaded};
 use disk_trait::{Area, Disk};
 use std::alloc::Global;
+use std::snapshot::Snapshot;
 
 /// The rows of a head and of the frames behind it, or the defect that stands first.
 fn board_of(
@@ -61,19 +62,15 @@ pub fn load<D: Disk>(alloc: Global, disk: D) -> Result<Board<D>, (D, LoadFault)>
         Ok(loaded) => loaded,
         Err(refused) => return Err(refused),
     };
-    let index = match board_of(alloc, journal.area(), &head, &frames, broken) {
-        Ok(index) => index,
-        Err(fault) => return Err((journal.into_disk(), fault)),
-    };
-    match index.rows(alloc) {
-        Ok(base) => Ok(Board {
+    match board_of(alloc, journal.area(), &head, &frames, broken) {
+        Ok(index) => Ok(Board {
             since: journal.clock(),
             faults,
             journal,
+            base: Snapshot::of(&index),
             index,
-            base,
             history: History::new(alloc),
         }),
-        Err(_) => Err((journal.into_disk(), LoadFault::OutOfMemory)),
+        Err(fault) => Err((journal.into_disk(), fault)),
     }
 }

@@ -2,6 +2,7 @@ use Rattle.std.proofs.Common.{◌≡◌, ◌∙◌, Ok, None, Some, Option, List
 use Rattle.std.specs.Prelude.{is_some}
 use Rattle.std.proofs.lemmas.List.{length-map}
 use Rattle.disk_trait.specs.Past.{Past}
+use Rattle.bbs_index.specs.Index.{Indexed}
 use Rattle.bbs_journal.specs.Reading.{payloads_of}
 use Rattle.bbs_model.specs.Replay.{replay_log, IsLawful}
 use Rattle.bbs_model.specs.Told.{told_in}
@@ -20,7 +21,7 @@ invariant_of-result g c =
     let none : c.in-Ok.loaded.broken ≡ None = unbroken c.in-Ok.loaded.journal.area c.in-Ok.loaded.head.items payloads c.in-Ok.loaded.broken c.in-Ok-board_of.index.rows is in
     let fresh = c.in-Ok.ensures.fresh in
     let count = counted c.in-Ok.loaded.journal.area c.in-Ok.loaded.head.items payloads c.in-Ok-board_of.index.rows (subst (λ (b : Option ℕ). board_of c.in-Ok.loaded.journal.area c.in-Ok.loaded.head.items payloads b ≡ Ok c.in-Ok-board_of.index.rows) none is) in
-    let base_is : c.in-Ok-rows.base ≡ c.in-Ok-board_of.index.rows = c.in-Ok-rows.ensures.rows in
+    let base_is : c.of.result.value.rows ≡ c.in-Ok-board_of.index.rows = ap (λ (i : Indexed). i.rows) c.of.ensures in
     let log_is : c.new.result.log ≡ [] = c.new.ensures.log in
     let marks_is : c.new.result.marks ≡ [] = c.new.ensures.marks in
     let frames_are = fresh.count ∙ sym (length-map c.in-Ok.loaded.frames.items (λ v. v.items)) in
@@ -28,9 +29,9 @@ invariant_of-result g c =
     record {
       opened = subst IsValid (sym base_is) c.in-Ok-board_of.ensures.valid;
       valid = c.in-Ok-board_of.ensures.valid;
-      lawful = subst (IsLawful c.in-Ok-rows.base) (sym log_is) tt;
-      rows_are = sym base_is ∙ ap (replay_log c.in-Ok-rows.base) (sym log_is);
-      events_are = c.new.ensures.told ∙ ap (told_in c.in-Ok-rows.base) (sym log_is);
+      lawful = subst (IsLawful c.of.result.value.rows) (sym log_is) tt;
+      rows_are = sym base_is ∙ ap (replay_log c.of.result.value.rows) (sym log_is);
+      events_are = c.new.ensures.told ∙ ap (told_in c.of.result.value.rows) (sym log_is);
       whole = fresh.broken ∙ ap is_some none;
       counted = omega (arith, fresh.count, count, length-map c.in-Ok.loaded.frames.items (λ v. v.items));
       doubted = subst (λ (l : List Item). RoseForEach (doubts_in l) c.faults-faults.result (g.D.Disk.fault_count c.in-Ok.loaded.journal.disk)) (sym log_is)
@@ -40,11 +41,11 @@ invariant_of-result g c =
           c.in-Ok.ensures.ok timed c.in-Ok.ensures.found c.in-Ok.ensures.end is);
     }
 
-pub returns-in-Ok-rows-clause-found : goal.returns-in-Ok-rows-clause-found
-returns-in-Ok-rows-clause-found g c image shows =
+pub returns-in-Ok-board_of-clause-found : goal.returns-in-Ok-board_of-clause-found
+returns-in-Ok-board_of-clause-found g c image shows =
     let payloads : List (List ℕ) = payloads_of c.in-Ok.loaded.frames.items in
     let is : board_of c.in-Ok.loaded.journal.area c.in-Ok.loaded.head.items payloads c.in-Ok.loaded.broken ≡ Ok c.in-Ok-board_of.index.rows = search rules in
-    let base_is : c.in-Ok-rows.base ≡ c.in-Ok-board_of.index.rows = c.in-Ok-rows.ensures.rows in
+    let base_is : c.of.result.value.rows ≡ c.in-Ok-board_of.index.rows = ap (λ (i : Indexed). i.rows) c.of.ensures in
     subst (λ (r : Rows). IsBoard r image) (sym base_is)
     (loaded_board image c.in-Ok.loaded.journal.area c.in-Ok.loaded.journal.generation c.in-Ok.loaded.head.items payloads c.in-Ok.loaded.broken c.in-Ok.loaded.journal.end c.in-Ok-board_of.index.rows
     (c.in-Ok.ensures.found image shows) is)

@@ -10,7 +10,7 @@ pub hear-requires : goal.hear-requires
 hear-requires g c =
     let told = c.deref.ensures.value ∙ ap (λ (b : Inside g.row.D.Denot). b.history.told) c.self-inside.view_is ∙ c.self.invariant.events_are in
     let seen = ap (λ (v : View g.row.D.Denot). length v.log) c.self.view_is in
-    omega (arith, ap (λ (ts : List (Option Events)). length ts) told, length-told_in c.self.inside.base c.self.inside.history.log, seen, c.requires)
+    omega (arith, ap (λ (ts : List (Option Events)). length ts) told, length-told_in c.self.inside.base.value.rows c.self.inside.history.log, seen, c.requires)
 
 pub returns : goal.returns
 returns g c =

@@ -25,20 +25,20 @@ put-stored-requires-clause-payload g c =
 
 pub returns-then-is_err-clause-does : goal.returns-then-is_err-clause-does
 returns-then-is_err-clause-does g c =
-    let law : IsLegal (replay_log c.self.inside.base c.self.inside.history.log) c.args.command.now = subst (λ (v : View g.row.D.Denot). IsLegal (rows_of v) c.args.command.now) (sym c.self.view_is) c.requires in
-    let still = passes_nothing (g.D.Disk.told c.self.inside.journal.disk) c.self.inside.base c.self.inside.history.log c.self.inside.history.marks c.self.inside.since
+    let law : IsLegal (replay_log c.self.inside.base.value.rows c.self.inside.history.log) c.args.command.now = subst (λ (v : View g.row.D.Denot). IsLegal (rows_of v) c.args.command.now) (sym c.self.view_is) c.requires in
+    let still = passes_nothing (g.D.Disk.told c.self.inside.journal.disk) c.self.inside.base.value.rows c.self.inside.history.log c.self.inside.history.marks c.self.inside.since
     c.self.inside.journal.area c.self.inside.journal.generation c.self.inside.journal.end c.self.inside.journal.frames c.self.inside.journal.waits c.self.invariant.holds c.args.command.now c.write_command-len.ensures.fits law in
     subst (λ (v : View g.row.D.Denot). Goes (g.D.Disk.told v.disk) (g.D.Disk.told c.self.inside.journal.disk) (Passes v.waits verdict.Ok false (rows_of v) c.args.command.now)) c.self.view_is still
 
 pub invariant_of-self-then-is_err-2 : goal.invariant_of-self-then-is_err-2
 invariant_of-self-then-is_err-2 g c =
-    let law : IsLegal (replay_log c.self.inside.base c.self.inside.history.log) c.args.command.now = subst (λ (v : View g.row.D.Denot). IsLegal (rows_of v) c.args.command.now) (sym c.self.view_is) c.requires in
+    let law : IsLegal (replay_log c.self.inside.base.value.rows c.self.inside.history.log) c.args.command.now = subst (λ (v : View g.row.D.Denot). IsLegal (rows_of v) c.args.command.now) (sym c.self.view_is) c.requires in
     let legal : IsLegal c.self.inside.index.rows c.args.command.now = subst (λ (r : Rows). IsLegal r c.args.command.now) (sym c.self.invariant.rows_are) law in
     let failed : is_ok c.put-stored.result ≡ false = search rules in
     let err : is_err c.put-stored.result ≡ true = search rules in
     let added = c.add.ensures ∙ ap (with_item c.args.by c.args.command.now c.clock-mark.result None) c.make_room.ensures.history in
     let bytes = c.write_command-len.ensures.bytes in
-    sound_more g.D.Disk.told g.D.Disk.fault_count c.self.inside.index.rows c.self.inside.base c.self.inside.history.log c.self.inside.history.marks c.self.inside.history.told c.self.inside.since c.self.inside.faults c.self.inside.journal c.put-stored.new.journal c.self.invariant
+    sound_more g.D.Disk.told g.D.Disk.fault_count c.self.inside.index.rows c.self.inside.base.value.rows c.self.inside.history.log c.self.inside.history.marks c.self.inside.history.told c.self.inside.since c.self.inside.faults c.self.inside.journal c.put-stored.new.journal c.self.invariant
     c.args.by c.args.command.now c.write_command-len.ensures.fits legal false c.make_room.new.index.rows c.add.new.self.log c.add.new.self.marks c.add.new.self.told c.clock-mark.result
     c.make_room.ensures.rows
     (ap (λ (e : Entries). e.log) added)
@@ -52,13 +52,13 @@ invariant_of-self-then-is_err-2 g c =
 
 pub returns-then-is_err-2-clause-does : goal.returns-then-is_err-2-clause-does
 returns-then-is_err-2-clause-does g c =
-    let law : IsLegal (replay_log c.self.inside.base c.self.inside.history.log) c.args.command.now = subst (λ (v : View g.row.D.Denot). IsLegal (rows_of v) c.args.command.now) (sym c.self.view_is) c.requires in
+    let law : IsLegal (replay_log c.self.inside.base.value.rows c.self.inside.history.log) c.args.command.now = subst (λ (v : View g.row.D.Denot). IsLegal (rows_of v) c.args.command.now) (sym c.self.view_is) c.requires in
     let failed : is_ok c.put-stored.result ≡ false = search rules in
     let bytes = c.write_command-len.ensures.bytes in
     let puts = puts_as (is_ok c.put-stored.result) false _ _ failed bytes _ _ _ _ _ _ c.put-stored.ensures.does in
-    let extends = puts_extend _ _ c.self.inside.base c.self.inside.history.log c.self.inside.history.marks c.self.inside.since
+    let extends = puts_extend _ _ c.self.inside.base.value.rows c.self.inside.history.log c.self.inside.history.marks c.self.inside.since
     c.self.inside.journal.area c.self.inside.journal.generation c.self.inside.journal.end c.self.inside.journal.frames c.self.inside.journal.waits c.self.invariant.holds false _ _ puts in
-    let does = passes_by (g.D.Disk.told c.self.inside.journal.disk) c.self.inside.base c.self.inside.history.log c.self.inside.history.marks c.self.inside.since
+    let does = passes_by (g.D.Disk.told c.self.inside.journal.disk) c.self.inside.base.value.rows c.self.inside.history.log c.self.inside.history.marks c.self.inside.since
     c.self.inside.journal.area c.self.inside.journal.generation c.self.inside.journal.end c.self.inside.journal.frames c.self.inside.journal.waits c.self.invariant.holds c.args.command.now c.write_command-len.ensures.fits law
     (g.D.Disk.told c.put-stored.new.journal.disk) false c.put-stored.new.journal.waits extends
     (λ calm. adds_as (is_ok c.put-stored.result) false _ _ failed bytes _ _ _ _ _ (c.put-stored.ensures.appends calm)) in
@@ -66,14 +66,14 @@ returns-then-is_err-2-clause-does g c =
 
 pub invariant_of-self-2 : goal.invariant_of-self-2
 invariant_of-self-2 g c =
-    let law : IsLegal (replay_log c.self.inside.base c.self.inside.history.log) c.args.command.now = subst (λ (v : View g.row.D.Denot). IsLegal (rows_of v) c.args.command.now) (sym c.self.view_is) c.requires in
+    let law : IsLegal (replay_log c.self.inside.base.value.rows c.self.inside.history.log) c.args.command.now = subst (λ (v : View g.row.D.Denot). IsLegal (rows_of v) c.args.command.now) (sym c.self.view_is) c.requires in
     let legal : IsLegal c.self.inside.index.rows c.args.command.now = subst (λ (r : Rows). IsLegal r c.args.command.now) (sym c.self.invariant.rows_are) law in
     let made : is_ok c.put-stored.result ≡ true = search rules in
     let err : is_err c.put-stored.result ≡ false = search rules in
     let added = c.add-2.ensures ∙ ap (with_item c.args.by c.args.command.now c.clock-mark.result (Some c.apply-events.result)) c.make_room.ensures.history in
     let told : Some c.apply-events.result ≡ events_of c.self.inside.index.rows c.args.command.now = c.apply-events.ensures.events ∙ ap (λ (r : Rows). events_of r c.args.command.now) c.make_room.ensures.rows in
     let bytes = c.write_command-len.ensures.bytes in
-    sound_more g.D.Disk.told g.D.Disk.fault_count c.self.inside.index.rows c.self.inside.base c.self.inside.history.log c.self.inside.history.marks c.self.inside.history.told c.self.inside.since c.self.inside.faults c.self.inside.journal c.put-stored.new.journal c.self.invariant
+    sound_more g.D.Disk.told g.D.Disk.fault_count c.self.inside.index.rows c.self.inside.base.value.rows c.self.inside.history.log c.self.inside.history.marks c.self.inside.history.told c.self.inside.since c.self.inside.faults c.self.inside.journal c.put-stored.new.journal c.self.invariant
     c.args.by c.args.command.now c.write_command-len.ensures.fits legal true c.apply-events.new.store.rows c.add-2.new.self.log c.add-2.new.self.marks c.add-2.new.self.told c.clock-mark.result
     (c.apply-events.ensures.state ∙ ap (λ (r : Rows). rows_after r c.args.command.now) c.make_room.ensures.rows)
     (ap (λ (e : Entries). e.log) added)
@@ -87,13 +87,13 @@ invariant_of-self-2 g c =
 
 pub returns-clause-does : goal.returns-clause-does
 returns-clause-does g c =
-    let law : IsLegal (replay_log c.self.inside.base c.self.inside.history.log) c.args.command.now = subst (λ (v : View g.row.D.Denot). IsLegal (rows_of v) c.args.command.now) (sym c.self.view_is) c.requires in
+    let law : IsLegal (replay_log c.self.inside.base.value.rows c.self.inside.history.log) c.args.command.now = subst (λ (v : View g.row.D.Denot). IsLegal (rows_of v) c.args.command.now) (sym c.self.view_is) c.requires in
     let made : is_ok c.put-stored.result ≡ true = search rules in
     let bytes = c.write_command-len.ensures.bytes in
     let puts = puts_as (is_ok c.put-stored.result) true _ _ made bytes _ _ _ _ _ _ c.put-stored.ensures.does in
-    let extends = puts_extend _ _ c.self.inside.base c.self.inside.history.log c.self.inside.history.marks c.self.inside.since
+    let extends = puts_extend _ _ c.self.inside.base.value.rows c.self.inside.history.log c.self.inside.history.marks c.self.inside.since
     c.self.inside.journal.area c.self.inside.journal.generation c.self.inside.journal.end c.self.inside.journal.frames c.self.inside.journal.waits c.self.invariant.holds true _ _ puts in
-    let does = passes_by (g.D.Disk.told c.self.inside.journal.disk) c.self.inside.base c.self.inside.history.log c.self.inside.history.marks c.self.inside.since
+    let does = passes_by (g.D.Disk.told c.self.inside.journal.disk) c.self.inside.base.value.rows c.self.inside.history.log c.self.inside.history.marks c.self.inside.since
     c.self.inside.journal.area c.self.inside.journal.generation c.self.inside.journal.end c.self.inside.journal.frames c.self.inside.journal.waits c.self.invariant.holds c.args.command.now c.write_command-len.ensures.fits law
     (g.D.Disk.told c.put-stored.new.journal.disk) true c.put-stored.new.journal.waits extends
     (λ calm. adds_as (is_ok c.put-stored.result) true _ _ made bytes _ _ _ _ _ (c.put-stored.ensures.appends calm)) in
