@@ -71,17 +71,19 @@ fn end_of(mishap: Mishap, place: u64) -> CallEnd {
     }
 }
 
-fn follow<P: Port, W: Wire>(
+fn follow<P: Port + Drop, W: Wire + Drop>(
     rt: &impl Abort,
     alloc: Global,
-    site: &mut Site<P, W>,
+    mut site: Site<P, W>,
+    names: &Names,
     tried: &Tried,
     mishap: Mishap,
     ends: &[CallEnd],
 ) -> Result<(), OutOfMemory> {
+    begin(rt, alloc, &mut site, names, &tried.before)?;
     let end = end_of(mishap, place_of(tried));
-    step(rt, alloc, site, &tried.turn, &[end], &tried.left)?;
-    step(rt, alloc, site, &tried.again, ends, &tried.at_last)
+    step(rt, alloc, &mut site, &tried.turn, &[end], &tried.left)?;
+    step(rt, alloc, &mut site, &tried.again, ends, &tried.at_last)
 }
 
 // After the mishap the turn that is taken again ends so.
@@ -94,9 +96,8 @@ fn after(
     ends: &[CallEnd],
 ) -> Result<(), OutOfMemory> {
     let fault = fault_place(tried, mishap);
-    let mut site = site_of(alloc, names.cell, fault, lost_in(tried, mishap))?;
-    begin(rt, alloc, &mut site, names, &tried.before)?;
-    follow(rt, alloc, &mut site, tried, mishap, ends)
+    let site = site_of(alloc, names.cell, fault, lost_in(tried, mishap))?;
+    follow(rt, alloc, site, names, tried, mishap, ends)
 }
 
 // The call is made again: it is done, unless its reply alone was lost; then this is its end.

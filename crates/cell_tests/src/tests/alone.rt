@@ -62,18 +62,26 @@ fn needs_a_join(names: &Names) -> [Turn; 11] {
     ]
 }
 
-#[test]
-fn who_has_not_joined_is_down(rt: HostRuntime) -> Result<(), Fail> {
-    let alloc = rt.alloc();
-    let names = Names::read()?;
-    let mut site = site_of(alloc, names.cell, None, None)?;
+fn is_down<P: Port + Drop, W: Wire + Drop>(
+    rt: &impl Abort,
+    alloc: Global,
+    mut site: Site<P, W>,
+    names: &Names,
+) -> Result<(), OutOfMemory> {
     let stop = Turn::Stop(Instance {
         epoch: 0,
         number: 1,
     });
-    each_ends(&rt, alloc, &mut site, &needs_a_join(&names), DOWN)?;
-    each_ends(&rt, alloc, &mut site, &[die()], CallEnd::Idle)?;
-    Ok(each_ends(&rt, alloc, &mut site, &[stop], UNKNOWN)?)
+    each_ends(rt, alloc, &mut site, &needs_a_join(names), DOWN)?;
+    each_ends(rt, alloc, &mut site, &[die()], CallEnd::Idle)?;
+    each_ends(rt, alloc, &mut site, &[stop], UNKNOWN)
+}
+
+#[test]
+fn who_has_not_joined_is_down(rt: HostRuntime) -> Result<(), Fail> {
+    let names = Names::read()?;
+    let site = site_of(rt.alloc(), names.cell, None, None)?;
+    Ok(is_down(&rt, rt.alloc(), site, &names)?)
 }
 
 fn at_once(turn: &Turn, end: CallEnd) -> Story {

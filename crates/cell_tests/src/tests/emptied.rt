@@ -86,21 +86,29 @@ fn changed(change: Change, row: Actual) -> Event {
     }
 }
 
-#[test]
-fn what_runs_on_an_emptied_cell_runs_on(rt: HostRuntime) -> Result<(), Fail> {
-    let alloc = rt.alloc();
-    let names = Names::read()?;
-    let mut site = site_of(alloc, names.cell, None, None)?;
-    empty_running(&rt, alloc, &mut site, &names)?;
+fn runs_there<P: Port + Drop, W: Wire + Drop>(
+    rt: &impl Abort,
+    alloc: Global,
+    mut site: Site<P, W>,
+    names: &Names,
+) -> Result<(), OutOfMemory> {
+    empty_running(rt, alloc, &mut site, names)?;
     assert!(rt; !drained(&site.rep));
-    let rows = [waits(&names), runs_on(&names)];
+    let rows = [waits(names), runs_on(names)];
     assert!(rt; has_rows(alloc, &mut site.port, &rows)?);
     let events = [
-        changed(Change::Created, runs_on(&names)),
-        changed(Change::Changed, waits(&names)),
+        changed(Change::Created, runs_on(names)),
+        changed(Change::Changed, waits(names)),
     ];
     assert!(rt; hears_both(alloc, &mut site.port, &events)?);
     Ok(())
+}
+
+#[test]
+fn what_runs_on_an_emptied_cell_runs_on(rt: HostRuntime) -> Result<(), Fail> {
+    let names = Names::read()?;
+    let site = site_of(rt.alloc(), names.cell, None, None)?;
+    Ok(runs_there(&rt, rt.alloc(), site, &names)?)
 }
 
 // A task's container stays RESERVED: only what is an instance's is given back or placed anew.

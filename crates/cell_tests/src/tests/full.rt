@@ -97,13 +97,13 @@ fn leaves(memory: u32, disk: u32, containers: u32, last: u32) -> Option<Room> {
 }
 
 // Two containers fit, and no more than two; one that never was can't be given up.
-fn fill<P: Port, W: Wire>(
+fn fill<P: Port + Drop, W: Wire + Drop>(
     rt: &impl Abort,
     alloc: Global,
-    site: &mut Site<P, W>,
+    mut site: Site<P, W>,
     tasks: &Tasks,
 ) -> Result<(), OutOfMemory> {
-    begin(rt, alloc, site, tasks)?;
+    begin(rt, alloc, &mut site, tasks)?;
     let [one, two, three, four, _] = tasks.names;
     let stop = Turn::Stop(Instance {
         epoch: 5,
@@ -123,8 +123,9 @@ fn fill<P: Port, W: Wire>(
         told(StoreRefusal::NoSlot),
         told(StoreRefusal::Unknown),
     ];
-    take(rt, alloc, site, &turns, &ends)?;
+    take(rt, alloc, &mut site, &turns, &ends)?;
     assert_eq!(rt; room_of(alloc, &site.rep)?, leaves(0, 0, 0, 2));
+    assert_eq!(rt; instances(&site.rep), Some((numbered(1), numbered(2))));
     Ok(())
 }
 
@@ -142,12 +143,9 @@ fn numbered(number: u32) -> Instance {
 
 #[test]
 fn a_cell_of_two_slots_has_two_containers(rt: HostRuntime) -> Result<(), Fail> {
-    let alloc = rt.alloc();
     let tasks = read_tasks()?;
-    let mut site = site_of(alloc, Name::read(b"c1")?, None, None)?;
-    fill(&rt, alloc, &mut site, &tasks)?;
-    assert_eq!(rt; instances(&site.rep), Some((numbered(1), numbered(2))));
-    Ok(())
+    let site = site_of(rt.alloc(), Name::read(b"c1")?, None, None)?;
+    Ok(fill(&rt, rt.alloc(), site, &tasks)?)
 }
 
 // A claim, a run and a start by a round, of these amounts.
@@ -185,38 +183,43 @@ fn is_refused<P: Port, W: Wire>(
 }
 
 // Forty MB of memory, ten of disk and one slot are left, and then no slot.
-fn ask_for_more<P: Port, W: Wire>(
+fn ask_for_more<P: Port + Drop, W: Wire + Drop>(
     rt: &impl Abort,
     alloc: Global,
-    site: &mut Site<P, W>,
+    mut site: Site<P, W>,
     tasks: &Tasks,
 ) -> Result<(), OutOfMemory> {
     let [one, two, three, _, _] = tasks.names;
-    begin(rt, alloc, site, tasks)?;
-    take_done(rt, alloc, site, &[claim(one, 60, 90)])?;
+    begin(rt, alloc, &mut site, tasks)?;
+    take_done(rt, alloc, &mut site, &[claim(one, 60, 90)])?;
     is_refused(
         rt,
         alloc,
-        site,
+        &mut site,
         &asked(three, 41, 11),
         StoreRefusal::NoMemoryLeft,
     )?;
     is_refused(
         rt,
         alloc,
-        site,
+        &mut site,
         &asked(three, 40, 11),
         StoreRefusal::NoDiskLeft,
     )?;
     assert_eq!(rt; room_of(alloc, &site.rep)?, leaves(40, 10, 1, 1));
-    take_done(rt, alloc, site, &[claim(two, 0, 0)])?;
-    is_refused(rt, alloc, site, &asked(three, 40, 10), StoreRefusal::NoSlot)
+    take_done(rt, alloc, &mut site, &[claim(two, 0, 0)])?;
+    is_refused(
+        rt,
+        alloc,
+        &mut site,
+        &asked(three, 40, 10),
+        StoreRefusal::NoSlot,
+    )
 }
 
 #[test]
 fn a_cell_without_room_stays_as_it_was(rt: HostRuntime) -> Result<(), Fail> {
-    let alloc = rt.alloc();
     let tasks = read_tasks()?;
-    let mut site = site_of(alloc, Name::read(b"c1")?, None, None)?;
-    Ok(ask_for_more(&rt, alloc, &mut site, &tasks)?)
+    let site = site_of(rt.alloc(), Name::read(b"c1")?, None, None)?;
+    Ok(ask_for_more(&rt, rt.alloc(), site, &tasks)?)
 }

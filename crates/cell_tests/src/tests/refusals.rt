@@ -22,27 +22,29 @@ const HAS_ENDED: BoardRefusal = BoardRefusal::Task(TaskRefusal::WrongState {
 });
 
 // A join needs no row, and is refused by a board that has made as many transitions as one may make.
-fn join_refused<P: Port, W: Wire>(
+fn join_refused<P: Port + Drop, W: Wire + Drop>(
     rt: &impl Abort,
     alloc: Global,
-    site: &mut Site<P, W>,
+    mut site: Site<P, W>,
     names: &Names,
 ) -> Result<(), OutOfMemory> {
     let ends = [refused(BoardRefusal::BoardFull, 0)];
-    step(rt, alloc, site, &names.join(), &ends, &unjoined())
+    step(rt, alloc, &mut site, &names.join(), &ends, &unjoined())
+}
+
+fn full_port(alloc: Global) -> Result<FailingPort, OutOfMemory> {
+    FailingPort::new(alloc, 7, empty_board(alloc, 1000000), None)
 }
 
 #[test]
 fn a_full_board_lets_nobody_join(rt: HostRuntime) -> Result<(), Fail> {
-    let alloc = rt.alloc();
     let names = Names::read()?;
-    let port = FailingPort::new(alloc, 7, empty_board(alloc, 1000000), None)?;
-    let mut site = Site {
+    let site = Site {
         rep: CellRep::new(names.cell),
-        port,
-        wire: MemoryWire::new(Vec::new(alloc)),
+        port: full_port(rt.alloc())?,
+        wire: MemoryWire::new(Vec::new(rt.alloc())),
     };
-    Ok(join_refused(&rt, alloc, &mut site, &names)?)
+    Ok(join_refused(&rt, rt.alloc(), site, &names)?)
 }
 
 fn another(names: &Names) -> Key {

@@ -4,7 +4,7 @@ use super::{Site, done, refused, same, site_of, take, take_done};
 use crate::Turn;
 use bbs_model::{BoardRefusal, Op, Port, Reply};
 use cell_rep::{CallEnd, CellRep, Delivery, Wire};
-use diego_names::{Instance, Name, OutOfMemory};
+use diego_names::{Instance, OutOfMemory};
 use lrp_records::LrpRefusal;
 use std::alloc::Global;
 use std::mem::swap;
@@ -37,19 +37,24 @@ fn both_join<P: Port, W: Wire>(
     )
 }
 
-// The cell of the site claims first, and has the row; the other keeps nothing.
-fn both_claim<P: Port, W: Wire>(
+// The first that claims has the row; the other keeps nothing.
+fn both_claim<P: Port + Drop, W: Wire + Drop>(
     rt: &impl Abort,
     alloc: Global,
-    site: &mut Site<P, W>,
-    other: &mut CellRep,
+    mut site: Site<P, W>,
+    mut other: CellRep,
     names: &Names,
-    epoch: u64,
+    is_second_first: bool,
 ) -> Result<(), OutOfMemory> {
+    both_join(rt, alloc, &mut site, &mut other, names)?;
+    if !is_second_first {
+        swap(&mut site.rep, &mut other);
+    }
+    let epoch = u64::from(is_second_first);
     let turns = [claim(names.lrp())];
-    take(rt, alloc, site, &turns, &[done(4)])?;
-    swap(&mut site.rep, other);
-    take(rt, alloc, site, &turns, &[refused(held_by(epoch), 5)])?;
+    take(rt, alloc, &mut site, &turns, &[done(4)])?;
+    swap(&mut site.rep, &mut other);
+    take(rt, alloc, &mut site, &turns, &[refused(held_by(epoch), 5)])?;
     assert_eq!(rt;
         (site.rep.containers().len(), other.containers().len()),
         (0, 1)
@@ -64,14 +69,9 @@ fn claims_in_order(
     names: &Names,
     is_second_first: bool,
 ) -> Result<(), OutOfMemory> {
-    let mut site = site_of(alloc, names.cell, None, None)?;
-    let mut other = CellRep::new(names.job);
-    both_join(rt, alloc, &mut site, &mut other, names)?;
-    if !is_second_first {
-        swap(&mut site.rep, &mut other);
-    }
-    let epoch = u64::from(is_second_first);
-    both_claim(rt, alloc, &mut site, &mut other, names, epoch)
+    let site = site_of(alloc, names.cell, None, None)?;
+    let other = CellRep::new(names.job);
+    both_claim(rt, alloc, site, other, names, is_second_first)
 }
 
 #[test]
@@ -83,22 +83,22 @@ fn the_second_of_two_claims_is_refused(rt: HostRuntime) -> Result<(), Fail> {
 
 // A round could not place the instance. The second cell claims it, does not hear of it, and claims it again; then
 // the first does.
-fn claim_unheard<P: Port, W: Wire>(
+fn claim_unheard<P: Port + Drop, W: Wire + Drop>(
     rt: &impl Abort,
     alloc: Global,
-    site: &mut Site<P, W>,
-    other: &mut CellRep,
+    mut site: Site<P, W>,
+    mut other: CellRep,
     names: &Names,
 ) -> Result<(), OutOfMemory> {
-    both_join(rt, alloc, site, other, names)?;
+    both_join(rt, alloc, &mut site, &mut other, names)?;
     let place_fail = Turn::Board(Op::PlaceFail { key: names.key() });
     let unheard = CallEnd::ReplyLost(Ok(Reply::Ok { place: 5, stamp: 5 }));
-    take(rt, alloc, site, &[place_fail], &[done(4)])?;
+    take(rt, alloc, &mut site, &[place_fail], &[done(4)])?;
     let turns = [claim(names.lrp()), claim(names.lrp())];
-    take(rt, alloc, site, &turns, &[unheard, same(6)])?;
-    swap(&mut site.rep, other);
+    take(rt, alloc, &mut site, &turns, &[unheard, same(6)])?;
+    swap(&mut site.rep, &mut other);
     let turns = [claim(names.lrp())];
-    take(rt, alloc, site, &turns, &[refused(held_by(1), 6)])?;
+    take(rt, alloc, &mut site, &turns, &[refused(held_by(1), 6)])?;
     assert_eq!(rt;
         (site.rep.containers().len(), other.containers().len()),
         (0, 1)
@@ -112,25 +112,25 @@ fn a_claim_stands_though_its_reply_was_lost(rt: HostRuntime) -> Result<(), Fail>
     let alloc = rt.alloc();
     let names = Names::read()?;
     let lost = Some((3, Delivery::ReplyLost));
-    let mut site = site_of(alloc, names.cell, None, lost)?;
-    let mut other = CellRep::new(Name::read(b"c2")?);
-    Ok(claim_unheard(&rt, alloc, &mut site, &mut other, &names)?)
+    let other = CellRep::new(names.job);
+    let site = site_of(alloc, names.cell, None, lost)?;
+    Ok(claim_unheard(&rt, alloc, site, other, &names)?)
 }
 
 // What runs has the row, whoever claimed it.
-fn run_over<P: Port, W: Wire>(
+fn run_over<P: Port + Drop, W: Wire + Drop>(
     rt: &impl Abort,
     alloc: Global,
-    site: &mut Site<P, W>,
-    other: &mut CellRep,
+    mut site: Site<P, W>,
+    mut other: CellRep,
     names: &Names,
 ) -> Result<(), OutOfMemory> {
-    both_join(rt, alloc, site, other, names)?;
-    take_done(rt, alloc, site, &[claim(names.lrp())])?;
-    swap(&mut site.rep, other);
-    take_done(rt, alloc, site, &[names.run()])?;
-    swap(&mut site.rep, other);
-    take(rt, alloc, site, &[settle()], &[refused(held_by(0), 6)])?;
+    both_join(rt, alloc, &mut site, &mut other, names)?;
+    take_done(rt, alloc, &mut site, &[claim(names.lrp())])?;
+    swap(&mut site.rep, &mut other);
+    take_done(rt, alloc, &mut site, &[names.run()])?;
+    swap(&mut site.rep, &mut other);
+    take(rt, alloc, &mut site, &[settle()], &[refused(held_by(0), 6)])?;
     assert_eq!(rt;
         (site.rep.containers().len(), other.containers().len()),
         (0, 1)
@@ -142,7 +142,7 @@ fn run_over<P: Port, W: Wire>(
 fn a_run_takes_over_what_another_has_claimed(rt: HostRuntime) -> Result<(), Fail> {
     let alloc = rt.alloc();
     let names = Names::read()?;
-    let mut site = site_of(alloc, names.cell, None, None)?;
-    let mut other = CellRep::new(Name::read(b"c2")?);
-    Ok(run_over(&rt, alloc, &mut site, &mut other, &names)?)
+    let other = CellRep::new(names.job);
+    let site = site_of(alloc, names.cell, None, None)?;
+    Ok(run_over(&rt, alloc, site, other, &names)?)
 }

@@ -181,16 +181,16 @@ pub fn step<P: Port, W: Wire>(
     is_left(rt, alloc, &site.rep, left)
 }
 
-fn tell_over<P: Port, W: Wire>(
+fn tell_over<P: Port + Drop, W: Wire + Drop>(
     rt: &impl Abort,
     alloc: Global,
-    site: &mut Site<P, W>,
+    mut site: Site<P, W>,
     names: &Names,
     story: &Story,
 ) -> Result<(), OutOfMemory> {
-    begin(rt, alloc, site, names, &story.before)?;
+    begin(rt, alloc, &mut site, names, &story.before)?;
     let ends = given(alloc, &story.ends)?;
-    step(rt, alloc, site, &story.turn, &ends, &story.left)
+    step(rt, alloc, &mut site, &story.turn, &ends, &story.left)
 }
 
 /// Each story, over a wire and a disk that lose nothing.
@@ -201,8 +201,8 @@ pub fn tell(
     stories: &[Story],
 ) -> Result<(), OutOfMemory> {
     for story in stories {
-        let mut site = site_of(alloc, names.cell, None, None)?;
-        tell_over(rt, alloc, &mut site, names, story)?;
+        let site = site_of(alloc, names.cell, None, None)?;
+        tell_over(rt, alloc, site, names, story)?;
     }
     Ok(())
 }

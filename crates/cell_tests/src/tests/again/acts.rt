@@ -162,16 +162,16 @@ fn an_evacuation_begins_anew_with_its_drain(rt: HostRuntime) -> Result<(), Fail>
 }
 
 // The call of an end is lost, and the same end comes again, as one that did not fail: the first one counts.
-fn end_twice<P: Port, W: Wire>(
+fn end_twice<P: Port + Drop, W: Wire + Drop>(
     rt: &impl Abort,
     alloc: Global,
-    site: &mut Site<P, W>,
+    mut site: Site<P, W>,
     names: &Names,
 ) -> Result<bool, OutOfMemory> {
     let before = [Some(claim(names.task()))];
-    begin(rt, alloc, site, names, &before)?;
+    begin(rt, alloc, &mut site, names, &before)?;
     let turns = [names.finish(true), names.finish(false)];
-    take(rt, alloc, site, &turns, &[CallEnd::CallLost, done(5)])?;
+    take(rt, alloc, &mut site, &turns, &[CallEnd::CallLost, done(5)])?;
     let failed = TaskState::Completed { failed: true };
     match site.port.rows(alloc)?.tasks.items() {
         [task] => Ok(task.state == failed),
@@ -184,7 +184,7 @@ fn the_flag_of_the_first_end_counts(rt: HostRuntime) -> Result<(), Fail> {
     let alloc = rt.alloc();
     let names = Names::read()?;
     let lost = Some((3, Delivery::CallLost));
-    let mut site = site_of(alloc, names.cell, None, lost)?;
-    assert!(rt; end_twice(&rt, alloc, &mut site, &names)?);
+    let site = site_of(alloc, names.cell, None, lost)?;
+    assert!(rt; end_twice(&rt, alloc, site, &names)?);
     Ok(())
 }
