@@ -67,15 +67,12 @@ fn wanted_instances_are_made_and_placed_in_one_round(rt: HostRuntime) -> Result<
 #[test]
 fn what_is_not_wanted_is_removed(rt: HostRuntime) -> Result<(), Fail> {
     let (alloc, names) = (rt.alloc(), &read_names()?);
-    let story = then(alloc, &claimed(names), &[(2, Client(undesire(names.web)))])?;
-    round_does(&rt, alloc, &story[1..], 3, &[remove(names.web(0), None)])?;
-    round_does(
-        &rt,
-        alloc,
-        &story,
-        3,
-        &[remove(names.web(0), Some(container(0, 1)))],
-    )
+    let undesired = [(2, Client(undesire(names.web)))];
+    let waits = then(alloc, &claimed(names)[1..], &undesired)?;
+    round_does(&rt, alloc, &waits, 3, &[remove(names.web(0), None)])?;
+    let placed = then(alloc, &claimed(names), &undesired)?;
+    let removed = [remove(names.web(0), Some(container(0, 1)))];
+    round_does(&rt, alloc, &placed, 3, &removed)
 }
 
 #[test]

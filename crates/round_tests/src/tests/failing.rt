@@ -1,4 +1,6 @@
 //! Rounds whose disk fails.
+ghost use Rattle.std.specs.Prelude.{◌<◌};
+
 use super::boards::{CALLER, disk_with, loaded};
 use super::playing::{counts_of, play, reps};
 use super::turns::round_over;
@@ -91,7 +93,9 @@ fn fails_within(
     at: u64,
     op: &Op,
     failing: u64,
-) -> Result<(), Fail> {
+) -> Result<(), Fail>
+    requires { at < 4 }
+{
     let story = [
         (0, Cell(0, join(names.z1, 600))),
         (0, Client(desire(names.web, 1))),
@@ -121,16 +125,11 @@ fn a_round_ends_where_its_disk_fails_and_the_next_one_does_the_rest(
     rt: HostRuntime,
 ) -> Result<(), Fail> {
     let (alloc, names) = (rt.alloc(), &read_names()?);
-    for (at, op) in (0u64..4).zip(done_by(names).iter()) {
+    let ops = done_by(names);
+    for at in 0..4u64 {
         for call in 1..APPEND + 1 {
-            fails_within(
-                &rt,
-                alloc,
-                names,
-                at,
-                op,
-                LOAD + APPEND * (BEFORE + at) + call,
-            )?;
+            let failing = LOAD + APPEND * (BEFORE + at) + call;
+            fails_within(&rt, alloc, names, at, &ops[at as usize], failing)?;
         }
     }
     Ok(())
