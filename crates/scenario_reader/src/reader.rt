@@ -1,0 +1,57 @@
+//! A scenario is read line by line, up to the first fault.
+ghost use Rattle.std.specs.Prelude.{◌≡◌, ◌<◌, ◌-◌, ◌^◌, length, IfOk};
+ghost use Rattle.scenario_reader.specs.Faults.{Gives, said_on};
+ghost use Rattle.scenario_reader.specs.Accepted.{script_of};
+ghost use Rattle.scenario_reader.specs.Steps.{read_from, start, step_on, IsSmall};
+ghost use Rattle.scenario_reader.specs.TextLines.{line_view, nonblank_lines};
+
+use crate::fault::ScriptFault;
+use crate::reading::Reading;
+use crate::script::Script;
+use crate::text_lines::{Rest, TextLine, next_line};
+use scenario_lines::{Content, LineError, read_line};
+use std::alloc::Global;
+
+/// The scenario that these bytes are, or the first fault. Its lines are numbered in 32 bits, so
+/// there is room for one line a byte.
+pub fn read_script(alloc: Global, bytes: &[u8]) -> Result<Script, ScriptFault>
+    requires { length bytes.now < 2 ^ 32 - 1 }
+    ensures exact { Gives result (script_of bytes.now) }
+{
+    let reading = read_lines(alloc, bytes)?;
+    Ok(reading.script(alloc)?)
+}
+
+fn read_lines(alloc: Global, bytes: &[u8]) -> Result<Reading, ScriptFault>
+    requires { length bytes.now < 2 ^ 32 - 1 }
+    ensures { Gives result (read_from start (nonblank_lines bytes.now)) }
+{
+    let mut reading = Reading::new(alloc);
+    let mut rest = Rest { number: 1, bytes };
+    while let Some((line, behind)) = next_line(rest) {
+        reading = after_line(alloc, reading, line)?;
+        rest = behind;
+    }
+    Ok(reading)
+}
+
+// What one more line comes to.
+fn after_line(alloc: Global, reading: Reading, line: TextLine<'_>) -> Result<Reading, ScriptFault>
+    requires { IsSmall reading }
+    ensures step { Gives result (step_on reading (line_view line.entry)) }
+    ensures small { IfOk result IsSmall }
+{
+    let content = content_of(alloc, line)?;
+    reading.after(alloc, line.number, content)
+}
+
+// What a line says by itself.
+fn content_of(alloc: Global, line: TextLine<'_>) -> Result<Content, ScriptFault>
+    ensures { Gives result (said_on (line_view line.entry)) }
+{
+    match read_line(alloc, line.text) {
+        Ok(content) => Ok(content),
+        Err(LineError::Flawed(flaw)) => Err(ScriptFault::of_flaw(flaw, line.number)),
+        Err(LineError::OutOfMemory) => Err(ScriptFault::OutOfMemory),
+    }
+}

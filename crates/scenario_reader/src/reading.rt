@@ -1,0 +1,196 @@
+//! What the lines so far have come to.
+ghost use Rattle.std.specs.Prelude.{◌≡◌, ◌++◌, option_to_list, IfOk, OnOk};
+ghost use Rattle.scenario_reader.specs.Faults.{Gives};
+ghost use Rattle.scenario_reader.specs.Phases.{round_line};
+ghost use Rattle.scenario_reader.specs.Steps.{acted, begun, is_before, rounded, script_in, start, step, IsSmall};
+
+use crate::actors::Actors;
+use crate::fault::ScriptFault;
+use crate::open_phase::OpenPhase;
+use crate::script::{Line, Phase, RoundLine, Script};
+use crash_backoff::Moment;
+use diego_names::{List, OutOfMemory};
+use scenario_lines::{ActLine, Content, Losses};
+use std::alloc::Global;
+
+/// The most actors that a scenario has.
+const ACTORS: usize = 256;
+
+/// The most runs of lines that a scenario has, with a round counted as one.
+const RUNS: u64 = 200_000;
+
+/// What the lines so far have come to.
+#[derive(Drop)]
+pub(crate) struct Reading {
+    pub actors: Actors,
+    /// The phases behind which another stands.
+    pub closed: List<Phase>,
+    pub last: Option<OpenPhase>,
+    /// How many runs the lines so far have.
+    pub runs: u64,
+}
+
+impl Reading {
+    /// No line was read.
+    pub fn new(alloc: Global) -> Reading
+        ensures { result ≡ start }
+    {
+        Reading {
+            actors: Actors::new(alloc),
+            closed: List::new(alloc),
+            last: None,
+            runs: 0,
+        }
+    }
+
+    /// What one more line comes to.
+    pub fn after(self, alloc: Global, line: u32, content: Content) -> Result<Reading, ScriptFault>
+        requires { IsSmall self }
+        ensures step { Gives result (step self line content) }
+        ensures small { IfOk result IsSmall }
+    {
+        match content {
+            Content::Phase(at) => self.begun(alloc, line, at),
+            Content::Acts(said) => self.acted(line, said),
+            Content::Round(losses) => self.rounded(line, losses),
+        }
+    }
+
+    fn begun(self, alloc: Global, line: u32, at: Moment) -> Result<Reading, ScriptFault>
+        requires { IsSmall self }
+        ensures step { Gives result (begun self line at) }
+        ensures small { IfOk result IsSmall }
+    {
+        let Reading {
+            actors,
+            mut closed,
+            last,
+            runs,
+        } = self;
+        if is_before(at, &last) {
+            return Err(ScriptFault::BadOrder { line });
+        }
+        close(&mut closed, last)?;
+        Ok(Reading {
+            actors,
+            closed,
+            last: Some(OpenPhase::new(alloc, at)),
+            runs,
+        })
+    }
+
+    fn acted(self, line: u32, said: ActLine) -> Result<Reading, ScriptFault>
+        requires { IsSmall self }
+        ensures step { Gives result (acted self line said) }
+        ensures small { IfOk result IsSmall }
+    {
+        let Reading {
+            mut actors,
+            closed,
+            last,
+            runs,
+        } = self;
+        let Some(phase) = last else {
+            return Err(ScriptFault::BadOrder { line });
+        };
+        if said.act.is_of_cell() && phase.has_round() {
+            return Err(ScriptFault::BadOrder { line });
+        }
+        let actor = actors.number(said.actor)?;
+        let runs = runs + said.times as u64;
+        if actors.len() > ACTORS || runs > RUNS {
+            return Err(ScriptFault::TooMuch { line });
+        }
+        let phase = phase.with_line(Line {
+            line,
+            actor,
+            act: said.act,
+            lost: said.lost,
+            times: said.times,
+        })?;
+        Ok(Reading {
+            actors,
+            closed,
+            last: Some(phase),
+            runs,
+        })
+    }
+
+    fn rounded(self, line: u32, losses: Losses) -> Result<Reading, ScriptFault>
+        requires { IsSmall self }
+        ensures step { Gives result (rounded self line losses) }
+        ensures small { IfOk result IsSmall }
+    {
+        let Reading {
+            actors,
+            closed,
+            last,
+            runs,
+        } = self;
+        let Some(phase) = last else {
+            return Err(ScriptFault::BadOrder { line });
+        };
+        if phase.has_round() || phase.has_cells() {
+            return Err(ScriptFault::BadOrder { line });
+        }
+        let runs = runs + 1;
+        if runs > RUNS {
+            return Err(ScriptFault::TooMuch { line });
+        }
+        Ok(Reading {
+            actors,
+            closed,
+            last: Some(phase.with_round(round_line(line, losses))),
+            runs,
+        })
+    }
+
+    /// The scenario, where there are no more lines.
+    pub fn script(self, alloc: Global) -> Result<Script, OutOfMemory>
+        ensures { IfOk result (λ script. script ≡ script_in self) }
+    {
+        let Reading {
+            actors,
+            mut closed,
+            last,
+            ..
+        } = self;
+        close(&mut closed, last)?;
+        Ok(Script {
+            actors: actors.list(alloc)?,
+            phases: closed,
+        })
+    }
+}
+
+// Whether a moment is less than that of the last phase.
+fn is_before(at: Moment, last: &Option<OpenPhase>) -> bool
+    ensures { result ≡ is_before at last.now }
+{
+    match last {
+        Some(phase) => at.0 < phase.at().0,
+        None => false,
+    }
+}
+
+// The last phase goes to the others.
+fn close(closed: &mut List<Phase>, last: Option<OpenPhase>) -> Result<(), OutOfMemory>
+    ensures { OnOk result (closed.new ≡ closed.old ++ option_to_list last) }
+{
+    if let Some(phase) = last {
+        closed.push(phase.closed())?;
+    }
+    Ok(())
+}
+
+fn round_line(line: u32, losses: Losses) -> RoundLine
+    ensures { result ≡ round_line line losses }
+{
+    RoundLine {
+        line,
+        lose_ask: losses.ask,
+        lose_stop: losses.stop,
+        lose_start: losses.start,
+        lose_reply: losses.reply,
+    }
+}
