@@ -1,1 +1,11 @@
+pub mod ActorNumbers
+pub mod Agreement
 pub mod Cutting
+pub mod KeptPhases
+pub mod LastPhases
+pub mod MorePhases
+pub mod SoundActors
+pub mod SoundPhases
+pub mod SoundScripts
+pub mod SoundSteps
+pub mod Tracked

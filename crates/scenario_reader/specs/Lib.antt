@@ -1,5 +1,6 @@
 pub mod Accepted
 pub mod Actors
+pub mod Facts
 pub mod Faults
 pub mod Order
 pub mod Phases

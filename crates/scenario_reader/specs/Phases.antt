@@ -1,5 +1,6 @@
 -- The phases of a scenario: what stands from one at to the next.
 use Rattle.std.specs.Prelude.{ℕ, List, [], ◌∷◌, ◌++◌, Option, Some, None, if◌then◌else◌, filter_map}
+use Rattle.std.specs.Option.{option_or}
 use Rattle.crash_backoff.specs.declared.moment.Moment.{Moment}
 use Rattle.scenario_lines.specs.declared.actor.Actor.{Actor}
 use Rattle.scenario_lines.specs.declared.content.ActLine.{ActLine}
@@ -39,15 +40,10 @@ round_on line (Round losses) = Some (round_line line losses)
 abbrev pub acts_in : List Actor → List Said → List Line
 acts_in actors lines = filter_map (λ said. act_on actors said.line said.content) lines
 
--- one or the other
-abbrev pub or_else : {X : Type 0} → Option X → Option X → Option X
-or_else (Some x) other = Some x
-or_else None other = other
-
 -- the round among these lines, if there is one
 abbrev pub round_in : List Said → Option RoundLine
 round_in [] = None
-round_in (said ∷ more) = or_else (round_on said.line said.content) (round_in more)
+round_in (said ∷ more) = option_or (round_on said.line said.content) (round_in more)
 
 -- the lines up to the next at
 abbrev pub until_at : List Said → List Said

@@ -1,5 +1,6 @@
 //! A scenario is read line by line, up to the first fault.
 ghost use Rattle.std.specs.Prelude.{◌≡◌, ◌<◌, ◌-◌, ◌^◌, length, IfOk};
+ghost use Rattle.scenario_reader.specs.Facts.{IsScript};
 ghost use Rattle.scenario_reader.specs.Faults.{Gives, said_on};
 ghost use Rattle.scenario_reader.specs.Accepted.{script_of};
 ghost use Rattle.scenario_reader.specs.Steps.{read_from, start, step_on, IsSmall};
@@ -17,9 +18,12 @@ use std::alloc::Global;
 pub fn read_script(alloc: Global, bytes: &[u8]) -> Result<Script, ScriptFault>
     requires { length bytes.now < 2 ^ 32 - 1 }
     ensures exact { Gives result (script_of bytes.now) }
+    ensures facts { IfOk result IsScript }
 {
-    let reading = read_lines(alloc, bytes)?;
-    Ok(reading.script(alloc)?)
+    match read_lines(alloc, bytes) {
+        Ok(reading) => Ok(reading.script(alloc)?),
+        Err(fault) => Err(fault),
+    }
 }
 
 fn read_lines(alloc: Global, bytes: &[u8]) -> Result<Reading, ScriptFault>
