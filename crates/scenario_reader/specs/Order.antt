@@ -24,8 +24,8 @@ abbrev pub last_of : List Phase → Option Phase
 last_of [] = None
 last_of (phase ∷ more) = Some (last_from phase more)
 
--- a line may not stand in or behind this phase, the last that has begun: it stands before the first at, is an at that is less
--- than the one before, is the second round of the phase, or is a round behind a cell's line or a cell's line behind a round
+-- a line may not stand here, by the last phase that has begun: it stands before the first at; is an at that is less
+-- than the one before; is the second round of its phase; is a round behind a cell's line, or a cell's line behind a round
 abbrev pub is_misplaced : Option Phase → Content → Bool
 is_misplaced None (At at) = false
 is_misplaced None (Acts act) = true

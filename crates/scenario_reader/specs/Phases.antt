@@ -22,7 +22,13 @@ act_line actors line act =
 -- what is lost in the round of a line
 abbrev pub round_line : ℕ → Losses → RoundLine
 round_line line losses =
-    record { line = line; lose_ask = losses.ask; lose_stop = losses.stop; lose_start = losses.start; lose_reply = losses.reply }
+    record {
+      line = line;
+      lose_ask = losses.ask;
+      lose_stop = losses.stop;
+      lose_start = losses.start;
+      lose_reply = losses.reply;
+    }
 
 -- the line of an actor, if it is one
 abbrev pub act_on : List Actor → ℕ → Content → Option Line
@@ -52,7 +58,8 @@ until_at (said ∷ more) = if is_at said.content then [] else said ∷ until_at 
 
 -- the phase that begins at this moment, with these lines behind its at
 abbrev pub phase_of : List Actor → Moment → List Said → Phase
-phase_of actors at behind = record { at = at; lines = acts_in actors (until_at behind); round = round_in (until_at behind) }
+phase_of actors at behind =
+    record { at = at; lines = acts_in actors (until_at behind); round = round_in (until_at behind) }
 
 -- the phase that a line begins, if it is an at, with these lines behind it
 abbrev pub begun_by : List Actor → Content → List Said → List Phase

@@ -1,8 +1,12 @@
 //! The faults, and which of several counts.
+ghost use Rattle.std.specs.Prelude.{◌≤◌, length};
+
 use crate::*;
 use std::test::Fail;
 
-fn fault_of(rt: &HostRuntime, text: &[u8]) -> Option<ScriptFault> {
+fn fault_of(rt: &HostRuntime, text: &[u8]) -> Option<ScriptFault>
+    requires { length text.now ≤ 1000 }
+{
     match read_script(rt.alloc(), text) {
         Ok(_script) => None,
         Err(fault) => Some(fault),

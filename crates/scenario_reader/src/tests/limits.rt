@@ -17,6 +17,9 @@ fn acts(alloc: Global, actors: u32, times: u32) -> Result<String, Fail> {
 
 fn fault_of(alloc: Global, text: &String, more: &str) -> Result<Option<ScriptFault>, Fail> {
     let text = format!(in alloc; "{text}{more}")?;
+    if text.len() > 100_000 {
+        Err("the text is short")?;
+    }
     match read_script(alloc, text.as_bytes()) {
         Ok(_script) => Ok(None),
         Err(fault) => Ok(Some(fault)),
