@@ -1,5 +1,5 @@
 -- The actors of lines keep their numbers when more lines come.
-use Rattle.std.proofs.Common.{◌≡◌, ◌∙◌, ℕ, ◌+◌, Bool, true, false, ◌||◌, ◌&&◌, not, cond, if◌then◌else◌, List, [], ◌∷◌, ◌++◌, refl, sym, ap, subst, nat_eq, length}
+use Rattle.std.proofs.Common.{◌≡◌, ◌∙◌, ◌+◌, Bool, true, false, ◌||◌, ◌&&◌, not, cond, if◌then◌else◌, List, [], ◌∷◌, ◌++◌, refl, ap, nat_eq}
 use Rattle.std.specs.Bool.{beq}
 use Rattle.std.specs.Cmp.Lexicographic.{pointwise}
 use Rattle.std.specs.List.{list_any, position_or_len}
@@ -8,7 +8,7 @@ use Rattle.std.proofs.lemmas.List.Folds.{list_any-append}
 use Rattle.scenario_lines.specs.declared.actor.Actor.{Actor}
 use Rattle.scenario_lines.specs.declared.content.Content.{Content}
 use Rattle.scenario_lines.specs.declared.content.Content.TheVariants.{Phase, Acts, Round}
-use Rattle.scenario_reader.specs.Actors.{actors_from, actors_of, is_same_actor, number_of, with_acting, with_actor}
+use Rattle.scenario_reader.specs.Actors.{actors_from, is_same_actor, number_of, with_acting, with_actor}
 use Rattle.scenario_reader.specs.Said.{Said}
 
 same-beq : (b : Bool) → beq b b ≡ true

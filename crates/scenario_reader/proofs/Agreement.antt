@@ -1,12 +1,12 @@
 -- What is read line by line is the scenario that the bytes are.
 use Rattle.std.proofs.Common.{◌≡◌, ◌∙◌, ℕ, Bool, true, false, if◌then◌else◌, List, [], ◌∷◌, ◌++◌, Result, Ok, Err, refl, sym, ap, subst}
 use Rattle.scenario_lines.specs.declared.content.Content.{Content}
-use Rattle.scenario_reader.specs.Accepted.{accepted, judged, placed, script_of}
+use Rattle.scenario_reader.specs.Accepted.{accepted, placed, script_of}
 use Rattle.scenario_reader.specs.Faults.{◌>>=◌, Gives, said_on}
 use Rattle.scenario_reader.specs.Order.{is_out_of_order, is_too_much}
 use Rattle.scenario_reader.specs.Phases.{script_said}
 use Rattle.scenario_reader.specs.Said.{Said}
-use Rattle.scenario_reader.specs.Steps.{read_from, script_in, start, step, step_on}
+use Rattle.scenario_reader.specs.Steps.{read_from, script_in, start, step}
 use Rattle.scenario_reader.specs.TextLines.{NumberedLine, nonblank_lines}
 use Rattle.scenario_reader.specs.declared.fault.ScriptFault.{ScriptFault}
 use Rattle.scenario_reader.specs.declared.fault.ScriptFault.TheVariants.{BadJson, BadShape, BadName, BadOrder, TooMuch, OutOfMemory}

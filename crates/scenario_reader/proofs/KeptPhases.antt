@@ -1,10 +1,10 @@
 -- The phases of lines stay when another actor comes.
-use Rattle.std.proofs.Common.{◌≡◌, ℕ, true, false, if◌then◌else◌, List, [], ◌∷◌, ◌++◌, Option, Some, refl, ap}
+use Rattle.std.proofs.Common.{◌≡◌, ℕ, if◌then◌else◌, List, [], ◌∷◌, ◌++◌, Some, refl, ap}
 use Rattle.std.specs.List.{cons_option}
 use Rattle.scenario_lines.specs.declared.actor.Actor.{Actor}
 use Rattle.scenario_lines.specs.declared.content.Content.{Content}
 use Rattle.scenario_lines.specs.declared.content.Content.TheVariants.{Phase as At, Acts, Round}
-use Rattle.scenario_reader.specs.Actors.{number_of, with_acting}
+use Rattle.scenario_reader.specs.Actors.{with_acting}
 use Rattle.scenario_reader.specs.Phases.{act_on, acts_in, begun_by, phases_of, round_in, until_at}
 use Rattle.scenario_reader.specs.Said.{Said, is_at}
 use Rattle.scenario_reader.proofs.ActorNumbers.{AreKnown, IsKnown, number_of-kept}

@@ -1,5 +1,5 @@
 -- Phases, as those behind which another stands and the last.
-use Rattle.std.proofs.Common.{◌≡◌, List, [], ◌∷◌, ◌++◌, Option, Some, None, option_to_list, refl, ap}
+use Rattle.std.proofs.Common.{◌≡◌, List, [], ◌∷◌, ◌++◌, Some, option_to_list, refl, ap}
 use Rattle.scenario_reader.specs.Order.{last_from, last_of}
 use Rattle.scenario_reader.specs.declared.script.Phase.{Phase}
 

@@ -1,19 +1,16 @@
 -- The phases of lines, when one more comes.
-use Rattle.std.proofs.Common.{◌≡◌, ◌∙◌, ℕ, Bool, true, false, if◌then◌else◌, List, [], ◌∷◌, ◌++◌, Option, Some, None, option_to_list, filter_map, refl, sym, ap}
+use Rattle.std.proofs.Common.{◌≡◌, ◌∙◌, ℕ, false, if◌then◌else◌, List, [], ◌∷◌, ◌++◌, Option, Some, None, option_to_list, refl, ap}
 use Rattle.std.specs.Option.{option_or}
 use Rattle.std.proofs.lemmas.List.Elements.{filter_map-append}
 use Rattle.crash_backoff.specs.declared.moment.Moment.{Moment}
 use Rattle.scenario_lines.specs.declared.actor.Actor.{Actor}
-use Rattle.scenario_lines.specs.declared.content.Content.{Content}
 use Rattle.scenario_lines.specs.declared.content.Content.TheVariants.{Phase as At, Acts, Round}
-use Rattle.scenario_reader.specs.Actors.{number_of, with_acting}
 use Rattle.scenario_reader.specs.Order.{last_from, last_of}
-use Rattle.scenario_reader.specs.Phases.{act_on, act_line, acts_in, begun_by, phase_of, phases_of, round_in, round_on, until_at}
+use Rattle.scenario_reader.specs.Phases.{act_on, acts_in, begun_by, phase_of, phases_of, round_in, round_on, until_at}
 use Rattle.scenario_reader.specs.Said.{Said, is_at}
 use Rattle.scenario_reader.specs.declared.script.Line.{Line}
 use Rattle.scenario_reader.specs.declared.script.Phase.{Phase}
 use Rattle.scenario_reader.specs.declared.script.RoundLine.{RoundLine}
-use Rattle.scenario_reader.proofs.ActorNumbers.{AreKnown, IsKnown, number_of-kept}
 use Rattle.scenario_reader.proofs.LastPhases.{front_from, front_of}
 
 -- a phase with what is said on one more line

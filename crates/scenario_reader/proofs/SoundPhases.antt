@@ -1,11 +1,10 @@
 -- A phase to which one more line comes.
-use Rattle.std.proofs.Common.{◌≡◌, ℕ, ◌<◌, ◌≤◌, true, false, List, [], ◌∷◌, ◌++◌, get_or, Option, Some, None, IfSome, refl, sym, ap, arith}
-use Rattle.std.specs.List.{All, AllPairs}
-use Rattle.std.proofs.lemmas.List.Elements.{All-nil, All-push}
-use Rattle.std.proofs.lemmas.List.Quantifiers.{all_pairs_push}
+use Rattle.std.proofs.Common.{◌≡◌, ℕ, ◌<◌, ◌≤◌, List, get_or, Option, Some, None, IfSome, arith}
+use Rattle.std.specs.List.{All}
+use Rattle.std.proofs.lemmas.List.Elements.{All-nil}
 use Rattle.crash_backoff.specs.declared.moment.Moment.{Moment}
 use Rattle.scenario_lines.specs.declared.actor.Actor.{Actor}
-use Rattle.scenario_reader.specs.Facts.{AllNumbers, IsBefore, IsBeside, IsLine, IsPhase}
+use Rattle.scenario_reader.specs.Facts.{AllNumbers, IsBefore, IsLine, IsPhase}
 use Rattle.scenario_reader.specs.Steps.{begun_at}
 use Rattle.scenario_reader.specs.declared.script.Line.{Line}
 use Rattle.scenario_reader.specs.declared.script.Phase.{Phase}

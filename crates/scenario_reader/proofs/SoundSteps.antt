@@ -1,5 +1,5 @@
 -- What was read keeps what a scenario keeps.
-use Rattle.std.proofs.Common.{◌≡◌, ◌≢◌, ◌∙◌, ℕ, ◌<◌, ◌≤◌, Bool, true, false, ◌&&◌, ◌||◌, if◌then◌else◌, nat_lt, List, [], ◌∷◌, ◌++◌, length, get_or, Option, Some, None, is_some, IfSome, MatchOption, option_to_list, Result, Ok, Err, IfOk, refl, sym, ap, subst, arith}
+use Rattle.std.proofs.Common.{◌≡◌, ◌≢◌, ℕ, ◌<◌, ◌≤◌, Bool, true, false, ◌&&◌, ◌||◌, if◌then◌else◌, nat_lt, List, [], ◌∷◌, ◌++◌, length, get_or, Option, Some, None, is_some, IfSome, MatchOption, option_to_list, Result, Ok, Err, IfOk, refl, sym, ap, subst, arith}
 use Rattle.std.specs.List.{All, AllPairs, list_any}
 use Rattle.std.proofs.lemmas.Bool.{ltb-false}
 use Rattle.std.proofs.lemmas.List.Elements.{All-nil, All-push}
@@ -16,13 +16,13 @@ use Rattle.scenario_reader.specs.Actors.{with_actor}
 use Rattle.scenario_reader.specs.Facts.{AllNumbers, IsBefore, IsBeside, IsLine, IsPhase}
 use Rattle.scenario_reader.specs.Order.{is_cells_line}
 use Rattle.scenario_reader.specs.Phases.{act_line, round_line}
-use Rattle.scenario_reader.specs.Steps.{acted, acted_in, begun, begun_at, is_before, rounded, rounded_in, step, with_line, within}
+use Rattle.scenario_reader.specs.Steps.{acted_in, begun_at, is_before, rounded_in, step, with_line, within}
 use Rattle.scenario_reader.specs.declared.fault.ScriptFault.{ScriptFault}
 use Rattle.scenario_reader.specs.declared.reading.Reading.{Reading}
 use Rattle.scenario_reader.specs.declared.script.Line.{Line}
 use Rattle.scenario_reader.specs.declared.script.Phase.{Phase}
 use Rattle.scenario_reader.specs.declared.script.RoundLine.{RoundLine}
-use Rattle.scenario_reader.proofs.SoundActors.{act_line-is, first_false, line-kept, none_pass, phase-kept, second_false, with_actor-distinct}
+use Rattle.scenario_reader.proofs.SoundActors.{act_line-is, first_false, none_pass, phase-kept, second_false, with_actor-distinct}
 use Rattle.scenario_reader.proofs.SoundPhases.{Grows, IsLast, begun_at-behind, begun_at-is, begun_at-numbers, grown-last, numbers-mapped}
 
 -- what was read keeps what a scenario keeps, and no line has a greater number

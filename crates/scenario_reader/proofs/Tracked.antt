@@ -1,5 +1,5 @@
 -- What was read line by line is what the lines say.
-use Rattle.std.proofs.Common.{◌≡◌, ◌∙◌, ℕ, ◌+◌, Bool, true, false, ◌&&◌, ◌||◌, if◌then◌else◌, nat_lt, List, [], ◌∷◌, ◌++◌, length, Option, Some, None, is_some, option_to_list, Result, Ok, Err, refl, sym, ap, add-zero}
+use Rattle.std.proofs.Common.{◌≡◌, ◌∙◌, ℕ, ◌+◌, Bool, true, false, ◌&&◌, ◌||◌, if◌then◌else◌, nat_lt, List, [], ◌∷◌, ◌++◌, length, Option, Some, None, is_some, option_to_list, Ok, Err, refl, sym, ap, add-zero}
 use Rattle.std.specs.List.{list_any}
 use Rattle.std.specs.Option.{option_or}
 use Rattle.std.proofs.lemmas.List.{append-nil}
@@ -12,16 +12,14 @@ use Rattle.scenario_lines.specs.declared.content.Content.{Content}
 use Rattle.scenario_lines.specs.declared.content.Content.TheVariants.{Phase as At, Acts, Round}
 use Rattle.scenario_lines.specs.declared.content.Losses.{Losses}
 use Rattle.scenario_reader.specs.Accepted.{placed}
-use Rattle.scenario_reader.specs.Actors.{actors_of, number_of, with_acting, with_actor}
+use Rattle.scenario_reader.specs.Actors.{actors_of, with_acting, with_actor}
 use Rattle.scenario_reader.specs.Faults.{◌>>=◌}
 use Rattle.scenario_reader.specs.Order.{is_cells_line, is_misplaced, is_out_of_order, is_too_much, last_of, runs_of}
 use Rattle.scenario_reader.specs.Phases.{act_line, phases_of, round_line}
 use Rattle.scenario_reader.specs.Said.{Said, is_at, runs_on}
-use Rattle.scenario_reader.specs.Steps.{acted_in, begun, begun_at, is_before, rounded_in, step, with_line, within}
-use Rattle.scenario_reader.specs.declared.fault.ScriptFault.{ScriptFault}
+use Rattle.scenario_reader.specs.Steps.{acted_in, begun_at, is_before, rounded_in, step, with_line, within}
 use Rattle.scenario_reader.specs.declared.fault.ScriptFault.TheVariants.{BadOrder, TooMuch}
 use Rattle.scenario_reader.specs.declared.reading.Reading.{Reading}
-use Rattle.scenario_reader.specs.declared.script.Line.{Line}
 use Rattle.scenario_reader.specs.declared.script.Phase.{Phase}
 use Rattle.scenario_reader.specs.declared.script.RoundLine.{RoundLine}
 use Rattle.scenario_reader.proofs.ActorNumbers.{actors_from-known, actors_from-push, number_of-own}

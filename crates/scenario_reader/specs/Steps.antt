@@ -6,7 +6,7 @@ use Rattle.scenario_lines.specs.declared.content.ActLine.{ActLine}
 use Rattle.scenario_lines.specs.declared.content.Content.{Content}
 use Rattle.scenario_lines.specs.declared.content.Content.TheVariants.{Phase as At, Acts, Round}
 use Rattle.scenario_lines.specs.declared.content.Losses.{Losses}
-use Rattle.scenario_reader.specs.Actors.{number_of, with_actor}
+use Rattle.scenario_reader.specs.Actors.{with_actor}
 use Rattle.scenario_reader.specs.Faults.{◌>>=◌, said_on}
 use Rattle.scenario_reader.specs.Order.{is_misplaced}
 use Rattle.scenario_reader.specs.Phases.{act_line, round_line}

@@ -32,8 +32,8 @@ impl Actors {
         }
     }
 
-    #[tactic(auto, unfolding(crate::specs::Actors::number_of, crate::specs::Actors::with_actor))]
     /// The number of an actor, who is added at the end if it isn't there yet.
+    #[tactic(auto, unfolding(crate::specs::Actors::number_of, crate::specs::Actors::with_actor))]
     pub fn number(&mut self, actor: Actor) -> Result<u32, OutOfMemory>
         requires { length self.old ≤ 256 }
         ensures added { OnOk result (self.new ≡ with_actor self.old actor) }

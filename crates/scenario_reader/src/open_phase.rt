@@ -1,5 +1,5 @@
 //! The phase in which the next line stands.
-ghost use Rattle.std.specs.Prelude.{◌≡◌, [], ◌∷◌, ◌++◌, None, Some, is_some, IfOk};
+ghost use Rattle.std.specs.Prelude.{◌≡◌, Some, is_some, IfOk};
 ghost use Rattle.std.specs.List.{list_any};
 ghost use Rattle.scenario_reader.specs.Order.{is_cells_line};
 ghost use Rattle.scenario_reader.specs.Steps.{begun_at, with_line};

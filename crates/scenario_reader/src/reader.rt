@@ -1,8 +1,8 @@
 //! A scenario is read line by line, up to the first fault.
-ghost use Rattle.std.specs.Prelude.{◌≡◌, ◌<◌, ◌-◌, ◌^◌, length, IfOk};
+ghost use Rattle.std.specs.Prelude.{◌<◌, ◌-◌, ◌^◌, length, IfOk};
+ghost use Rattle.scenario_reader.specs.Accepted.{script_of};
 ghost use Rattle.scenario_reader.specs.Facts.{IsScript};
 ghost use Rattle.scenario_reader.specs.Faults.{Gives, said_on};
-ghost use Rattle.scenario_reader.specs.Accepted.{script_of};
 ghost use Rattle.scenario_reader.specs.Steps.{read_from, start, step_on, IsSmall};
 ghost use Rattle.scenario_reader.specs.TextLines.{line_view, nonblank_lines};
 

@@ -1,9 +1,7 @@
-ghost use Rattle.std.specs.Prelude.{◌≤◌, IfOk, string_len};
-
+//! Scenarios that are read, written out by hand.
 use crate::*;
 use diego_names::Name;
 use scenario_lines::{Actor, Loss};
-use std::alloc::Global;
 use std::test::Fail;
 
 mod faults;

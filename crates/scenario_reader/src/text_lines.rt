@@ -1,5 +1,5 @@
 //! A text is read line by line. Blank lines are passed over and counted.
-ghost use Rattle.std.specs.Prelude.{◌≡◌, ◌<◌, ◌+◌, ◌-◌, ◌^◌, ◌∷◌, [], length, position, MatchOption, IfSome};
+ghost use Rattle.std.specs.Prelude.{◌≡◌, ◌<◌, ◌+◌, ◌^◌, ◌∷◌, [], length, position, MatchOption, IfSome};
 ghost use Rattle.scenario_reader.specs.TextLines.{is_newline, is_blank, line_view, lines_of, nonblank_in};
 
 /// A line with its number.

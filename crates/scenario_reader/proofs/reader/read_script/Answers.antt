@@ -1,4 +1,4 @@
-use Rattle.std.proofs.Common.{◌≡◌, ◌∙◌, Ok, Result, IfOk, ap, sym, subst}
+use Rattle.std.proofs.Common.{◌∙◌, Ok, Result, IfOk, ap, sym, subst}
 use Rattle.scenario_reader.specs.Facts.{IsScript}
 use Rattle.scenario_reader.specs.Faults.{◌>>=◌}
 use Rattle.scenario_reader.specs.Steps.{script_in}
