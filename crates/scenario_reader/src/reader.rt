@@ -21,7 +21,7 @@ pub fn read_script(alloc: Global, bytes: &[u8]) -> Result<Script, ScriptFault>
     ensures facts { IfOk result IsScript }
 {
     match read_lines(alloc, bytes) {
-        Ok(reading) => Ok(reading.script(alloc)?),
+        Ok(read) => Ok(read.script(alloc)?),
         Err(fault) => Err(fault),
     }
 }
