@@ -3,6 +3,7 @@
 
 mod act;
 mod actor;
+mod answered;
 mod cell;
 mod client;
 mod content;
@@ -17,12 +18,15 @@ mod member;
 mod names;
 mod needs;
 mod round;
+mod script;
 mod shape;
 mod values;
 
 pub use act::{Act, Loss};
 pub use actor::Actor;
+pub use answered::Answered;
 pub use content::{ActLine, Content, Losses};
 pub use flaw::{Flaw, LineError};
 pub use laws::acts_fit_their_actors;
 pub use line::read_line;
+pub use script::{Line, Phase, RoundLine, Script};

@@ -11,7 +11,7 @@ use Rattle.scenario_reader.specs.TextLines.{NumberedLine, nonblank_lines}
 use Rattle.scenario_reader.specs.declared.fault.ScriptFault.{ScriptFault}
 use Rattle.scenario_reader.specs.declared.fault.ScriptFault.TheVariants.{BadJson, BadShape, BadName, BadOrder, TooMuch, OutOfMemory}
 use Rattle.scenario_reader.specs.declared.reading.Reading.{Reading}
-use Rattle.scenario_reader.specs.declared.script.Script.{Script}
+use Rattle.scenario_lines.specs.declared.script.Script.{Script}
 use Rattle.scenario_reader.proofs.LastPhases.{front_of-last_of}
 use Rattle.scenario_reader.proofs.Tracked.{own_phases, reading_of, steps-alike}
 

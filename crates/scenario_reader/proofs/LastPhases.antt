@@ -1,7 +1,7 @@
 -- Phases, as those behind which another stands and the last.
 use Rattle.std.proofs.Common.{◌≡◌, List, [], ◌∷◌, ◌++◌, Some, option_to_list, refl, ap}
 use Rattle.scenario_reader.specs.Order.{last_from, last_of}
-use Rattle.scenario_reader.specs.declared.script.Phase.{Phase}
+use Rattle.scenario_lines.specs.declared.script.Phase.{Phase}
 
 -- the phases before the last, where this one stands before them
 abbrev pub front_from : Phase → List Phase → List Phase

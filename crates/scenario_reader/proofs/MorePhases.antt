@@ -8,9 +8,9 @@ use Rattle.scenario_lines.specs.declared.content.Content.TheVariants.{Phase as A
 use Rattle.scenario_reader.specs.Order.{last_from, last_of}
 use Rattle.scenario_reader.specs.Phases.{act_on, acts_in, begun_by, phase_of, phases_of, round_in, round_on, until_at}
 use Rattle.scenario_reader.specs.Said.{Said, is_at}
-use Rattle.scenario_reader.specs.declared.script.Line.{Line}
-use Rattle.scenario_reader.specs.declared.script.Phase.{Phase}
-use Rattle.scenario_reader.specs.declared.script.RoundLine.{RoundLine}
+use Rattle.scenario_lines.specs.declared.script.Line.{Line}
+use Rattle.scenario_lines.specs.declared.script.Phase.{Phase}
+use Rattle.scenario_lines.specs.declared.script.RoundLine.{RoundLine}
 use Rattle.scenario_reader.proofs.LastPhases.{front_from, front_of}
 
 -- a phase with what is said on one more line

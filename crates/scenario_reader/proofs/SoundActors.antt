@@ -12,8 +12,8 @@ use Rattle.scenario_lines.specs.declared.content.ActLine.{ActLine}
 use Rattle.scenario_reader.specs.Actors.{is_same_actor, number_of, with_actor}
 use Rattle.scenario_reader.specs.Facts.{IsLine, IsPhase}
 use Rattle.scenario_reader.specs.Phases.{act_line}
-use Rattle.scenario_reader.specs.declared.script.Line.{Line}
-use Rattle.scenario_reader.specs.declared.script.Phase.{Phase}
+use Rattle.scenario_lines.specs.declared.script.Line.{Line}
+use Rattle.scenario_lines.specs.declared.script.Phase.{Phase}
 use Rattle.scenario_reader.proofs.ActorNumbers.{is_same_actor-itself, number_of-own, with_actor-has}
 
 -- where one of two tests is false

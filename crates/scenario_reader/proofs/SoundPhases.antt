@@ -6,9 +6,9 @@ use Rattle.crash_backoff.specs.declared.moment.Moment.{Moment}
 use Rattle.scenario_lines.specs.declared.actor.Actor.{Actor}
 use Rattle.scenario_reader.specs.Facts.{AllNumbers, IsBefore, IsLine, IsPhase}
 use Rattle.scenario_reader.specs.Steps.{begun_at}
-use Rattle.scenario_reader.specs.declared.script.Line.{Line}
-use Rattle.scenario_reader.specs.declared.script.Phase.{Phase}
-use Rattle.scenario_reader.specs.declared.script.RoundLine.{RoundLine}
+use Rattle.scenario_lines.specs.declared.script.Line.{Line}
+use Rattle.scenario_lines.specs.declared.script.Phase.{Phase}
+use Rattle.scenario_lines.specs.declared.script.RoundLine.{RoundLine}
 
 -- what is known of the last phase, where the others are these and no line has a greater number
 pub record IsLast (actors : List Actor) (closed : List Phase) (upto : ℕ) (phase : Phase) : Type 0 where

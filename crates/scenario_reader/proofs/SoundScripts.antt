@@ -17,8 +17,8 @@ use Rattle.scenario_reader.specs.Steps.{read_from, script_in, start, step, step_
 use Rattle.scenario_reader.specs.TextLines.{NumberedLine, is_blank, lines_of, nonblank_lines, numbered}
 use Rattle.scenario_reader.specs.declared.fault.ScriptFault.{ScriptFault}
 use Rattle.scenario_reader.specs.declared.reading.Reading.{Reading}
-use Rattle.scenario_reader.specs.declared.script.Phase.{Phase}
-use Rattle.scenario_reader.specs.declared.script.Script.{Script}
+use Rattle.scenario_lines.specs.declared.script.Phase.{Phase}
+use Rattle.scenario_lines.specs.declared.script.Script.{Script}
 use Rattle.scenario_reader.proofs.Agreement.{script_of-read}
 use Rattle.scenario_reader.proofs.SoundPhases.{IsLast}
 use Rattle.scenario_reader.proofs.SoundSteps.{IsSound, step-sound}

@@ -19,9 +19,9 @@ use Rattle.scenario_reader.specs.Phases.{act_line, round_line}
 use Rattle.scenario_reader.specs.Steps.{acted_in, begun_at, is_before, rounded_in, step, with_line, within}
 use Rattle.scenario_reader.specs.declared.fault.ScriptFault.{ScriptFault}
 use Rattle.scenario_reader.specs.declared.reading.Reading.{Reading}
-use Rattle.scenario_reader.specs.declared.script.Line.{Line}
-use Rattle.scenario_reader.specs.declared.script.Phase.{Phase}
-use Rattle.scenario_reader.specs.declared.script.RoundLine.{RoundLine}
+use Rattle.scenario_lines.specs.declared.script.Line.{Line}
+use Rattle.scenario_lines.specs.declared.script.Phase.{Phase}
+use Rattle.scenario_lines.specs.declared.script.RoundLine.{RoundLine}
 use Rattle.scenario_reader.proofs.SoundActors.{act_line-is, first_false, none_pass, phase-kept, second_false, with_actor-distinct}
 use Rattle.scenario_reader.proofs.SoundPhases.{Grows, IsLast, begun_at-behind, begun_at-is, begun_at-numbers, grown-last, numbers-mapped}
 

@@ -20,8 +20,8 @@ use Rattle.scenario_reader.specs.Said.{Said, is_at, runs_on}
 use Rattle.scenario_reader.specs.Steps.{acted_in, begun_at, is_before, rounded_in, step, with_line, within}
 use Rattle.scenario_reader.specs.declared.fault.ScriptFault.TheVariants.{BadOrder, TooMuch}
 use Rattle.scenario_reader.specs.declared.reading.Reading.{Reading}
-use Rattle.scenario_reader.specs.declared.script.Phase.{Phase}
-use Rattle.scenario_reader.specs.declared.script.RoundLine.{RoundLine}
+use Rattle.scenario_lines.specs.declared.script.Phase.{Phase}
+use Rattle.scenario_lines.specs.declared.script.RoundLine.{RoundLine}
 use Rattle.scenario_reader.proofs.ActorNumbers.{actors_from-known, actors_from-push, number_of-own}
 use Rattle.scenario_reader.proofs.KeptPhases.{phases_of-kept}
 use Rattle.scenario_reader.proofs.LastPhases.{front_of, front_of-last_of, front_of-push, last_of-push}

@@ -7,7 +7,7 @@ use Rattle.scenario_reader.specs.Said.{Said}
 use Rattle.scenario_reader.specs.TextLines.{NumberedLine, nonblank_lines}
 use Rattle.scenario_reader.specs.declared.fault.ScriptFault.{ScriptFault}
 use Rattle.scenario_reader.specs.declared.fault.ScriptFault.TheVariants.{BadOrder, TooMuch}
-use Rattle.scenario_reader.specs.declared.script.Script.{Script}
+use Rattle.scenario_lines.specs.declared.script.Script.{Script}
 
 -- a line beside those before it: it may stand there, and it isn't the one by which there is too much
 abbrev pub placed : List Said → Said → Result Said ScriptFault

@@ -2,10 +2,10 @@
 use Rattle.std.specs.Prelude.{◌≡◌, ◌≢◌, ℕ, ◌-◌, ◌<◌, ◌≤◌, false, List, length, All, AllPairs, HoldsAt, IfSome}
 use Rattle.scenario_lines.specs.Acts.{is_of_cell}
 use Rattle.scenario_lines.specs.declared.actor.Actor.{Actor}
-use Rattle.scenario_reader.specs.declared.script.Line.{Line}
-use Rattle.scenario_reader.specs.declared.script.Phase.{Phase}
-use Rattle.scenario_reader.specs.declared.script.RoundLine.{RoundLine}
-use Rattle.scenario_reader.specs.declared.script.Script.{Script}
+use Rattle.scenario_lines.specs.declared.script.Line.{Line}
+use Rattle.scenario_lines.specs.declared.script.Phase.{Phase}
+use Rattle.scenario_lines.specs.declared.script.RoundLine.{RoundLine}
+use Rattle.scenario_lines.specs.declared.script.Script.{Script}
 
 -- the line's actor is one of these and does what it can do, a cell's act or a client's, and that 1 to 1,000 times
 pub record IsLine (actors : List Actor) (line : Line) : Type 0 where

@@ -7,8 +7,8 @@ use Rattle.scenario_lines.specs.declared.content.Content.TheVariants.{Phase as A
 use Rattle.scenario_reader.specs.Actors.{actors_of}
 use Rattle.scenario_reader.specs.Phases.{phases_of}
 use Rattle.scenario_reader.specs.Said.{Said, runs_on}
-use Rattle.scenario_reader.specs.declared.script.Line.{Line}
-use Rattle.scenario_reader.specs.declared.script.Phase.{Phase}
+use Rattle.scenario_lines.specs.declared.script.Line.{Line}
+use Rattle.scenario_lines.specs.declared.script.Phase.{Phase}
 
 -- a cell acts on the line
 abbrev pub is_cells_line : Line → Bool

@@ -9,10 +9,10 @@ use Rattle.scenario_lines.specs.declared.content.Content.TheVariants.{Phase as A
 use Rattle.scenario_lines.specs.declared.content.Losses.{Losses}
 use Rattle.scenario_reader.specs.Actors.{actors_of, number_of}
 use Rattle.scenario_reader.specs.Said.{Said, is_at}
-use Rattle.scenario_reader.specs.declared.script.Line.{Line}
-use Rattle.scenario_reader.specs.declared.script.Phase.{Phase}
-use Rattle.scenario_reader.specs.declared.script.RoundLine.{RoundLine}
-use Rattle.scenario_reader.specs.declared.script.Script.{Script}
+use Rattle.scenario_lines.specs.declared.script.Line.{Line}
+use Rattle.scenario_lines.specs.declared.script.Phase.{Phase}
+use Rattle.scenario_lines.specs.declared.script.RoundLine.{RoundLine}
+use Rattle.scenario_lines.specs.declared.script.Script.{Script}
 
 -- what an actor does on a line, with the actor's number
 abbrev pub act_line : List Actor → ℕ → ActLine → Line

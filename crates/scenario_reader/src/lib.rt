@@ -7,11 +7,10 @@ mod fault;
 mod open_phase;
 mod reader;
 mod reading;
-mod script;
 #[cfg(test)]
 mod tests;
 mod text_lines;
 
 pub use fault::ScriptFault;
 pub use reader::read_script;
-pub use script::{Line, Phase, RoundLine, Script};
+pub use scenario_lines::{Line, Phase, RoundLine, Script};

@@ -5,9 +5,9 @@ ghost use Rattle.scenario_reader.specs.Order.{is_cells_line};
 ghost use Rattle.scenario_reader.specs.Steps.{begun_at, with_line};
 
 use crate::adding::add;
-use crate::script::{Line, Phase, RoundLine};
 use crash_backoff::Moment;
 use diego_names::{List, OutOfMemory};
+use scenario_lines::{Line, Phase, RoundLine};
 use std::alloc::Global;
 use std::marker::Model;
 
@@ -23,7 +23,7 @@ impl Model for OpenPhase {
     ghost use Rattle.std.specs.Prelude.{◌≡◌};
     ghost use Rattle.std.specs.List.{list_any};
     ghost use Rattle.scenario_reader.specs.Order.{is_cells_line};
-    ghost use Rattle.scenario_reader.specs.declared.script.Phase.{Phase as APhase};
+    ghost use Rattle.scenario_lines.specs.declared.script.Phase.{Phase as APhase};
 
     ghost Value = { APhase };
 

@@ -8,9 +8,8 @@ ghost use Rattle.scenario_reader.specs.TextLines.{line_view, nonblank_lines};
 
 use crate::fault::ScriptFault;
 use crate::reading::Reading;
-use crate::script::Script;
 use crate::text_lines::{Rest, TextLine, next_line};
-use scenario_lines::{Content, LineError, read_line};
+use scenario_lines::{Content, LineError, Script, read_line};
 use std::alloc::Global;
 
 /// The scenario that these bytes are, or the first fault. Its lines are numbered in 32 bits, so

@@ -7,10 +7,9 @@ ghost use Rattle.scenario_reader.specs.Steps.{acted, begun, is_before, rounded, 
 use crate::actors::Actors;
 use crate::fault::ScriptFault;
 use crate::open_phase::OpenPhase;
-use crate::script::{Line, Phase, RoundLine, Script};
 use crash_backoff::Moment;
 use diego_names::{List, OutOfMemory};
-use scenario_lines::{ActLine, Content, Losses};
+use scenario_lines::{ActLine, Content, Line, Losses, Phase, RoundLine, Script};
 use std::alloc::Global;
 
 /// The most actors that a scenario has.

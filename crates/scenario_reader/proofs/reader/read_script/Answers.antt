@@ -4,7 +4,7 @@ use Rattle.scenario_reader.specs.Faults.{◌>>=◌}
 use Rattle.scenario_reader.specs.Steps.{script_in}
 use Rattle.scenario_reader.specs.declared.fault.ScriptFault.{ScriptFault}
 use Rattle.scenario_reader.specs.declared.reading.Reading.{Reading}
-use Rattle.scenario_reader.specs.declared.script.Script.{Script}
+use Rattle.scenario_lines.specs.declared.script.Script.{Script}
 use Rattle.scenario_reader.proofs.Agreement.{gives_fault, script_of-read}
 use Rattle.scenario_reader.proofs.SoundScripts.{script_of-sound}
 use Rattle.scenario_reader.proofs.reader.read_script.Goals as goal

@@ -1,7 +1,8 @@
 //! What a scenario says.
+use crate::act::{Act, Loss};
+use crate::actor::Actor;
 use crash_backoff::Moment;
 use diego_names::{List, Name};
-use scenario_lines::{Act, Actor, Loss};
 
 /// A scenario: phases that are run one after the other.
 #[derive(Debug, Drop)]
