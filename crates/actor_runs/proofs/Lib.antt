@@ -1,0 +1,4 @@
+mod OneActor
+mod Taking
+mod ByLine
+pub mod Public
