@@ -25,4 +25,7 @@ pub mod Accounted
 pub mod Hearings
 pub mod Causes
 pub mod Lost
+pub mod FairMoves
+pub mod FairTables
+pub mod FairRuns
 pub mod Converges

@@ -2,3 +2,4 @@ pub mod Complete
 pub mod Alone
 pub mod Accounts
 pub mod Losses
+pub mod Lacks

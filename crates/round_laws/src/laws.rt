@@ -1,6 +1,7 @@
 //! The laws of a whole round. These functions do nothing: they are there for what they ensure.
 ghost use Rattle.round_laws.specs.Accounts.{RoundsHaveAccounts};
 ghost use Rattle.round_laws.specs.Complete.{CompleteRoundsTakeAll, CompleteRoundsConverge};
+ghost use Rattle.round_laws.specs.Lacks.{PlanIsRefusedForRoom, WorkIsRefusedForRoom};
 ghost use Rattle.round_laws.specs.Losses.{RoundsHearWhatGetsThrough, RoundsLoseWhatTheWireLost};
 
 /// In a complete round nobody else moved the board, and all that the rows and then the answers
@@ -29,4 +30,15 @@ pub fn rounds_lose_what_the_wire_lost()
 /// question gets through.
 pub fn rounds_hear_what_gets_through()
     ensures { RoundsHearWhatGetsThrough }
+{}
+
+/// Where nobody else calls, the work of a board is refused for want of room on it alone: it has made
+/// its last transition, or has 100,000 actual rows.
+pub fn work_is_refused_for_room()
+    ensures { WorkIsRefusedForRoom }
+{}
+
+/// So is what answers ask for.
+pub fn plan_is_refused_for_room()
+    ensures { PlanIsRefusedForRoom }
 {}
