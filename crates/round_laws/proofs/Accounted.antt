@@ -88,17 +88,17 @@ module _ (by : ℕ) (now : Moment) (line : ℕ) (s s' : Standing) (r : Report) (
   }
 
   module _ (none : r.foreign ≡ 0) where
-    abbrev R : Rows
+    abbrev pub R : Rows
     R = rows_seen h.first
 
-    quiet : IsQuiet h.first z
+    pub quiet : IsQuiet h.first z
     quiet =
         omega (arith, (parts.whole by now line s s' r h).later.counts, (parts.counted by now line s s' r h).own, none, h.reports.foreign, h.reports.end_is)
 
     rows1 : rows_seen (parts.v1 by now line s s' r h) ≡ R
     rows1 = ((parts.part1 by now line s s' r h).turns (quiet_first h.first (parts.v1 by now line s s' r h) z (parts.part1 by now line s s' r h).later (parts.part24 by now line s s' r h).later quiet)).rows_are
 
-    works_are : parts.works by now line s s' r h ≡ work R now
+    pub works_are : parts.works by now line s s' r h ≡ work R now
     works_are = ap (λ (x : Rows). work x now) rows1
 
     abbrev to2 : IsPart by (parts.works by now line s s' r h) (parts.h0 by now line s s' r h) (parts.h2 by now line s s' r h)
@@ -108,7 +108,7 @@ module _ (by : ℕ) (now : Moment) (line : ℕ) (s s' : Standing) (r : Report) (
     rows2 = (to2.turns (quiet_first h.first (parts.v2 by now line s s' r h) z to2.later (parts.part34 by now line s s' r h).later quiet)).rows_are
         ∙ ap (λ xs. state_after_all R xs) works_are
 
-    plans_are : parts.plans by now line s s' r h ≡ plan_of_answers (after_work R now) got now
+    pub plans_are : parts.plans by now line s s' r h ≡ plan_of_answers (after_work R now) got now
     plans_are = ap (λ (x : Rows). plan_of_answers x got now) rows2
 
     abbrev to3 : IsPart by (parts.works by now line s s' r h ++ parts.plans by now line s s' r h) (parts.h0 by now line s s' r h) (parts.h3 by now line s s' r h)
@@ -120,25 +120,25 @@ module _ (by : ℕ) (now : Moment) (line : ℕ) (s s' : Standing) (r : Report) (
         ∙ ap (λ xs. state_after_all (state_after_all R xs) (parts.plans by now line s s' r h)) works_are
         ∙ ap (λ xs. state_after_all (after_work R now) xs) plans_are
 
-    places_rows : h.opening_is.places.rows ≡ after_plan R got now
+    pub places_rows : h.opening_is.places.rows ≡ after_plan R got now
     places_rows = h.opens.placed.rows_are ∙ rows3
 
-    places_are : h.opening_is.places.placements ≡ placements (after_plan R got now) roomy
+    pub places_are : h.opening_is.places.placements ≡ placements (after_plan R got now) roomy
     places_are = h.opens.placed.placed ∙ ap (λ (x : Rows). placements x roomy) rows3
 
-    notes_are : parts.notes by now line s s' r h ≡ fails_of (after_plan R got now) now (unplaced (placements (after_plan R got now) roomy))
+    pub notes_are : parts.notes by now line s s' r h ≡ fails_of (after_plan R got now) now (unplaced (placements (after_plan R got now) roomy))
     notes_are = ap (λ (x : Rows). fails_of x now (unplaced h.opening_is.places.placements)) places_rows ∙ ap (λ (ps : List Placement). fails_of (after_plan R got now) now (unplaced ps)) places_are
 
-    abbrev claims : List Command
+    abbrev pub claims : List Command
     claims = parts.claims by now line s s' r h
 
-    abbrev calls : List Command
+    abbrev pub calls : List Command
     calls = parts.works by now line s s' r h ++ (parts.plans by now line s s' r h ++ (claims ++ parts.notes by now line s s' r h))
 
-    calls_are : calls ≡ work R now ++ (plan_of_answers (after_work R now) got now ++ (claims ++ fails_of (after_plan R got now) now (unplaced (placements (after_plan R got now) roomy))))
+    pub calls_are : calls ≡ work R now ++ (plan_of_answers (after_work R now) got now ++ (claims ++ fails_of (after_plan R got now) now (unplaced (placements (after_plan R got now) roomy))))
     calls_are = λ i. works_are i ++ (plans_are i ++ (claims ++ notes_are i))
 
-    abbrev turns : AreTurns by calls (parts.h0 by now line s s' r h) (parts.h4 by now line s s' r h)
+    abbrev pub turns : AreTurns by calls (parts.h0 by now line s s' r h) (parts.h4 by now line s s' r h)
     turns = (parts.whole by now line s s' r h).turns quiet
 
     then_is : rows_then z r.start ≡ R

@@ -94,7 +94,7 @@ missed_one true false a reps reps' d before now have is cause h = absurd (h.0 ha
 missed_one false true a reps reps' d before now have is cause h = absurd h
 missed_one false false a reps reps' d before now have is cause h = one_lost before now (rose_unless false d before now refl is cause)
 
-names_after : (reached done : Bool) (a : Stray) (reps reps' : List CellRep) → StopsIf reached done a reps reps' → names_of reps' ≡ names_of reps
+pub names_after : (reached done : Bool) (a : Stray) (reps reps' : List CellRep) → StopsIf reached done a reps reps' → names_of reps' ≡ names_of reps
 names_after true true a reps reps' h = ap names_of h.is ∙ names_set reps h.place h.rep (without h.rep a.1) h.stands.within h.stands.is (cell_stays h.rep.cell a.1 h.rep.joined)
 names_after true false a reps reps' h = ap names_of h.1
 names_after false true a reps reps' h = absurd h

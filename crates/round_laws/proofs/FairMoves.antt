@@ -1,6 +1,6 @@
 -- What a round asks of a row is refused for nothing but want of room, while the row is as it was.
-use Rattle.std.proofs.Common.{◌≡◌, ◌⊎◌, ℕ, ◌+◌, ◌-◌, ◌≤◌, Bool, true, false, cond, not, ◌&&◌, ◌||◌, ◌==◌, nat_lt, nat_le, is_some, List, Option, Some, None, refl, sym, ap, subst, ◌∙◌, arith, inl, inr}
-use Rattle.std.specs.Option.{option_map, option_map_or, option_and_then}
+use Rattle.std.proofs.Common.{◌≡◌, ◌⊎◌, ℕ, ◌+◌, ◌-◌, Bool, true, false, cond, not, nat_lt, nat_le, is_some, List, Option, Some, None, refl, sym, ap, subst, ◌∙◌, arith, inl, inr}
+use Rattle.std.specs.Option.{option_map_or}
 use Rattle.cell_records.specs.declared.cell_row.CellRow.{CellRow}
 use Rattle.crash_backoff.specs.Backoff.{due_from}
 use Rattle.crash_backoff.specs.declared.moment.Moment.{Moment}
@@ -28,7 +28,7 @@ use Rattle.task_records.specs.declared.move_end.TaskEnd.TheVariants as task_end
 use Rattle.task_records.specs.declared.refusal.TaskRefusal.TheVariants as task_why
 use Rattle.task_records.specs.declared.move_kind.TaskMove.{TaskMove}
 use Rattle.task_records.specs.declared.move_kind.TaskMove.TheVariants as task
-use Rattle.bbs_model.specs.Attempts.{if_known, unless_refused, put, drop_row}
+use Rattle.bbs_model.specs.Attempts.{if_known, put, drop_row}
 use Rattle.bbs_model.specs.Cells.{vanish}
 use Rattle.bbs_model.specs.Found.{found_by}
 use Rattle.bbs_model.specs.Limits.{most_actual}
@@ -43,7 +43,6 @@ use Rattle.bbs_model.specs.declared.command.Op.{Op}
 use Rattle.bbs_model.specs.declared.command.Op.TheVariants as op
 use Rattle.bbs_model.specs.declared.event.Row.TheVariants as row
 use Rattle.bbs_model.specs.declared.rows.Rows.{Rows}
-use Rattle.bbs_model.specs.declared.verdict.BoardRefusal.{BoardRefusal}
 use Rattle.bbs_model.specs.declared.verdict.BoardRefusal.TheVariants as why
 use Rattle.converge_laws.proofs.Public.{instance_itself}
 use Rattle.round_laws.specs.Lacks.{IsLack}

@@ -1,21 +1,19 @@
 -- Lists of commands about unlike rows are refused for nothing but want of room.
-use Rattle.std.proofs.Common.{◌≡◌, ◌≢◌, ◌⊎◌, ℕ, Bool, true, false, cond, nat_le, List, [], ◌∷◌, ◌++◌, Option, Some, None, refl, sym, ap, subst, ◌∙◌, arith, inl, inr, ⊎_elim}
+use Rattle.std.proofs.Common.{◌≡◌, ◌≢◌, ℕ, Bool, true, false, cond, nat_le, List, [], ◌∷◌, Option, Some, refl, sym, ap, subst, ◌∙◌, arith, inl, ⊎_elim}
 use Rattle.std.specs.List.{Contains}
 use Rattle.std.proofs.lemmas.List.Elements.{Contains-append_cases}
 use Rattle.cell_records.specs.declared.answer.Answer.{Answer}
 use Rattle.convergence.specs.Plans.{plan_of_answers}
 use Rattle.convergence.specs.PlanLaws.{plan_on}
-use Rattle.convergence.specs.Subjects.{Subject, OfPlace, OfTask, OfCell, work_on, subject_in, ordinary_of}
+use Rattle.convergence.specs.Subjects.{Subject, work_on, subject_in}
 use Rattle.convergence.proofs.Public.{work_is_by_subject, work_rises, plan_is_by_subject, plan_rises}
 use Rattle.crash_backoff.specs.declared.moment.Moment.{Moment}
-use Rattle.diego_names.specs.declared.key.Key.{Key}
-use Rattle.lrp_records.specs.declared.presence.Presence.TheVariants.{Evacuating}
 use Rattle.bbs_model.specs.Found.{found_by}
 use Rattle.bbs_model.specs.Limits.{most_transitions}
 use Rattle.bbs_model.specs.Runs.{state_after}
 use Rattle.bbs_model.specs.Step.{attempt_at, attempt_of, judged, verdict_of}
 use Rattle.bbs_model.specs.Valid.{IsValid}
-use Rattle.bbs_model.specs.Work.{work}
+use Rattle.bbs_model.specs.Work.{is_there, work}
 use Rattle.bbs_model.specs.declared.attempt.Attempt.{Attempt}
 use Rattle.bbs_model.specs.declared.attempt.Attempt.TheVariants.{Refuse, Keep, Change}
 use Rattle.bbs_model.specs.declared.command.Command.{Command}
@@ -23,10 +21,10 @@ use Rattle.bbs_model.specs.declared.command.Op.{Op}
 use Rattle.bbs_model.specs.declared.rows.Rows.{Rows}
 use Rattle.bbs_model.specs.declared.verdict.BoardRefusal.{BoardRefusal}
 use Rattle.bbs_model.specs.declared.verdict.BoardRefusal.TheVariants.{BoardFull}
-use Rattle.bbs_model.specs.declared.verdict.Verdict.{Verdict}
 use Rattle.bbs_model.specs.declared.verdict.Verdict.TheVariants as verdict
 use Rattle.converge_laws.specs.Accepted.{IsOfRound, AreApart}
-use Rattle.converge_laws.proofs.Public.{first_or_rest, inside_first, inside_rest, apart_from_rising, work_of_round, plan_of_round, stays-ordinary, stays-evacuating, stays-task, stays-cell, stays-wanted}
+use Rattle.converge_laws.specs.Laws.{AreOfRound}
+use Rattle.converge_laws.proofs.Public.{first_or_rest, inside_first, inside_rest, apart_from_rising, work_of_round, plan_of_round, stays-ordinary, stays-evacuating, stays-task, stays-cell, stays-wanted, stays-there}
 use Rattle.round_laws.specs.Alone.{refusal_by, refused_of}
 use Rattle.round_laws.specs.Lacks.{IsLack, AreRefusedForRoom}
 use Rattle.round_laws.proofs.FairMoves.{IsFair, FairIf}
@@ -58,17 +56,24 @@ still_as old new c s of other h = record {
 pub as_itself : (rows : Rows) (s : Subject) → IsAsBefore rows rows s
 as_itself rows s = record { wanted = λ key. refl; ordinary = λ key is. refl; aside = λ key is. refl; tasks = λ name is. refl; cells = λ name is. refl }
 
--- commands about unlike rows, each fair while its row is as it was
-pub fair-run : (old new : Rows) (cs : List Command) → AreApart cs → ((c : Command) → Contains cs c → IsOfRound c.op)
-    → ((c : Command) → Contains cs c → (rows : Rows) → IsAsBefore old rows (subject_in c) → IsFair (attempt_of rows c))
-    → ((c : Command) → Contains cs c → IsAsBefore old new (subject_in c)) → AreRefusedForRoom new cs
-fair-run old new [] apart ops fair as' x inside = absurd (omega (arith, inside.1))
-fair-run old new (c ∷ cs) apart ops fair as' x inside =
+-- the same cells are there
+abbrev pub KeepsThere : Moment → Rows → Rows → Type 0
+KeepsThere now old new = (cell : List ℕ) (epoch : ℕ) → is_there new now cell epoch ≡ is_there old now cell epoch
+
+-- commands about unlike rows, each fair while its row is as it was and the same cells are there
+pub fair-run : (now : Moment) (old new : Rows) (cs : List Command) → AreApart cs → AreOfRound now cs
+    → ((c : Command) → Contains cs c → (rows : Rows) → IsAsBefore old rows (subject_in c) → KeepsThere now old rows → IsFair (attempt_of rows c))
+    → KeepsThere now old new → ((c : Command) → Contains cs c → IsAsBefore old new (subject_in c)) → AreRefusedForRoom new cs
+fair-run now old new [] apart round' fair there as' x inside = absurd (omega (arith, inside.1))
+fair-run now old new (c ∷ cs) apart round' fair there as' x inside =
     ⊎_elim
-    (λ here. fair_refusal c new.next (attempt_of new c) x (fair c (inside_first c cs) new (as' c (inside_first c cs))) here)
+    (λ here. fair_refusal c new.next (attempt_of new c) x (fair c (inside_first c cs) new (as' c (inside_first c cs)) there) here)
     (λ later.
-    fair-run old (state_after new c) cs apart.1 (λ d at. ops d (inside_rest d c cs at)) (λ d at. fair d (inside_rest d c cs at))
-    (λ d at. still_as old new c (subject_in d) (ops c (inside_first c cs)) (λ same. apart.0 d at (sym same)) (as' d (inside_rest d c cs at))) x later)
+    fair-run now old (state_after new c) cs apart.1
+    (record { ops = λ d at. round'.ops d (inside_rest d c cs at); moments = λ d at. round'.moments d (inside_rest d c cs at) })
+    (λ d at. fair d (inside_rest d c cs at))
+    (λ cell epoch. stays-there new now c (round'.ops c (inside_first c cs)) (round'.moments c (inside_first c cs)) cell epoch ∙ there cell epoch)
+    (λ d at. still_as old new c (subject_in d) (round'.ops c (inside_first c cs)) (λ same. apart.0 d at (sym same)) (as' d (inside_rest d c cs at))) x later)
     (Contains-append_cases (refusal_by c (verdict_of new c)) (refused_of (state_after new c) cs) x inside)
 
 -- what is asked of a subject at a moment is fair
@@ -78,12 +83,12 @@ asked_fair rows now c o moment is h =
 
 pub work-refused : (rows : Rows) (now : Moment) → IsValid rows → AreRefusedForRoom rows (work rows now)
 work-refused rows now valid =
-    fair-run rows rows (work rows now) (apart_from_rising (work rows now) (work_rises rows now valid)) (work_of_round rows now valid).ops
-    (λ c inside later h. let p = (work_is_by_subject rows now c valid).0 inside in asked_fair later now c (work_on rows now (subject_in c)) p.0 p.1 (fair-work rows later now valid (subject_in c) h))
-    (λ c inside. as_itself rows (subject_in c))
+    fair-run now rows rows (work rows now) (apart_from_rising (work rows now) (work_rises rows now valid)) (work_of_round rows now valid)
+    (λ c inside later h there. let p = (work_is_by_subject rows now c valid).0 inside in asked_fair later now c (work_on rows now (subject_in c)) p.0 p.1 (fair-work rows later now valid (subject_in c) h))
+    (λ cell epoch. refl) (λ c inside. as_itself rows (subject_in c))
 
 pub plan-refused : (rows : Rows) (got : List Answer) (now : Moment) → IsValid rows → AreRefusedForRoom rows (plan_of_answers rows got now)
 plan-refused rows got now valid =
-    fair-run rows rows (plan_of_answers rows got now) (apart_from_rising (plan_of_answers rows got now) (plan_rises rows got now valid)) (plan_of_round rows got now valid).ops
-    (λ c inside later h. let p = (plan_is_by_subject rows got now c valid).0 inside in asked_fair later now c (plan_on rows got (subject_in c)) p.0 p.1 (fair-plan rows later now valid got (subject_in c) h))
-    (λ c inside. as_itself rows (subject_in c))
+    fair-run now rows rows (plan_of_answers rows got now) (apart_from_rising (plan_of_answers rows got now) (plan_rises rows got now valid)) (plan_of_round rows got now valid)
+    (λ c inside later h there. let p = (plan_is_by_subject rows got now c valid).0 inside in asked_fair later now c (plan_on rows got (subject_in c)) p.0 p.1 (fair-plan rows later now valid got (subject_in c) h))
+    (λ cell epoch. refl) (λ c inside. as_itself rows (subject_in c))

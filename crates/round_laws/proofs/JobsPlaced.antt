@@ -79,6 +79,12 @@ module _ (cells : List Answer) (js : List Job) (differ : AreJobs js) where
   placed-differ = subst Differ (sym placed_names)
       (order_differs js (in_order js) names (λ t inside. from_table turn_order turn_of IsKeyOrder-turn_order js t inside) (IsRising-table turn_order turn_of IsKeyOrder-turn_order js))
 
+  -- each placement is of one of the jobs
+  pub placed-of : (n : JobName) → Contains (map job_in placed) n → (j : Job) × Contains js j × (j.job ≡ n)
+  placed-of n inside =
+      let m = from_map (λ (x : Job). x.job) (in_order js) n (subst (λ ns. Contains ns n) placed_names inside) in
+      (m.0, from_table turn_order turn_of IsKeyOrder-turn_order js m.0 m.1, m.2)
+
   -- each job has one
   pub placed-each : (j : Job) → Contains js j → (p : Placement) × Contains placed p × (job_in p ≡ j.job)
   placed-each j inside =

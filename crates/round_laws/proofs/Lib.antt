@@ -28,4 +28,8 @@ pub mod Lost
 pub mod FairMoves
 pub mod FairTables
 pub mod FairRuns
+pub mod Parts
+pub mod FairClaims
+pub mod ClaimParts
+pub mod FairRound
 pub mod Converges

@@ -54,7 +54,7 @@ after_append rows (c ∷ xs) ys = after_append (state_after rows c) xs ys
 items_append : (by : ℕ) (rows : Rows) (xs ys : List Command) → items_of by rows (xs ++ ys) ≡ items_of by rows xs ++ items_of by (state_after_all rows xs) ys
 items_append by rows xs ys = ap (map (done_by by)) (legal_append rows xs ys) ∙ map-append (done_by by) (legal_ones rows xs) (legal_ones (state_after_all rows xs) ys)
 
-refused_append : (rows : Rows) (xs ys : List Command) → refused_of rows (xs ++ ys) ≡ refused_of rows xs ++ refused_of (state_after_all rows xs) ys
+pub refused_append : (rows : Rows) (xs ys : List Command) → refused_of rows (xs ++ ys) ≡ refused_of rows xs ++ refused_of (state_after_all rows xs) ys
 refused_append rows [] ys = refl
 refused_append rows (c ∷ xs) ys =
     ap (λ zs. refusal_by c (verdict_of rows c) ++ zs) (refused_append (state_after rows c) xs ys)

@@ -1,5 +1,5 @@
 -- What a round may be refused where nobody else calls: the board has no room left.
-use Rattle.std.specs.Prelude.{◌≡◌, ◌⊎◌, List}
+use Rattle.std.specs.Prelude.{◌≡◌, ◌⊎◌, ℕ, List}
 use Rattle.std.specs.List.{Contains}
 use Rattle.bbs_model.specs.Limits.{most_actual}
 use Rattle.bbs_model.specs.Valid.{IsValid}
@@ -10,6 +10,10 @@ use Rattle.bbs_model.specs.declared.verdict.BoardRefusal.{BoardRefusal}
 use Rattle.bbs_model.specs.declared.verdict.BoardRefusal.TheVariants.{BoardFull, TooMany}
 use Rattle.cell_records.specs.declared.answer.Answer.{Answer}
 use Rattle.convergence.specs.Plans.{plan_of_answers}
+use Rattle.convergence.specs.declared.report.Report.{Report}
+use Rattle.converge_round.specs.Askings.{StandApart}
+use Rattle.converge_round.specs.Reps.{names_of}
+use Rattle.converge_round.specs.Rounds.{Standing, IsRound}
 use Rattle.crash_backoff.specs.declared.moment.Moment.{Moment}
 use Rattle.round_laws.specs.Alone.{refused_of}
 
@@ -29,3 +33,9 @@ WorkIsRefusedForRoom = (rows : Rows) (now : Moment) → IsValid rows → AreRefu
 abbrev pub PlanIsRefusedForRoom : Type 0
 PlanIsRefusedForRoom = (rows : Rows) (got : List Answer) (now : Moment) → IsValid rows →
     AreRefusedForRoom rows (plan_of_answers rows got now)
+
+-- where nobody else called, and reps have unlike names, so is each refusal of a round's report
+abbrev pub RoundsAloneAreRefusedForRoom : Type 0
+RoundsAloneAreRefusedForRoom = (by : ℕ) (now : Moment) (line : ℕ) (s s' : Standing) (r : Report) →
+    IsRound by now line s s' r → StandApart (names_of s.reps) → r.foreign ≡ 0 →
+    (x : Command × BoardRefusal) → Contains r.refused x → IsLack x.1

@@ -1,7 +1,7 @@
 //! The laws of a whole round. These functions do nothing: they are there for what they ensure.
 ghost use Rattle.round_laws.specs.Accounts.{RoundsHaveAccounts};
 ghost use Rattle.round_laws.specs.Complete.{CompleteRoundsTakeAll, CompleteRoundsConverge};
-ghost use Rattle.round_laws.specs.Lacks.{PlanIsRefusedForRoom, WorkIsRefusedForRoom};
+ghost use Rattle.round_laws.specs.Lacks.{PlanIsRefusedForRoom, RoundsAloneAreRefusedForRoom, WorkIsRefusedForRoom};
 ghost use Rattle.round_laws.specs.Losses.{RoundsHearWhatGetsThrough, RoundsLoseWhatTheWireLost};
 
 /// In a complete round nobody else moved the board, and all that the rows and then the answers
@@ -41,4 +41,9 @@ pub fn work_is_refused_for_room()
 /// So is what answers ask for.
 pub fn plan_is_refused_for_room()
     ensures { PlanIsRefusedForRoom }
+{}
+
+/// Where nobody else called, a round over reps whose names differ is refused for that alone.
+pub fn rounds_alone_are_refused_for_room()
+    ensures { RoundsAloneAreRefusedForRoom }
 {}
