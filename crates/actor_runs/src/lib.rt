@@ -10,4 +10,3 @@ mod turns;
 
 pub use actor_state::ActorState;
 pub use gated_port::GatedPort;
-pub use run_wire::RunWire;

@@ -8,7 +8,7 @@ use scenario_lines::Loss;
 /// The wire of one run: its first delivery is lost as the line's mark says, or its reply is, and
 /// each later one gets through.
 #[derive(Debug, Drop)]
-pub struct RunWire {
+pub(crate) struct RunWire {
     next: Delivery,
     losses: u64,
 }
@@ -25,7 +25,7 @@ fn delivery_under(mark: Option<Loss>) -> Delivery
 
 impl RunWire {
     /// A wire for a run with that mark.
-    pub fn new(mark: Option<Loss>) -> RunWire
+    pub(crate) fn new(mark: Option<Loss>) -> RunWire
         ensures { IsRunWire mark result }
     {
         RunWire {

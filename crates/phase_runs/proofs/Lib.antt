@@ -1,0 +1,5 @@
+mod Going
+mod Parts
+mod Places
+mod InTurn
+mod Cells

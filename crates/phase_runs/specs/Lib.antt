@@ -1,0 +1,5 @@
+pub mod Boards
+pub mod Actors
+pub mod RoundMarks
+pub mod Reps
+pub mod Rounds

@@ -1,0 +1,44 @@
+//! One actor's lines on a board that nobody else calls meanwhile.
+ghost use Rattle.std.specs.Prelude.{◌≡◌, OnOk, OnErr};
+ghost use Rattle.actor_runs.specs.Runs.{IsOneActor};
+ghost use Rattle.actor_runs.specs.Turns.{standing, turns_in, CanDo, IsCutShort, Takes};
+ghost use Rattle.sole_port.specs.Went.{seen_of};
+ghost use Rattle.phase_runs.specs.Boards.{IsAlone};
+
+use actor_runs::{ActorState, GatedPort};
+use bbs_board::Board;
+use byte_ports::Gate;
+use crash_backoff::Moment;
+use diego_names::OutOfMemory;
+use disk_trait::Disk;
+use scenario_lines::{Answered, Line};
+use sole_port::SolePort;
+use std::alloc::Global;
+
+/// Does the lines of the actor with that number, whose answers come behind those that were there.
+pub(crate) fn act_on<D: Disk, G: Gate>(
+    alloc: Global,
+    board: &mut Board<D>,
+    gate: &G,
+    by: u32,
+    actor: &mut ActorState,
+    lines: &[Line],
+    now: Moment,
+    out: &mut Vec<Answered>,
+) -> Result<(), OutOfMemory>
+    requires { CanDo by lines.now actor.old }
+    ensures alone { IsAlone D.told by board.old board.new }
+    ensures taken { OnOk result (Takes by now (turns_in by lines.now)
+        (standing actor.old (seen_of by board.old) out.old.items)
+        (standing actor.new (seen_of by board.new) out.new.items)) }
+    ensures cut { OnErr result (IsCutShort by now (turns_in by lines.now)
+        actor.old (seen_of by board.old) actor.new (seen_of by board.new)) }
+    ensures one { IsOneActor actor.old actor.new }
+{
+    let mut port = GatedPort {
+        port: SolePort { board, by },
+        gate,
+        actor: by,
+    };
+    actor.lines(alloc, by, lines, &mut port, now, out)
+}

@@ -1,0 +1,48 @@
+//! The round of a phase, on a board that nobody else calls meanwhile.
+ghost use Rattle.std.specs.Prelude.{◌≡◌, IfOk};
+ghost use Rattle.converge_round.specs.Items.{HasItems};
+ghost use Rattle.converge_round.specs.Reps.{KeepReps};
+ghost use Rattle.sole_port.specs.Went.{seen_of};
+ghost use Rattle.phase_runs.specs.Boards.{IsAlone};
+ghost use Rattle.phase_runs.specs.Rounds.{RoundOf};
+
+use crate::round_wire::RoundWire;
+use actor_runs::GatedPort;
+use bbs_board::Board;
+use bbs_model::CallFault;
+use byte_ports::Gate;
+use cell_rep::CellRep;
+use convergence::Report;
+use crash_backoff::Moment;
+use disk_trait::Disk;
+use round_laws::converge;
+use scenario_lines::RoundLine;
+use sole_port::SolePort;
+use std::alloc::Global;
+
+/// The number of the round's caller, which is no actor's.
+const ROUND: u32 = 0;
+
+/// A round over these reps, as the number 0, with what its line loses.
+pub fn round_on<D: Disk, G: Gate>(
+    alloc: Global,
+    board: &mut Board<D>,
+    gate: &G,
+    cells: &mut [CellRep],
+    line: &RoundLine,
+    now: Moment,
+) -> Result<Report, CallFault>
+    ensures alone { IsAlone D.told 0 board.old board.new }
+    ensures items { HasItems 0 now (seen_of 0 board.old) (seen_of 0 board.new) }
+    ensures cells { KeepReps cells.old cells.new }
+    ensures account { IfOk result (RoundOf now line.now cells.old cells.new
+        (seen_of 0 board.old) (seen_of 0 board.new)) }
+{
+    let mut wire = RoundWire::new(line);
+    let mut port = GatedPort {
+        port: SolePort { board, by: ROUND },
+        gate,
+        actor: ROUND,
+    };
+    converge(alloc, &mut port, cells, &mut wire, now, line.line)
+}
