@@ -10,7 +10,7 @@ use Rattle.crash_backoff.specs.declared.moment.Moment.{Moment}
 use Rattle.scenario_lines.specs.declared.act.Loss.{Loss}
 use Rattle.scenario_lines.specs.declared.script.Line.{Line}
 use Rattle.actor_runs.specs.Runs.{IsOneActor}
-use Rattle.actor_runs.specs.Turns.{CanDo, IsCutShort, lines_of, Standing, Takes, Turn, mark_at, turn_at, turn_of, turns_in, turns_of}
+use Rattle.actor_runs.specs.Turns.{CanDo, IsCutShort, lines_by, Standing, Takes, Turn, mark_at, turn_at, turn_of, turns_in, turns_of}
 use Rattle.actor_runs.specs.declared.actor_state.ActorState.{ActorState}
 use Rattle.actor_runs.proofs.OneActor.{fits_on}
 use Rattle.actor_runs.proofs.Taking.{cut_before, cut_then, takes_then}
@@ -30,7 +30,7 @@ all_runs l n within =
 turns_both : (by : ℕ) (xs ys : List Line) → turns_in by (xs ++ ys) ≡ turns_in by xs ++ turns_in by ys
 turns_both by xs ys =
     ap (flat_map turns_of) (filter-append (λ (l : Line). l.actor == by) xs ys)
-    ∙ flat_map-append turns_of (lines_of by xs) (lines_of by ys)
+    ∙ flat_map-append turns_of (lines_by by xs) (lines_by by ys)
 
 module _ (by : ℕ) (now : Moment) where
   -- one run more of a line
@@ -82,15 +82,15 @@ module _ (by : ℕ) (now : Moment) where
 
     -- an actor that can do all lines can do the next, whatever it has done
     pub can_next : (a b : ActorState) → CanDo by lines a → IsOneActor a b → CanDo by (d ∷ []) b
-    can_next a b can one l has = fits_on l.act a b one (can l (subst (λ (ls : List Line). Contains (lines_of by ls) l) (take-append-drop (i + 1) lines) among))
+    can_next a b can one l has = fits_on l.act a b one (can l (subst (λ (ls : List Line). Contains (lines_by by ls) l) (take-append-drop (i + 1) lines) among))
       where
         mine : Line → Bool
         mine x = x.actor == by
 
-        among : Contains (lines_of by (take (i + 1) lines ++ drop (i + 1) lines)) l
+        among : Contains (lines_by by (take (i + 1) lines ++ drop (i + 1) lines)) l
         among =
             subst (λ (ls : List Line). Contains ls l) (sym (filter-append mine (take (i + 1) lines) (drop (i + 1) lines)))
-            (Contains-append_left (lines_of by (take (i + 1) lines)) (lines_of by (drop (i + 1) lines)) l
-            (subst (λ (ls : List Line). Contains (lines_of by ls) l) (sym with_next)
+            (Contains-append_left (lines_by by (take (i + 1) lines)) (lines_by by (drop (i + 1) lines)) l
+            (subst (λ (ls : List Line). Contains (lines_by by ls) l) (sym with_next)
             (subst (λ (ls : List Line). Contains ls l) (sym (filter-append mine (take i lines) (d ∷ [])))
-            (Contains-append_right (lines_of by (take i lines)) (lines_of by (d ∷ [])) l has))))
+            (Contains-append_right (lines_by by (take i lines)) (lines_by by (d ∷ [])) l has))))

@@ -58,7 +58,8 @@ pub record HasAsked (by : ℕ) (c : Command) (mark : Option Loss) (v w : PortVie
   pub new_is : new ≡ record { command = Some c; end = end } ∷ []
 
 -- what a rep did over a wire that was to lose so
-pub record HasActed (Does : Stage → Stage → Type 0) (mark : Option Loss) (rep rep' : CellRep) (v w : PortView) (new : List Called) : Type 0 where
+pub record HasActed (Does : Stage → Stage → Type 0) (mark : Option Loss) (rep rep' : CellRep) (v w : PortView)
+    (new : List Called) : Type 0 where
   pub ends : Option WireEnds
   pub losses : ℕ
   pub does : Does (stage rep v (ends_under mark) 0 []) (stage rep' w ends losses new)

@@ -35,16 +35,16 @@ abbrev pub turns_of : Line → List Turn
 turns_of l = map (turn_at l) (range_with_len 0 l.times)
 
 -- the lines of an actor
-abbrev pub lines_of : ℕ → List Line → List Line
-lines_of by lines = filter (λ l. l.actor == by) lines
+abbrev pub lines_by : ℕ → List Line → List Line
+lines_by by lines = filter (λ l. l.actor == by) lines
 
 -- the runs of an actor among these lines
 abbrev pub turns_in : ℕ → List Line → List Turn
-turns_in by lines = flat_map turns_of (lines_of by lines)
+turns_in by lines = flat_map turns_of (lines_by by lines)
 
 -- the actor is of the kind that each of its lines asks for
 abbrev pub CanDo : ℕ → List Line → ActorState → Type 0
-CanDo by lines a = (l : Line) → Contains (lines_of by lines) l → fits l.act a
+CanDo by lines a = (l : Line) → Contains (lines_by by lines) l → fits l.act a
 
 -- an actor's answer to a line
 abbrev pub answered : ℕ → ℕ → Called → Answered
@@ -87,7 +87,8 @@ IsCutAt by now (t ∷ ts) a v a' w =
     ((a' ≡ a) × (w ≡ v)) ⊎ ((new : List Called) × IsCutRun by now t.act t.mark a a' v w new)
 
 -- of these runs the first ones were made, and the next was begun at most
-pub record IsCutShort (by : ℕ) (now : Moment) (ts : List Turn) (a : ActorState) (v : PortView) (a' : ActorState) (w : PortView) : Type 0 where
+pub record IsCutShort (by : ℕ) (now : Moment) (ts : List Turn) (a : ActorState) (v : PortView)
+    (a' : ActorState) (w : PortView) : Type 0 where
   pub done : List Turn
   pub rest : List Turn
   pub split : ts ≡ done ++ rest

@@ -27,7 +27,8 @@ pub record SeesPhase (base : Rows) (before fresh : List Item) (by : ℕ) (v w : 
   pub own : w.mine ≡ v.mine ++ by_number by fresh
 
 -- the actor with that number did all of its lines, with these answers, and none wanted memory
-pub record PartRan (base : Rows) (now : Moment) (lines : List Line) (before fresh : List Item) (by : ℕ) (a a' : ActorState) (answers : List Answered) : Type 0 where
+pub record PartRan (base : Rows) (now : Moment) (lines : List Line) (before fresh : List Item) (by : ℕ)
+    (a a' : ActorState) (answers : List Answered) : Type 0 where
   pub first : PortView
   pub last : PortView
   pub sees : SeesPhase base before fresh by first last
@@ -67,11 +68,13 @@ pub record FirstRan {D : Type 0} (told : D → Option Past) (now : Moment) (line
   pub same : AreSame olds news
 
 -- all actors did all of their lines
-abbrev pub ActorsRan : {D : Type 0} → (D → Option Past) → Moment → List Line → List ActorState → List ActorState → List (List Answered) → View D → View D → Type 0
+abbrev pub ActorsRan : {D : Type 0} → (D → Option Past) → Moment → List Line → List ActorState → List ActorState →
+    List (List Answered) → View D → View D → Type 0
 ActorsRan told now lines olds news parts v w = FirstRan told now lines (length olds) olds news parts v w
 
 -- each actor did its lines up to some place
-pub record ActorsCut {D : Type 0} (told : D → Option Past) (now : Moment) (lines : List Line) (olds news : List ActorState) (v w : View D) : Type 0 where
+pub record ActorsCut {D : Type 0} (told : D → Option Past) (now : Moment) (lines : List Line)
+    (olds news : List ActorState) (v w : View D) : Type 0 where
   pub fresh : List Item
   pub goes : GoesOn told fresh v w
   pub cut : (k : ℕ) (a a' : ActorState) → slice_get olds k ≡ Some a → slice_get news k ≡ Some a'

@@ -134,19 +134,19 @@ module _ (by : ℕ) (now : Moment) (line : ℕ) (s s' : Standing) (r : Report) (
   abbrev T : Rows → Command → Type 0
   T = IsOfTable got roomy now
 
-  abbrev T1 : Rows → Command → Type 0
-  T1 rows c = Contains (work rows now) c
+  abbrev OfWork : Rows → Command → Type 0
+  OfWork rows c = Contains (work rows now) c
 
-  abbrev T2 : Rows → Command → Type 0
-  T2 rows c = Contains (plan_of_answers rows got now) c
+  abbrev OfPlan : Rows → Command → Type 0
+  OfPlan rows c = Contains (plan_of_answers rows got now) c
 
   asked_works : AreAsked by T h.opens.first h.opens.worked.view
-  asked_works = asked_weaker by T1 T h.opens.first h.opens.worked.view (λ rows c x. inl x)
+  asked_works = asked_weaker by OfWork T h.opens.first h.opens.worked.view (λ rows c x. inl x)
       (asked_list by by (λ rows. work rows now) h.opens.first v1 h.opens.worked.view works refl h.opens.work_called.looks refl
       (own-had by works h1 (had h.opens.worked) (each-had by works (calling v1 no_calls) h.opens.worked h.opens.work_called.calls)))
 
   asked_plans : AreAsked by T h.opens.worked.view h.opens.planned.view
-  asked_plans = asked_weaker by T2 T h.opens.worked.view h.opens.planned.view (λ rows c x. inr (inl x))
+  asked_plans = asked_weaker by OfPlan T h.opens.worked.view h.opens.planned.view (λ rows c x. inr (inl x))
       (asked_list by by (λ rows. plan_of_answers rows got now) h.opens.worked.view v2 h.opens.planned.view plans refl h.opens.plan_called.looks refl
       (own-had by plans h2 (had h.opens.planned) (each-had by plans (calling v2 h.opens.worked.tally) h.opens.planned h.opens.plan_called.calls)))
 
