@@ -3,11 +3,10 @@
 mod answered;
 mod asked;
 mod boards;
-mod crashes;
-mod failing;
 mod full;
 mod lives;
 mod losses;
+mod lost_cells;
 mod naming;
 mod playing;
 mod strays;

@@ -65,17 +65,6 @@ fn wanted_instances_are_made_and_placed_in_one_round(rt: HostRuntime) -> Result<
 }
 
 #[test]
-fn what_is_not_wanted_is_removed(rt: HostRuntime) -> Result<(), Fail> {
-    let (alloc, names) = (rt.alloc(), &read_names()?);
-    let undesired = [(2, Client(undesire(names.web)))];
-    let waits = then(alloc, &claimed(names)[1..], &undesired)?;
-    round_does(&rt, alloc, &waits, 3, &[remove(names.web(0), None)])?;
-    let placed = then(alloc, &claimed(names), &undesired)?;
-    let removed = [remove(names.web(0), Some(container(0, 1)))];
-    round_does(&rt, alloc, &placed, 3, &removed)
-}
-
-#[test]
 fn a_row_whose_cell_is_gone_is_unclaimed(rt: HostRuntime) -> Result<(), Fail> {
     let (alloc, names) = (rt.alloc(), &read_names()?);
     let story = claimed(names);
@@ -156,24 +145,6 @@ fn an_evacuating_row_is_dropped_once_its_replacement_runs_on_a_cell_that_is_ther
         place_fail(names.web(0)),
     ];
     round_does(&rt, alloc, &story, 14, &lost)
-}
-
-#[test]
-fn a_task_is_given_up_that_waits_too_long_or_whose_cell_is_gone(
-    rt: HostRuntime,
-) -> Result<(), Fail> {
-    let (alloc, names) = (rt.alloc(), &read_names()?);
-    let story = started(names, 600);
-    round_does(&rt, alloc, &story, 599, &[])?;
-    round_does(
-        &rt,
-        alloc,
-        &story,
-        600,
-        &[vanish(names.c1), cancel(names.job)],
-    )?;
-    round_does(&rt, alloc, &story[1..2], 1799, &[])?;
-    round_does(&rt, alloc, &story[1..2], 1800, &[cancel(names.job)])
 }
 
 #[test]
