@@ -1,5 +1,5 @@
 // Two files of the system, opened at their first use, one line for a call of the system.
-ghost use Rattle.std.specs.Prelude.{◌<◌, ◌≤◌, ◌^◌, length, IfOk};
+ghost use Rattle.std.specs.Prelude.{◌≡◌, ◌<◌, ◌≤◌, ◌^◌, true, length, is_some, IfOk, OnOk};
 
 use crate::locked::LockedFile;
 use disk_trait::Area;
@@ -40,25 +40,34 @@ impl<R: Files<File = File> + AllocGlobal + Drop> TwoFiles<R> {
         }
     }
 
-    pub(crate) fn len(&mut self, area: Area) -> io::Result<u64> {
+    pub(crate) fn len(&mut self, area: Area) -> io::Result<u64>
+        ensures kept { is_some self.old.opened ≡ true → is_some self.new.opened ≡ true }
+    {
+        self.open()?;
         Ok(self.file(area)?.metadata()?.len())
     }
 
     pub(crate) fn read_some(&mut self, area: Area, at: u64, room: &mut [u8]) -> io::Result<usize>
-        ensures { IfOk result (λ n. (n ≤ length room.old) × (at < 2 ^ 63)) }
+        ensures kept { is_some self.old.opened ≡ true → is_some self.new.opened ≡ true }
+        ensures count { IfOk result (λ n. (n ≤ length room.old) × (at < 2 ^ 63)) }
     {
+        self.open()?;
         read_from(self.file(area)?, at, room)
     }
 
     pub(crate) fn write_some(&mut self, area: Area, at: u64, bytes: &[u8]) -> io::Result<usize>
-        ensures { IfOk result (λ n. (0 < n) × (n ≤ length bytes.now) × (at < 2 ^ 63)) }
+        ensures kept { is_some self.old.opened ≡ true → is_some self.new.opened ≡ true }
+        ensures count { IfOk result (λ n. (0 < n) × (n ≤ length bytes.now) × (at < 2 ^ 63)) }
     {
+        self.open()?;
         write_to(self.file(area)?, at, bytes)
     }
 
     /// The folder is that of the file itself where the name is a link.
-    pub(crate) fn sync_name(&mut self, area: Area) -> io::Result<()> {
-        self.file(area)?;
+    pub(crate) fn sync_name(&mut self, area: Area) -> io::Result<()>
+        ensures kept { is_some self.old.opened ≡ true → is_some self.new.opened ≡ true }
+    {
+        self.open()?;
         let path = self.rt.canonicalize(self.rt.alloc(), self.name(area))?;
         match path.parent() {
             Some(folder) => File::open(&self.rt, folder)?.sync_all(),
@@ -66,7 +75,10 @@ impl<R: Files<File = File> + AllocGlobal + Drop> TwoFiles<R> {
         }
     }
 
-    pub(crate) fn sync_data(&mut self, area: Area) -> io::Result<()> {
+    pub(crate) fn sync_data(&mut self, area: Area) -> io::Result<()>
+        ensures kept { is_some self.old.opened ≡ true → is_some self.new.opened ≡ true }
+    {
+        self.open()?;
         self.file(area)?.sync_data()
     }
 
@@ -77,12 +89,21 @@ impl<R: Files<File = File> + AllocGlobal + Drop> TwoFiles<R> {
         }
     }
 
-    fn file(&mut self, area: Area) -> io::Result<&File> {
+    // Opens and locks both files, where that wasn't done yet. From then on both stay open, and their
+    // locks had.
+    fn open(&mut self) -> io::Result<()>
+        ensures kept { is_some self.old.opened ≡ true → is_some self.new.opened ≡ true }
+        ensures opened { OnOk result (is_some self.new.opened ≡ true) }
+    {
         if self.opened.is_none() {
             let a = open_locked(&self.rt, self.a.as_str())?;
             let b = open_locked(&self.rt, self.b.as_str())?;
             self.opened = Some(Opened { a, b });
         }
+        Ok(())
+    }
+
+    fn file(&self, area: Area) -> io::Result<&File> {
         match (&self.opened, area) {
             (Some(opened), Area::A) => Ok(opened.a.file()),
             (Some(opened), Area::B) => Ok(opened.b.file()),
