@@ -1,6 +1,7 @@
 pub mod Lists
 pub mod Eachs
 pub mod Owns
+pub mod FaultLaws
 pub mod RepLaws
 pub mod IndexLaws
 pub mod StartLaws

@@ -1,6 +1,7 @@
 pub mod Each
 pub mod Tallies
 pub mod Callings
+pub mod Faults
 pub mod CellJobs
 pub mod Sendings
 pub mod Reps

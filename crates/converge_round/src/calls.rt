@@ -1,8 +1,10 @@
 //! A list of commands is called, one after the other.
-ghost use Rattle.std.specs.Prelude.{◌≡◌, OnOk};
+ghost use Rattle.std.specs.Prelude.{◌≡◌, IfErr, IsOkUnless, OnOk};
 ghost use Rattle.std.specs.List.{Contains};
+ghost use Rattle.bbs_model.specs.declared.reply.CallFault.TheVariants as fault;
 ghost use Rattle.converge_round.specs.Callings.{calling, IsNoted, AreOf};
 ghost use Rattle.converge_round.specs.Each.{Each};
+ghost use Rattle.converge_round.specs.Faults.{IsCausedBy};
 ghost use Rattle.converge_round.specs.Tallies.{noted};
 
 use crate::tally::Tally;
@@ -14,7 +16,9 @@ pub(crate) fn count_reply(
     command: &Command,
     reply: &Reply,
 ) -> Result<(), CallFault>
-    ensures { OnOk result (tally.new ≡ noted command.entry.now reply.entry.now tally.old) }
+    ensures counts { OnOk result
+        (tally.new ≡ noted command.entry.now reply.entry.now tally.old) }
+    ensures memory { IsOkUnless result fault.OutOfMemory }
 {
     match tally.note(command, reply) {
         Err(_) => Err(CallFault::OutOfMemory),
@@ -27,6 +31,8 @@ fn call_once<P: Port>(port: &mut P, command: &Command, tally: &mut Tally) -> Res
     ensures keeps { P.keeps port.old port.new }
     ensures number { P.number port.new ≡ P.number port.old }
     ensures own { AreOf (P.number port.old) (λ c. c ≡ command.entry.now) (P.view port.old) (P.view port.new) }
+    ensures cause { IfErr result (IsCausedBy (P.number port.old)
+        (P.view port.old) (P.view port.new)) }
     ensures noted { OnOk result (IsNoted (P.number port.old) command.entry.now
         (calling (P.view port.old) tally.old) (calling (P.view port.new) tally.new)) }
 {
@@ -46,6 +52,8 @@ pub fn call_each<P: Port>(
     ensures number { P.number port.new ≡ P.number port.old }
     ensures own { AreOf (P.number port.old) (Contains commands.now)
         (P.view port.old) (P.view port.new) }
+    ensures cause { IfErr result (IsCausedBy (P.number port.old)
+        (P.view port.old) (P.view port.new)) }
     ensures noted { OnOk result (Each (IsNoted (P.number port.old)) commands.now
         (calling (P.view port.old) tally.old) (calling (P.view port.new) tally.new)) }
 {

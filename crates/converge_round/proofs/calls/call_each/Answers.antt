@@ -2,6 +2,7 @@ use Rattle.std.proofs.Common.{refl, ◌∙◌}
 use Rattle.std.specs.List.{Contains}
 use Rattle.converge_round.specs.Callings.{IsNoted}
 use Rattle.converge_round.proofs.Eachs.{each-more-by}
+use Rattle.converge_round.proofs.FaultLaws.{caused_before}
 use Rattle.converge_round.proofs.Owns.{own_none, own_more, contains-as}
 use Rattle.converge_round.proofs.calls.call_each.Goals as goal
 
@@ -31,3 +32,8 @@ returns-in-Err-clause-own g c =
     let i = c.loop-command.invariant in
     let list = c.args.commands.now in
     own_more _ _ (Contains list) _ _ _ _ i.number (contains-as list c.loop-command.command-index c.command-item.result c.loop-command-test.true c.command-item.is) i.own c.in-Err.ensures.own
+
+pub returns-in-Err-clause-cause : goal.returns-in-Err-clause-cause
+returns-in-Err-clause-cause g c =
+    let i = c.loop-command.invariant in
+    caused_before _ _ _ _ _ _ i.number i.own.later c.in-Err.ensures.cause

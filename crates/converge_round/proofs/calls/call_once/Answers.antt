@@ -1,3 +1,4 @@
+use Rattle.converge_round.proofs.FaultLaws.{caused_at_once, caused_by_nothing_else}
 use Rattle.converge_round.proofs.Owns.{own_called}
 use Rattle.converge_round.proofs.calls.call_once.Goals as goal
 
@@ -6,3 +7,9 @@ returns-in-Err-clause-own g c = own_called _ _ _ _ _ c.in-Err.ensures.called
 
 pub returns-in-Ok-clause-own : goal.returns-in-Ok-clause-own
 returns-in-Ok-clause-own g c = own_called _ _ _ _ _ c.in-Ok.ensures.called
+
+pub returns-in-Err-clause-cause : goal.returns-in-Err-clause-cause
+returns-in-Err-clause-cause g c = caused_at_once _ _ _ _ _ c.in-Err.ensures.called
+
+pub returns-in-Ok-clause-cause : goal.returns-in-Ok-clause-cause
+returns-in-Ok-clause-cause g c = caused_by_nothing_else c.count_reply.result _ _ _ c.count_reply.ensures.memory
