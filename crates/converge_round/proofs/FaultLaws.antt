@@ -1,9 +1,9 @@
 -- Why a round ended with a fault.
-use Rattle.std.proofs.Common.{◌≡◌, ℕ, zero, suc, ◌+◌, ◌<◌, ◌≤◌, List, [], ◌∷◌, ◌++◌, length, Option, Some, Result, Ok, Err, refl, sym, ap, subst, ◌∙◌, append_assoc, arith, length-append, ◌⊎◌, ⊎_elim}
+use Rattle.std.proofs.Common.{◌≡◌, ℕ, zero, suc, ◌+◌, ◌<◌, ◌≤◌, List, [], ◌∷◌, ◌++◌, length, get_or, Option, Some, Result, Ok, Err, refl, sym, ap, subst, ◌∙◌, append_assoc, arith, length-append, inl, inr, ◌⊎◌, ⊎_elim}
 use Rattle.std.specs.Prelude.{slice_get, IfErr, IsOkUnless}
 use Rattle.std.specs.List.{Contains}
 use Rattle.std.proofs.lemmas.List.Elements.{Contains-append_left, Contains-append_right}
-use Rattle.std.proofs.lemmas.Option.{slice_get_within}
+use Rattle.std.proofs.lemmas.Result.{IfErr-weaker}
 use Rattle.bbs_model.specs.Calls.{Ends, added}
 use Rattle.bbs_model.specs.PortView.{PortView, IsCalled, IsLater}
 use Rattle.bbs_model.specs.declared.command.Command.{Command}
@@ -14,7 +14,19 @@ use Rattle.bbs_model.specs.declared.reply.CallFault.TheVariants as fault
 use Rattle.bbs_model.specs.declared.verdict.Verdict.{Verdict}
 use Rattle.bbs_model.specs.declared.verdict.Verdict.TheVariants as verdict
 use Rattle.bbs_model.proofs.Public.{later_then, later_called}
-use Rattle.converge_round.specs.Faults.{IsDoubtedAt, IsCausedBy}
+use Rattle.cell_records.specs.declared.job.Job.{Job}
+use Rattle.cell_rep.specs.Acts.{job_todo}
+use Rattle.cell_rep.specs.Deliveries.{IsDelivered}
+use Rattle.cell_rep.specs.Follows.{Stage, stage, Follows, IsAnswer, IsStarted, EndsOf, starved}
+use Rattle.cell_rep.specs.Wires.{WireEnds}
+use Rattle.cell_rep.specs.declared.call_end.CallEnd.{CallEnd}
+use Rattle.cell_rep.specs.declared.call_end.CallEnd.TheVariants.{Fault, ReplyLost, Local, Idle}
+use Rattle.cell_rep.specs.declared.call_end.Called.{Called}
+use Rattle.cell_rep.specs.declared.rep.CellRep.{CellRep}
+use Rattle.cell_rep.specs.declared.todo.Todo.{Todo}
+use Rattle.cell_rep.specs.declared.todo.Todo.TheVariants as todo
+use Rattle.crash_backoff.specs.declared.moment.Moment.{Moment}
+use Rattle.converge_round.specs.Faults.{IsDoubtedAt, IsCausedBy, IsFaultOf}
 
 -- the item behind a list stands at the list's length
 last_stands : (xs : List Item) (x : Item) → slice_get (xs ++ x ∷ []) (length xs) ≡ Some x
@@ -91,6 +103,11 @@ caused_before by by' u v w why same f h = record {
   disk = λ place e. doubted_before by place u v w f (subst (λ n. IsDoubtedAt n place v w) same (h.disk place e));
 }
 
+-- the same of a call that comes to an end with it
+pub causes_before : {X : Type 0} (r : Result X CallFault) (by by' : ℕ) (u v w : PortView) → by' ≡ by → IsLater u v
+    → IfErr r (IsCausedBy by' v w) → IfErr r (IsCausedBy by u w)
+causes_before r by by' u v w same f h = IfErr-weaker r (IsCausedBy by' v w) (IsCausedBy by u w) (λ why. caused_before by by' u v w why same f) h
+
 doubted_later : (by place : ℕ) (u v w : PortView) → IsLater v w → IsDoubtedAt by place u v → IsDoubtedAt by place u w
 doubted_later by place u v w f d = record {
   command = d.command;
@@ -103,3 +120,43 @@ doubted_later by place u v w f d = record {
 -- the cause of a fault stays
 pub caused_later : (by : ℕ) (u v w : PortView) (why : CallFault) → IsLater v w → IsCausedBy by u v why → IsCausedBy by u w why
 caused_later by u v w why f h = record { disk = λ place e. doubted_later by place u v w f (h.disk place e) }
+
+-- want of memory is the only fault of an end that is neither a fault of the disk nor hides one
+only_want : (by : ℕ) (v w : PortView) (end : CallEnd) (why : CallFault) → ((x : CallFault) → (end ≡ Fault x) ⊎ (end ≡ ReplyLost (Err x)) → x ≡ fault.OutOfMemory)
+    → IsFaultOf end why → IsCausedBy by v w why
+only_want by v w end why only h = subst (IsCausedBy by v w) (sym (⊎_elim
+    (λ e. only why (inl e))
+    (λ r. ⊎_elim (λ e. only why (inr e)) (λ e. e) r) h)) (caused_by_want by v w)
+
+-- the fault of what was to be done at a start
+caused_todo : (by : ℕ) (cell : List ℕ) (ends : Option WireEnds) (t : Todo) (v : PortView) (a : Called) (w : PortView) (why : CallFault)
+    → IsAnswer t a → EndsOf by cell ends t v a w → IsFaultOf a.end why → IsCausedBy by v w why
+caused_todo by cell ends (todo.Call c) v a w why is h f = ⊎_elim
+    (λ e. caused_at_once by v c why w (subst (λ x. IsDelivered by v c x w) e h.1))
+    (λ r. ⊎_elim
+    (λ e. caused_at_once by v c why w (subst (λ x. IsDelivered by v c x w) e h.1))
+    (λ e. subst (IsCausedBy by v w) (sym e) (caused_by_want by v w)) r) f
+caused_todo by cell ends todo.Idle v a w why is h f =
+    let end : a.end ≡ Idle = ap (λ (x : Called). x.end) is in
+    only_want by v w a.end why (λ x. ⊎_elim (λ e. absurd cc) (λ e. absurd cc)) f
+caused_todo by cell ends (todo.Local refusal) v a w why is h f =
+    let end : a.end ≡ Local refusal = ap (λ (x : Called). x.end) is in
+    only_want by v w a.end why (λ x. ⊎_elim (λ e. absurd cc) (λ e. absurd cc)) f
+
+caused_follows : (by : ℕ) (cell : List ℕ) (ends : Option WireEnds) (t : Todo) (rep rep' : CellRep) (v w : PortView) (a : Called) (why : CallFault)
+    → Follows by cell ends (t ∷ []) rep v (a ∷ []) rep' w → IsFaultOf a.end why → IsCausedBy by v w why
+caused_follows by cell ends t rep rep' v w a why h f =
+    subst (λ x. IsCausedBy by v x why) (sym h.3.1) (caused_todo by cell ends t v a h.0 why h.1 h.2 f)
+
+-- the fault of a start
+pub caused_started : (by : ℕ) (job : Job) (now : Moment) (rep rep' : CellRep) (v w : PortView) (ends ends' : Option WireEnds) (losses losses' : ℕ) (a : Called) (why : CallFault)
+    → IsStarted by job now (stage rep v ends losses []) (stage rep' w ends' losses' (a ∷ [])) → IsFaultOf a.end why → IsCausedBy by v w why
+caused_started by job now rep rep' v w ends ends' losses losses' a why h f = ⊎_elim
+    (λ p.
+    let todo : Todo = job_todo job now rep.cell rep.joined in
+    caused_follows by rep.cell ends todo _ rep' v w a why (subst (λ xs. Follows by rep.cell ends (todo ∷ []) _ v xs rep' w) (sym p.out_is) p.follows) f)
+    (λ e.
+    let same : a ∷ [] ≡ starved ∷ [] = ap (λ (x : Stage). x.out) e in
+    let end : a.end ≡ Fault fault.OutOfMemory = ap (λ xs. (get_or xs 0 a).end) same in
+    only_want by v w a.end why (λ x. ⊎_elim (λ y. cc) (λ y. absurd cc)) f)
+    h

@@ -1,5 +1,5 @@
 //! The end of a round: the jobs that have no room, and the report.
-ghost use Rattle.std.specs.Prelude.{◌≡◌, ◌++◌, IfOk, OnOk};
+ghost use Rattle.std.specs.Prelude.{◌≡◌, ◌++◌, IfErr, IfOk, OnOk};
 ghost use Rattle.std.specs.List.{Contains, filter_map};
 ghost use Rattle.std.specs.Option.{option_to_list};
 ghost use Rattle.bbs_model.specs.PortView.{Looks};
@@ -7,6 +7,7 @@ ghost use Rattle.bbs_model.specs.Valid.{IsValid};
 ghost use Rattle.cell_rep.specs.Reps.{answer_of};
 ghost use Rattle.converge_round.specs.Callings.{calling, IsNoted, AreOf};
 ghost use Rattle.converge_round.specs.Each.{Each};
+ghost use Rattle.converge_round.specs.Faults.{IsCausedBy};
 ghost use Rattle.converge_round.specs.Phases as told;
 ghost use Rattle.converge_round.specs.Places.{unplaced as without_room};
 ghost use Rattle.converge_round.specs.Rounds.{IsReport};
@@ -58,6 +59,8 @@ pub(crate) fn call_fails<P: Port>(
     ensures number { P.number port.new ≡ P.number port.old }
     ensures own { AreOf (P.number port.old) (Contains (told.fails_in now opening.entry.now.places))
         (P.view port.old) (P.view port.new) }
+    ensures cause { IfErr result (IsCausedBy (P.number port.old)
+        (P.view port.old) (P.view port.new)) }
     ensures unplaced { IfOk result
         (λ jobs. jobs ≡ without_room opening.entry.now.places.placements) }
     ensures noted { IfOk result (λ _. Each (IsNoted (P.number port.old))

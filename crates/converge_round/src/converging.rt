@@ -1,9 +1,10 @@
 //! A whole round.
-ghost use Rattle.std.specs.Prelude.{◌≡◌, ◌<◌, ℕ, List, length, slice_get, Some, IfOk, OnOk};
+ghost use Rattle.std.specs.Prelude.{◌≡◌, ◌<◌, ℕ, List, length, slice_get, Some, IfErr, IfOk, OnOk};
 ghost use Rattle.bbs_model.specs.Valid.{IsValid};
 ghost use Rattle.converge_round.specs.Callings.{AreOf};
 ghost use Rattle.converge_round.specs.CellJobs.{AreCellJobs};
 ghost use Rattle.converge_round.specs.Each.{Each};
+ghost use Rattle.converge_round.specs.Faults.{IsCausedBy};
 ghost use Rattle.converge_round.specs.Items.{HasItems};
 ghost use Rattle.converge_round.specs.Phases as told;
 ghost use Rattle.converge_round.specs.Places.{jobs_on as jobs_there};
@@ -44,6 +45,8 @@ fn claim_at<P: Port, W: Wire>(
     ensures own { (cell : List ℕ) → slice_get (names_of cells.old) at ≡ Some cell →
         AreOf (P.number port.old) (IsClaimOfOne now cell jobs.entry.now)
         (P.view port.old) (P.view port.new) }
+    ensures cause { IfErr result (IsCausedBy (P.number port.old)
+        (P.view port.old) (P.view port.new)) }
     ensures cells { KeepReps cells.old cells.new }
     ensures serves { OnOk result ((cell : List ℕ) →
         slice_get (names_of cells.old) at ≡ Some cell →
@@ -76,6 +79,8 @@ fn start_on<P: Port, W: Wire>(
     ensures own { AreOf (P.number port.old) (IsClaimOfOne now answer.entry.now.cell
         (jobs_there places.entry.now.rows places.entry.now.placements answer.entry.now.cell))
         (P.view port.old) (P.view port.new) }
+    ensures cause { IfErr result (IsCausedBy (P.number port.old)
+        (P.view port.old) (P.view port.new)) }
     ensures cells { KeepReps cells.old cells.new }
     ensures serves { OnOk result (told.ServesOne (P.number port.old) now places.entry.now
         answer.entry.now
@@ -111,6 +116,8 @@ fn start_each<P: Port, W: Wire>(
     ensures own { AreOf (P.number port.old)
         (told.IsClaimFor now places.entry.now places.entry.now.roomy)
         (P.view port.old) (P.view port.new) }
+    ensures cause { IfErr result (IsCausedBy (P.number port.old)
+        (P.view port.old) (P.view port.new)) }
     ensures cells { KeepReps cells.old cells.new }
     ensures serves { OnOk result (Each (told.ServesOne (P.number port.old) now places.entry.now)
         places.entry.now.roomy
@@ -148,6 +155,8 @@ pub fn round<P: Port, W: Wire>(
     ensures keeps { P.keeps port.old port.new }
     ensures number { P.number port.new ≡ P.number port.old }
     ensures own { HasItems (P.number port.old) now (P.view port.old) (P.view port.new) }
+    ensures cause { IfErr result (IsCausedBy (P.number port.old)
+        (P.view port.old) (P.view port.new)) }
     ensures cells { KeepReps cells.old cells.new }
     ensures account { IfOk result (IsRound (P.number port.old) now line
         (standing (P.view port.old) cells.old (wire_at (W.ends wire.old) (W.losses wire.old)))

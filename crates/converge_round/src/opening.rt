@@ -1,11 +1,12 @@
 //! A round up to its auction.
-ghost use Rattle.std.specs.Prelude.{◌≡◌, [], IfOk, OnOk};
+ghost use Rattle.std.specs.Prelude.{◌≡◌, [], IfErr, IfOk, OnOk};
 ghost use Rattle.std.specs.List.{Contains};
 ghost use Rattle.bbs_model.specs.PortView.{rows_seen, Looks};
 ghost use Rattle.bbs_model.specs.Valid.{IsValid};
 ghost use Rattle.bbs_model.specs.Work.{work};
 ghost use Rattle.convergence.specs.Plans.{plan_of_answers};
 ghost use Rattle.converge_round.specs.Callings.{calling};
+ghost use Rattle.converge_round.specs.Faults.{IsCausedBy};
 ghost use Rattle.converge_round.specs.Items.{AreAsked, HasFirstItems};
 ghost use Rattle.converge_round.specs.Reps.{names_of, IsRepIndex, KeepReps};
 ghost use Rattle.converge_round.specs.Phases as told;
@@ -101,6 +102,8 @@ fn call_work<P: Port>(
     ensures number { P.number port.new ≡ P.number port.old }
     ensures own { AreAsked (P.number port.old) (λ rows c. Contains (work rows now) c)
         (P.view port.old) (P.view port.new) }
+    ensures cause { IfErr result (IsCausedBy (P.number port.old)
+        (P.view port.old) (P.view port.new)) }
     ensures called { OnOk result (told.AreCalledBy (P.number port.old) (λ rows. work rows now)
         (calling (P.view port.old) tally.old) (calling (P.view port.new) tally.new)) }
 {
@@ -142,6 +145,8 @@ fn call_plan<P: Port>(
     ensures own { AreAsked (P.number port.old)
         (λ rows c. Contains (plan_of_answers rows got.entry.now now) c)
         (P.view port.old) (P.view port.new) }
+    ensures cause { IfErr result (IsCausedBy (P.number port.old)
+        (P.view port.old) (P.view port.new)) }
     ensures called { OnOk result (told.AreCalledBy (P.number port.old)
         (λ rows. plan_of_answers rows got.entry.now now)
         (calling (P.view port.old) tally.old) (calling (P.view port.new) tally.new)) }
@@ -204,6 +209,8 @@ pub fn open_round<P: Port, W: Wire>(
     ensures keeps { P.keeps port.old port.new }
     ensures number { P.number port.new ≡ P.number port.old }
     ensures own { HasFirstItems (P.number port.old) now (P.view port.old) (P.view port.new) }
+    ensures cause { IfErr result (IsCausedBy (P.number port.old)
+        (P.view port.old) (P.view port.new)) }
     ensures cells { KeepReps cells.old cells.new }
     ensures opened { IfOk result (told.IsOpenedRound (P.number port.old) now
         (told.course (P.view port.old) tally.old cells.old

@@ -1,7 +1,9 @@
 //! Jobs are started on cells.
-ghost use Rattle.std.specs.Prelude.{◌≡◌, OnOk};
+ghost use Rattle.std.specs.Prelude.{◌≡◌, IfErr, IsOkUnless, OnOk};
+ghost use Rattle.bbs_model.specs.declared.reply.CallFault.TheVariants as fault;
 ghost use Rattle.converge_round.specs.Callings.{AreOf};
 ghost use Rattle.converge_round.specs.Each.{Each};
+ghost use Rattle.converge_round.specs.Faults.{IsCausedBy, IsFaultOf};
 ghost use Rattle.converge_round.specs.Reps.{SameRep};
 ghost use Rattle.converge_round.specs.Sendings.{wire_at};
 ghost use Rattle.converge_round.specs.Starts as told;
@@ -20,7 +22,9 @@ fn count_answer(
     command: &Option<Command>,
     reply: &Reply,
 ) -> Result<(), CallFault>
-    ensures { OnOk result (tally.new ≡ told.answered command.entry.now reply.entry.now tally.old) }
+    ensures counts { OnOk result
+        (tally.new ≡ told.answered command.entry.now reply.entry.now tally.old) }
+    ensures memory { IsOkUnless result fault.OutOfMemory }
 {
     match command {
         None => Ok(()),
@@ -33,6 +37,7 @@ fn count_end(tally: &mut Tally, called: &Called) -> Result<(), CallFault>
     ensures ended { OnOk result (told.HasNoFault called.entry.now.end) }
     ensures counts { OnOk result (tally.new
         ≡ told.counted called.entry.now.command called.entry.now.end tally.old) }
+    ensures cause { IfErr result (IsFaultOf called.entry.now.end) }
 {
     match &called.end {
         CallEnd::Got(reply) => count_answer(tally, &called.command, reply),
@@ -63,6 +68,8 @@ fn start<P: Port, W: Wire>(
     ensures number { P.number port.new ≡ P.number port.old }
     ensures own { AreOf (P.number port.old) (told.IsClaim now rep.old.cell job.entry.now)
         (P.view port.old) (P.view port.new) }
+    ensures cause { IfErr result (IsCausedBy (P.number port.old)
+        (P.view port.old) (P.view port.new)) }
     ensures rep { SameRep rep.old rep.new }
     ensures starts { OnOk result (told.StartsOne (P.number port.old) now job.entry.now
         (told.serving rep.old (P.view port.old) tally.old
@@ -93,6 +100,8 @@ pub fn claim_on<P: Port, W: Wire>(
     ensures number { P.number port.new ≡ P.number port.old }
     ensures own { AreOf (P.number port.old) (told.IsClaimOfOne now rep.old.cell jobs.entry.now)
         (P.view port.old) (P.view port.new) }
+    ensures cause { IfErr result (IsCausedBy (P.number port.old)
+        (P.view port.old) (P.view port.new)) }
     ensures rep { SameRep rep.old rep.new }
     ensures starts { OnOk result (Each (told.StartsOne (P.number port.old) now) jobs.entry.now
         (told.serving rep.old (P.view port.old) tally.old

@@ -1,4 +1,5 @@
 use Rattle.converge_round.proofs.Owns.{own_none}
+use Rattle.converge_round.proofs.FaultLaws.{caused_by_want}
 use Rattle.converge_round.proofs.closing.call_fails.Goals as goal
 
 pub returns-in-Err-clause-own : goal.returns-in-Err-clause-own
@@ -6,3 +7,9 @@ returns-in-Err-clause-own g c = own_none _ _ _
 
 pub returns-in-Err-fails_of-clause-own : goal.returns-in-Err-fails_of-clause-own
 returns-in-Err-fails_of-clause-own g c = own_none _ _ _
+
+pub returns-in-Err-clause-cause : goal.returns-in-Err-clause-cause
+returns-in-Err-clause-cause g c = caused_by_want _ _ _
+
+pub returns-in-Err-fails_of-clause-cause : goal.returns-in-Err-fails_of-clause-cause
+returns-in-Err-fails_of-clause-cause g c = caused_by_want _ _ _

@@ -5,6 +5,8 @@ use Rattle.converge_round.specs.Sendings.{wire_at}
 use Rattle.converge_round.proofs.Asked.{no_items, first_items, claim_items, note_items, items_look}
 use Rattle.converge_round.proofs.RepLaws.{index-kept, keep-same, keep-then}
 use Rattle.converge_round.proofs.RoundLaws.{each_by, own_by, first_by, opens_by, report_from}
+use Rattle.bbs_model.proofs.Public.{later_looks, later_then}
+use Rattle.converge_round.proofs.FaultLaws.{caused_by_want, caused_before}
 use Rattle.converge_round.proofs.converging.round.Goals as goal
 
 pub start_each-requires-clause-index : goal.start_each-requires-clause-index
@@ -74,3 +76,23 @@ returns-clause-account g c = record {
 
 pub returns-in-Err-clause-cells : goal.returns-in-Err-clause-cells
 returns-in-Err-clause-cells g c = keep-same _
+
+pub returns-in-Err-clause-cause : goal.returns-in-Err-clause-cause
+returns-in-Err-clause-cause g c = caused_by_want _ _ _
+
+pub returns-in-Err-open_round-clause-cause : goal.returns-in-Err-open_round-clause-cause
+returns-in-Err-open_round-clause-cause g c = caused_before _ _ _ _ _ _ c.place-start.ensures.number (later_looks _ _ c.place-start.ensures.looks) c.in-Err-open_round.ensures.cause
+
+pub returns-in-Err-start_each-clause-cause : goal.returns-in-Err-start_each-clause-cause
+returns-in-Err-start_each-clause-cause g c =
+    caused_before _ _ _ _ _ _ (c.open_round.ensures.number ∙ c.place-start.ensures.number)
+    (later_then _ _ _ (later_looks _ _ c.place-start.ensures.looks) c.open_round.ensures.own.asked.later) c.in-Err-start_each.ensures.cause
+
+pub returns-in-Err-call_fails-clause-cause : goal.returns-in-Err-call_fails-clause-cause
+returns-in-Err-call_fails-clause-cause g c =
+    caused_before _ _ _ _ _ _ (c.start_each.ensures.number ∙ (c.open_round.ensures.number ∙ c.place-start.ensures.number))
+    (later_then _ _ _ (later_then _ _ _ (later_looks _ _ c.place-start.ensures.looks) c.open_round.ensures.own.asked.later) c.start_each.ensures.own.later)
+    c.in-Err-call_fails.ensures.cause
+
+pub returns-in-Err-report_of-clause-cause : goal.returns-in-Err-report_of-clause-cause
+returns-in-Err-report_of-clause-cause g c = caused_by_want _ _ _

@@ -5,6 +5,7 @@ use Rattle.converge_round.proofs.Eachs.{each-more-by}
 use Rattle.converge_round.proofs.Owns.{own_none, own_more}
 use Rattle.converge_round.proofs.RepLaws.{keep-same, keep-then, index-kept}
 use Rattle.converge_round.proofs.StartLaws.{claim_for_one}
+use Rattle.converge_round.proofs.FaultLaws.{caused_by_want, caused_before}
 use Rattle.converge_round.proofs.converging.start_each.Goals as goal
 
 pub loop-answer-init : goal.loop-answer-init
@@ -55,3 +56,11 @@ returns-in-Err-start_on-clause-cells g c = keep-then _ _ _ c.loop-answer.invaria
 
 pub returns-in-Err-clause-cells : goal.returns-in-Err-clause-cells
 returns-in-Err-clause-cells g c = keep-same _
+
+pub returns-in-Err-clause-cause : goal.returns-in-Err-clause-cause
+returns-in-Err-clause-cause g c = caused_by_want _ _ _
+
+pub returns-in-Err-start_on-clause-cause : goal.returns-in-Err-start_on-clause-cause
+returns-in-Err-start_on-clause-cause g c =
+    let i = c.loop-answer.invariant in
+    caused_before _ _ _ _ _ _ i.number i.own.later c.in-Err-start_on.ensures.cause

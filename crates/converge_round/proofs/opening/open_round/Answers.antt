@@ -5,6 +5,8 @@ use Rattle.converge_round.specs.Sendings.{wire_at}
 use Rattle.converge_round.proofs.Asked.{first_none, first_look, first_work, first_plan}
 use Rattle.converge_round.proofs.RepLaws.{index-kept, keep-same}
 use Rattle.converge_round.proofs.RoundLaws.{called_by, planned_by, stopped_by, placed_by}
+use Rattle.bbs_model.proofs.Public.{later_looks, later_then}
+use Rattle.converge_round.proofs.FaultLaws.{caused_by_want, caused_before}
 use Rattle.converge_round.proofs.opening.open_round.Goals as goal
 
 pub place_work-requires-clause-index : goal.place_work-requires-clause-index
@@ -74,3 +76,20 @@ returns-in-Err-call_work-clause-cells g c = keep-same _
 
 pub returns-in-Err-call_plan-clause-cells : goal.returns-in-Err-call_plan-clause-cells
 returns-in-Err-call_plan-clause-cells g c = keep-same _
+
+pub returns-in-Err-clause-cause : goal.returns-in-Err-clause-cause
+returns-in-Err-clause-cause g c = caused_by_want _ _ _
+
+pub returns-in-Err-call_work-clause-cause : goal.returns-in-Err-call_work-clause-cause
+returns-in-Err-call_work-clause-cause g c = caused_before _ _ _ _ _ _ c.hear.ensures.number (later_looks _ _ c.hear.ensures.looks) c.in-Err-call_work.ensures.cause
+
+pub returns-in-Err-call_plan-clause-cause : goal.returns-in-Err-call_plan-clause-cause
+returns-in-Err-call_plan-clause-cause g c =
+    caused_before _ _ _ _ _ _ (c.call_work.ensures.number ∙ c.hear.ensures.number)
+    (later_then _ _ _ (later_looks _ _ c.hear.ensures.looks) c.call_work.ensures.own.later) c.in-Err-call_plan.ensures.cause
+
+pub returns-in-Err-stop_strays-clause-cause : goal.returns-in-Err-stop_strays-clause-cause
+returns-in-Err-stop_strays-clause-cause g c = caused_by_want _ _ _
+
+pub returns-in-Err-place_work-clause-cause : goal.returns-in-Err-place_work-clause-cause
+returns-in-Err-place_work-clause-cause g c = caused_by_want _ _ _

@@ -4,6 +4,7 @@ use Rattle.converge_round.proofs.Eachs.{each-more-by}
 use Rattle.converge_round.proofs.Owns.{own_none, own_more}
 use Rattle.converge_round.proofs.RepLaws.{rep_same, rep_then}
 use Rattle.converge_round.proofs.StartLaws.{claim_of_one}
+use Rattle.converge_round.proofs.FaultLaws.{caused_before}
 use Rattle.converge_round.proofs.starting.claim_on.Goals as goal
 
 pub loop-job-init : goal.loop-job-init
@@ -39,3 +40,8 @@ returns-in-Err-clause-own g c =
 
 pub returns-in-Err-clause-rep : goal.returns-in-Err-clause-rep
 returns-in-Err-clause-rep g c = rep_then _ _ _ c.loop-job.invariant.rep c.in-Err.ensures.rep
+
+pub returns-in-Err-clause-cause : goal.returns-in-Err-clause-cause
+returns-in-Err-clause-cause g c =
+    let i = c.loop-job.invariant in
+    caused_before _ _ _ _ _ _ i.number i.own.later c.in-Err.ensures.cause
