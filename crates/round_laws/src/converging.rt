@@ -1,8 +1,9 @@
 //! A whole round, with what its laws say of it.
-ghost use Rattle.std.specs.Prelude.{◌≡◌, IfOk};
+ghost use Rattle.std.specs.Prelude.{◌≡◌, IfErr, IfOk};
 ghost use Rattle.bbs_model.specs.PortView.{rows_seen};
 ghost use Rattle.converge_laws.specs.Converged.{IsConverged};
 ghost use Rattle.converge_round.specs.Askings.{StandApart};
+ghost use Rattle.converge_round.specs.Faults.{IsCausedBy};
 ghost use Rattle.converge_round.specs.Items.{HasItems};
 ghost use Rattle.converge_round.specs.Reps.{names_of, KeepReps};
 ghost use Rattle.converge_round.specs.Rounds.{IsRound, standing};
@@ -29,6 +30,8 @@ pub fn converge<P: Port, W: Wire>(
     ensures keeps { P.keeps port.old port.new }
     ensures number { P.number port.new ≡ P.number port.old }
     ensures own { HasItems (P.number port.old) now (P.view port.old) (P.view port.new) }
+    ensures cause { IfErr result (IsCausedBy (P.number port.old)
+        (P.view port.old) (P.view port.new)) }
     ensures cells { KeepReps cells.old cells.new }
     ensures account { IfOk result (IsRound (P.number port.old) now line
         (standing (P.view port.old) cells.old (wire_at (W.ends wire.old) (W.losses wire.old)))
