@@ -28,7 +28,7 @@ module _ {K X : Type 0} (R : K → K → Ordering) (key : X → K) (o : IsKeyOrd
   all_of_table P (x ∷ xs) h = All-put_row R key P x (table R key xs) (All-head P x xs h) (all_of_table P xs (All-tail P x xs h))
 
   -- rows of a table are among those that it was made of
-  from_table : (xs : List X) (x : X) → Contains (table R key xs) x → Contains xs x
+  pub from_table : (xs : List X) (x : X) → Contains (table R key xs) x → Contains xs x
   from_table xs x inside = All-contains (Contains xs) (table R key xs) x (all_of_table (Contains xs) xs (All-contains_itself xs)) inside
 
   found_some : (xs : List X) (x : X) → Contains xs x → (y : X) × (find_row R key (key x) xs ≡ Some y)

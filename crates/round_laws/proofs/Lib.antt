@@ -33,3 +33,4 @@ pub mod FairClaims
 pub mod ClaimParts
 pub mod FairRound
 pub mod Converges
+pub mod Public

@@ -48,7 +48,7 @@ place_named : (key : Key) (d : Desired) (b : Bool) (j : Job) → cond b (Some (r
 place_named key d true j e = sym (ap (name_or (name.Lrp key)) e)
 place_named key d false j e = absurd cc
 
-instance_named : (key : Key) (o : Option Desired) (j : Job) → option_and_then (job_of_place key) o ≡ Some j → j.job ≡ name.Lrp key
+pub instance_named : (key : Key) (o : Option Desired) (j : Job) → option_and_then (job_of_place key) o ≡ Some j → j.job ≡ name.Lrp key
 instance_named key None j e = absurd cc
 instance_named key (Some d) j e = place_named key d (nat_lt key.index d.instances) j e
 

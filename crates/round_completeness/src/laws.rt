@@ -1,0 +1,20 @@
+//! The laws. These functions do nothing: they are there for what they ensure.
+ghost use Rattle.round_completeness.specs.Completeness.{RoundsThatNothingDisturbsAreComplete};
+ghost use Rattle.round_completeness.specs.Rooms.{PlacementsHaveRoom, RoundsDeclineNoStart};
+
+/// Of the jobs that the auction gives to a cell, each finds room in what the ones before it leave of
+/// what the cell answered.
+pub fn placements_have_room()
+    ensures { PlacementsHaveRoom }
+{}
+
+/// Where the names of the reps differ, no rep declines a start of a round: it has joined, and has
+/// room for the job.
+pub fn rounds_decline_no_start()
+    ensures { RoundsDeclineNoStart }
+{}
+
+/// A round that nothing disturbs is complete.
+pub fn rounds_that_nothing_disturbs_are_complete()
+    ensures { RoundsThatNothingDisturbsAreComplete }
+{}

@@ -1,0 +1,8 @@
+//! Which rounds of convergence are complete.
+#![tactic(auto)]
+
+mod laws;
+
+pub use laws::{
+    placements_have_room, rounds_decline_no_start, rounds_that_nothing_disturbs_are_complete,
+};
