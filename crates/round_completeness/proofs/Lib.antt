@@ -1,3 +1,5 @@
 pub mod Auctions
 pub mod Stores
 pub mod StartsFit
+pub mod CellsFit
+pub mod Whole
