@@ -35,17 +35,22 @@ free_in cell None x e = absurd cc
 free_in cell (Some j) x e =
     subst (λ (f : Amounts). IsWithin f (free_of j.store)) (ap (λ (o : Option Answer). option_map_or (λ (y : Answer). y.free) o (free_of j.store)) e) (within_itself (free_of j.store))
 
--- so it is at the moment of its answer
-pub has-answered : (cells : List CellRep) (cell : List ℕ) (epoch : ℕ) (x : Answer) → StandApart (names_of cells) → IsHeardFrom cells cell epoch x → HasAnswered cells x
-has-answered cells cell epoch x apart h at rep stands =
+-- the rep of a cell that was heard is the one that answered
+pub heard_rep : (cells : List CellRep) (cell : List ℕ) (epoch : ℕ) (x : Answer) → StandApart (names_of cells) → (h : IsHeardFrom cells cell epoch x)
+    → (at : ℕ) (rep : CellRep) → StandsFor cells x.cell at rep → rep ≡ h.rep
+heard_rep cells cell epoch x apart h at rep stands =
     let here : StandsFor cells cell at rep = record { within = stands.within; is = stands.is; cell_is = stands.cell_is ∙ h.sound.cell ∙ h.stands.cell_is } in
     let places : at ≡ h.place = apart at h.place cell (name_there cells cell at rep here) (name_there cells cell h.place h.rep h.stands) in
     let found : Some rep ≡ Some h.rep = sym (rep_there cells cell at rep here) ∙ ap (λ (k : ℕ). slice_get cells k) places ∙ rep_there cells cell h.place h.rep h.stands in
-    let same : rep ≡ h.rep = ap (λ (o : Option CellRep). option_map_or (λ (r : CellRep). r) o rep) found in
-    subst (λ (r : CellRep). IsFree x.free r.joined) (sym same) (free_in h.rep.cell h.rep.joined x h.answers)
+    ap (λ (o : Option CellRep). option_map_or (λ (r : CellRep). r) o rep) found
+
+-- so it is at the moment of its answer
+pub has-answered : (cells : List CellRep) (cell : List ℕ) (epoch : ℕ) (x : Answer) → StandApart (names_of cells) → IsHeardFrom cells cell epoch x → HasAnswered cells x
+has-answered cells cell epoch x apart h at rep stands =
+    subst (λ (r : CellRep). IsFree x.free r.joined) (sym (heard_rep cells cell epoch x apart h at rep stands)) (free_in h.rep.cell h.rep.joined x h.answers)
 
 -- another rep was there before
-stood_before : (reps : List CellRep) (place : ℕ) (q : CellRep) (cell other : List ℕ) (at : ℕ) (rep : CellRep) → place < length reps → q.cell ≡ cell → other ≢ cell → StandsFor (set reps place q) other at rep → StandsFor reps other at rep
+pub stood_before : (reps : List CellRep) (place : ℕ) (q : CellRep) (cell other : List ℕ) (at : ℕ) (rep : CellRep) → place < length reps → q.cell ≡ cell → other ≢ cell → StandsFor (set reps place q) other at rep → StandsFor reps other at rep
 stood_before reps place q cell other at rep within names differs h =
     let ne : at ≢ place = λ e.
     let is : rep ≡ q = h.is ∙ ap (λ (k : ℕ). get_or (set reps place q) k rep) e ∙ get_or-set_same reps place q rep within in
@@ -57,7 +62,7 @@ stood_before reps place q cell other at rep within names differs h =
     }
 
 -- a cell is served: none of its starts is declined, and the others stay
-serve_fits : (by : ℕ) (now : Moment) (p : Places) (x : Answer) (s m : Course) (h : ServesOne by now p x s m) → HasAnswered s.reps x → AllFindRoom x.free (jobs_on p.rows p.placements x.cell)
+pub serve_fits : (by : ℕ) (now : Moment) (p : Places) (x : Answer) (s m : Course) (h : ServesOne by now p x s m) → HasAnswered s.reps x → AllFindRoom x.free (jobs_on p.rows p.placements x.cell)
     → (declined_at by now p x s m h ≡ 0) × ((y : Answer) → y.cell ≢ x.cell → HasAnswered s.reps y → HasAnswered m.reps y)
 serve_fits by now p x s m (inl c) has room =
     let o = starts-fit by now (jobs_on p.rows p.placements x.cell) (serving c.rep s.view s.tally s.wire) (serving c.after m.view m.tally m.wire) c.starts x.free room (has c.place c.rep c.stands) in

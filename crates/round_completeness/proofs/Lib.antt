@@ -2,4 +2,8 @@ pub mod Auctions
 pub mod Stores
 pub mod StartsFit
 pub mod CellsFit
+pub mod Ready
+pub mod Telling
+pub mod StartsTold
+pub mod ByEnds
 pub mod Whole

@@ -12,7 +12,7 @@ use Rattle.cell_records.specs.declared.job_name.JobName.{JobName}
 use Rattle.cell_records.specs.declared.job_name.JobName.TheVariants as name
 use Rattle.cell_rep.specs.Acts.{claim_op, claim_todo, job_todo, job_begun}
 use Rattle.cell_rep.specs.Claims.{claimed_next, store_claimed}
-use Rattle.cell_rep.specs.Deliveries.{IsDelivered}
+use Rattle.cell_rep.specs.Deliveries.{IsDelivered, end_now, EndFits}
 use Rattle.cell_rep.specs.Ends.{without, left}
 use Rattle.cell_rep.specs.Follows.{Stage, stage, Follows, IsStarted, starved}
 use Rattle.cell_rep.specs.Reps.{with_store}
@@ -61,13 +61,15 @@ was_called by v w c (ReplyLost answer) h = refl
 was_called by v w c (Local why) h = absurd h
 was_called by v w c Idle h = absurd h
 
--- the start wasn't declined, and left the rest
-abbrev IsFitted : Amounts → Job → CellRep → Called → CellRep → Type 0
-IsFitted free job rep a rep' = (declined_end a.end ≡ 0) × IsFreeOn (less free job) rep.cell rep'
+-- the start wasn't declined, its call ended as the wire tells, and it left the rest
+pub record IsFitted (free : Amounts) (job : Job) (rep : CellRep) (wire : WireAt) (a : Called) (rep' : CellRep) : Type 0 where
+  pub calls : declined_end a.end ≡ 0
+  pub fits : EndFits (end_now wire.ends rep.cell) a.end
+  pub rest : IsFreeOn (less free job) rep.cell rep'
 
 module _ (by : ℕ) (now : Moment) (job : Job) (s s' : Serving) (wire : WireAt) (a : Called) (ended : HasNoFault a.end) (free : Amounts) (room : FindsRoom free job) where
   fits_joined : (o : Option Joined) → IsFree free o
-      → Follows by s.rep.cell wire.ends (job_todo job now s.rep.cell o ∷ []) (job_begun job s.rep o) s.view (a ∷ []) s'.rep s'.view → IsFitted free job s.rep a s'.rep
+      → Follows by s.rep.cell wire.ends (job_todo job now s.rep.cell o ∷ []) (job_begun job s.rep o) s.view (a ∷ []) s'.rep s'.view → IsFitted free job s.rep wire a s'.rep
   fits_joined None is h = absurd is
   fits_joined (Some j) is h =
       let n = next_container j.store job.job job.memory job.disk in
@@ -76,25 +78,30 @@ module _ (by : ℕ) (now : Moment) (job : Job) (s s' : Serving) (wire : WireAt) 
       let made = subst (λ (x : Result StoreView StoreRefusal).
       Follows by s.rep.cell wire.ends (claim_todo now (λ d. claim_op s.rep.cell job.job d.instance) (claimed_next n x) ∷ [])
       (with_store s.rep j (store_claimed j.store (claimed_next n x))) s.view (a ∷ []) s'.rep s'.view) (room_made free job j.store is room) h in
-      (was_called by s.view made.0 c a.end made.2.1,
-      subst (IsFreeOn (less free job) s.rep.cell) (sym made.3.0)
-      (by_end (IsFreeOn (less free job) s.rep.cell) job.job s.rep.cell (next_of j.store) a.end rep
-      (record { cell_is = refl; free_is = held_free free job j.store is })
-      (record { cell_is = cell_stays s.rep.cell (next_of j.store) rep.joined; free_is = gone_free free job s.rep j (next_of j.store) is })))
+      record {
+        calls = was_called by s.view made.0 c a.end made.2.1;
+        fits = made.2.0;
+        rest = subst (IsFreeOn (less free job) s.rep.cell) (sym made.3.0)
+            (by_end (IsFreeOn (less free job) s.rep.cell) job.job s.rep.cell (next_of j.store) a.end rep
+            (record { cell_is = refl; free_is = held_free free job j.store is })
+            (record { cell_is = cell_stays s.rep.cell (next_of j.store) rep.joined; free_is = gone_free free job s.rep j (next_of j.store) is }));
+      }
 
   first_of : (x y : Called) → x ∷ [] ≡ y ∷ [] → x ≡ y
   first_of x y e = cc
 
-  fits_started : IsFree free s.rep.joined → IsStarted by job now (stage s.rep s.view wire.ends wire.losses []) (stage s'.rep s'.view s'.wire.ends s'.wire.losses (a ∷ [])) → IsFitted free job s.rep a s'.rep
+  pub fits_started : IsFree free s.rep.joined → IsStarted by job now (stage s.rep s.view wire.ends wire.losses []) (stage s'.rep s'.view s'.wire.ends s'.wire.losses (a ∷ [])) → IsFitted free job s.rep wire a s'.rep
   fits_started is h = ⊎_elim
       (λ p. fits_joined s.rep.joined is
       (subst (λ out. Follows by s.rep.cell wire.ends (job_todo job now s.rep.cell s.rep.joined ∷ []) (job_begun job s.rep s.rep.joined) s.view out s'.rep s'.view) (sym p.out_is) p.follows))
       (λ e. absurd (subst (λ (x : Called). HasNoFault x.end) (first_of a starved (ap (λ (x : Stage). x.out) e)) ended))
       h
 
-fits_if : (b : Bool) (by : ℕ) (now : Moment) (job : Job) (wire : WireAt) (s s' : Serving) (h : TakesIf b by now job wire s s') (free : Amounts) → FindsRoom free job → IsFree free s.rep.joined
+pub fits_if : (b : Bool) (by : ℕ) (now : Moment) (job : Job) (wire : WireAt) (s s' : Serving) (h : TakesIf b by now job wire s s') (free : Amounts) → FindsRoom free job → IsFree free s.rep.joined
     → (declined_if b by now job wire s s' h ≡ 0) × IsFreeOn (less free job) s.rep.cell s'.rep
-fits_if true by now job wire s s' h free room is = fits_started by now job s s' wire h.answer h.ended free room is h.started
+fits_if true by now job wire s s' h free room is =
+    let f = fits_started by now job s s' wire h.answer h.ended free room is h.started in
+    (f.calls, f.rest)
 fits_if false by now job wire s s' h free room is =
     (refl, subst (IsFreeOn (less free job) s.rep.cell) (sym h.rep) (record { cell_is = refl; free_is = weaker_free free job s.rep.joined is }))
 

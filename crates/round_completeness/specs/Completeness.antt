@@ -1,5 +1,5 @@
 -- Which rounds are complete.
-use Rattle.std.specs.Prelude.{◌≡◌, ℕ, ◌-◌, ◌^◌, ◌<◌, ◌≤◌, List, []}
+use Rattle.std.specs.Prelude.{◌≡◌, ◌⊎◌, ℕ, ◌-◌, ◌^◌, ◌<◌, ◌≤◌, List, [], Some}
 use Rattle.std.specs.List.{Contains}
 use Rattle.bbs_model.specs.PortView.{rows_seen}
 use Rattle.bbs_model.specs.declared.command.Command.{Command}
@@ -7,7 +7,10 @@ use Rattle.bbs_model.specs.declared.rows.Rows.{Rows}
 use Rattle.bbs_model.specs.declared.verdict.BoardRefusal.{BoardRefusal}
 use Rattle.cell_records.specs.declared.answer.Answer.{Answer}
 use Rattle.cell_records.specs.declared.cell_row.CellRow.{CellRow}
+use Rattle.cell_rep.specs.Wires.{WireEnds}
 use Rattle.cell_rep.specs.declared.rep.CellRep.{CellRep}
+use Rattle.cell_rep.specs.declared.wire.Delivery.TheVariants.{Through}
+use Rattle.cell_rep.specs.declared.wire.WireCall.{WireCall}
 use Rattle.convergence.specs.declared.report.Report.{Report}
 use Rattle.converge_round.specs.Askings.{present, StandApart, IsHeardFrom}
 use Rattle.converge_round.specs.Reps.{names_of}
@@ -18,9 +21,19 @@ use Rattle.round_laws.specs.Complete.{IsComplete}
 use Rattle.round_laws.specs.Lacks.{IsLack}
 
 -- the wire's count of losses hasn't risen, and can still rise
-pub record LosesNothing (before after : WireAt) : Type 0 where
+pub record IsCountSame (before after : WireAt) : Type 0 where
   pub stands : after.losses ≤ before.losses
   pub rises : before.losses < 2 ^ 64 - 1
+
+-- the wire tells that all gets through
+pub record TellsThrough (w : WireAt) : Type 0 where
+  pub ends : WireEnds
+  pub told : w.ends ≡ Some ends
+  pub through : (call : WireCall) (n : ℕ) → ends call n ≡ Through
+
+-- nothing is lost on the wire
+abbrev pub LosesNothing : WireAt → WireAt → Type 0
+LosesNothing before after = IsCountSame before after ⊎ TellsThrough before
 
 -- of each cell that is present there is a rep that has joined under the epoch of its row, and has an answer
 abbrev pub EachAnswers : List CellRep → Rows → Moment → Type 0

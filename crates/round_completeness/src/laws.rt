@@ -1,5 +1,6 @@
 //! The laws. These functions do nothing: they are there for what they ensure.
 ghost use Rattle.round_completeness.specs.Completeness.{RoundsThatNothingDisturbsAreComplete};
+ghost use Rattle.round_completeness.specs.Ends.{RoundsLoseByTheEnds};
 ghost use Rattle.round_completeness.specs.Rooms.{PlacementsHaveRoom, RoundsDeclineNoStart};
 
 /// Of the jobs that the auction gives to a cell, each finds room in what the ones before it leave of
@@ -12,6 +13,12 @@ pub fn placements_have_room()
 /// room for the job.
 pub fn rounds_decline_no_start()
     ensures { RoundsDeclineNoStart }
+{}
+
+/// Where the names of the reps differ and the wire tells ends that don't depend on the number of the
+/// delivery, a round hears, stops and loses exactly what these ends tell.
+pub fn rounds_lose_by_the_ends()
+    ensures { RoundsLoseByTheEnds }
 {}
 
 /// A round that nothing disturbs is complete.

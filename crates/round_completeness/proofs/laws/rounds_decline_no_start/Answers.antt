@@ -1,4 +1,4 @@
-use Rattle.round_completeness.proofs.Whole.{decline-none}
+use Rattle.round_completeness.proofs.Ready.{decline-none}
 use Rattle.round_completeness.proofs.laws.rounds_decline_no_start.Goals as goal
 
 pub returns : goal.returns
