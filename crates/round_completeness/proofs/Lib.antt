@@ -6,4 +6,6 @@ pub mod Ready
 pub mod Telling
 pub mod StartsTold
 pub mod ByEnds
+pub mod Lessened
+pub mod Openings
 pub mod Whole

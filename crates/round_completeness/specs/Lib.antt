@@ -1,3 +1,4 @@
 pub mod Rooms
 pub mod Ends
+pub mod Left
 pub mod Completeness

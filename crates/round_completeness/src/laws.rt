@@ -1,6 +1,7 @@
 //! The laws. These functions do nothing: they are there for what they ensure.
 ghost use Rattle.round_completeness.specs.Completeness.{RoundsThatNothingDisturbsAreComplete};
 ghost use Rattle.round_completeness.specs.Ends.{RoundsLoseByTheEnds};
+ghost use Rattle.round_completeness.specs.Left.{RoundsAuctionWhatIsLeft};
 ghost use Rattle.round_completeness.specs.Rooms.{PlacementsHaveRoom, RoundsDeclineNoStart};
 
 /// Of the jobs that the auction gives to a cell, each finds room in what the ones before it leave of
@@ -19,6 +20,12 @@ pub fn rounds_decline_no_start()
 /// delivery, a round hears, stops and loses exactly what these ends tell.
 pub fn rounds_lose_by_the_ends()
     ensures { RoundsLoseByTheEnds }
+{}
+
+/// Where the names of the reps differ, a round holds its auction over the answers less what was
+/// stopped, without the cells that are being emptied.
+pub fn rounds_auction_what_is_left()
+    ensures { RoundsAuctionWhatIsLeft }
 {}
 
 /// A round that nothing disturbs is complete.
