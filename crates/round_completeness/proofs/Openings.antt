@@ -39,7 +39,8 @@ record IsKnown (cells : List CellRep) (gone : List (List ℕ × Instance)) (x : 
   sound : IsSoundAs x.cell x
   answers : Answers cells (less_all gone x)
 
-hears_so : (cells : List CellRep) (gone : List (List ℕ × Instance)) (x : Answer) (o : Option Answer) → StandApart (names_of cells) → IsKnown cells gone x → Hears cells x.cell x.epoch o → o ≡ Some (less_all gone x)
+hears_so : (cells : List CellRep) (gone : List (List ℕ × Instance)) (x : Answer) (o : Option Answer) → StandApart (names_of cells)
+    → IsKnown cells gone x → Hears cells x.cell x.epoch o → o ≡ Some (less_all gone x)
 hears_so cells gone x (Some y) apart k h =
     sym h.answers ∙ k.answers h.place h.rep (subst (λ n. StandsFor cells n h.place h.rep) (sym (cell_of_all gone x)) h.stands)
 hears_so cells gone x None apart k h =
@@ -54,7 +55,8 @@ hears_so cells gone x None apart k h =
       sound = sound_as (record { cell = x.cell; joined = None }) m.0 (less_all gone x) (sym m.2) (sound_all x.cell gone x k.sound);
     }))
 
-opens_if : (b : Bool) (cells : List CellRep) (gone : List (List ℕ × Instance)) (x : Answer) (o : Option Answer) → StandApart (names_of cells) → IsKnown cells gone x → OpensIf b cells x o
+opens_if : (b : Bool) (cells : List CellRep) (gone : List (List ℕ × Instance)) (x : Answer) (o : Option Answer)
+    → StandApart (names_of cells) → IsKnown cells gone x → OpensIf b cells x o
     → o ≡ cond b None (Some (less_all gone x))
 opens_if true cells gone x o apart k h = h
 opens_if false cells gone x o apart k h = hears_so cells gone x o apart k h
@@ -63,7 +65,8 @@ listed : {X : Type 0} (o : Option X) (xs : List X) → option_to_list o ++ xs �
 listed None xs = refl
 listed (Some x) xs = refl
 
-opens-so : (rows : Rows) (cells : List CellRep) (gone : List (List ℕ × Instance)) (got s t : List Answer) → StandApart (names_of cells) → ((x : Answer) → Contains got x → IsKnown cells gone x)
+opens-so : (rows : Rows) (cells : List CellRep) (gone : List (List ℕ × Instance)) (got s t : List Answer) → StandApart (names_of cells)
+    → ((x : Answer) → Contains got x → IsKnown cells gone x)
     → Each (OpensOne rows cells) got s t → t ≡ s ++ filter_map (left_open rows gone) got
 opens-so rows cells gone [] s t apart known f = f ∙ sym (append-nil s)
 opens-so rows cells gone (x ∷ got) s t apart known f =
@@ -71,18 +74,23 @@ opens-so rows cells gone (x ∷ got) s t apart known f =
     opens-so rows cells gone got f.0 t apart (λ y inside. known y (inside_rest y x got inside)) f.2
     ∙ ap (λ xs. xs ++ filter_map (left_open rows gone) got) f.1.more
     ∙ append_assoc s (option_to_list f.1.now) (filter_map (left_open rows gone) got)
-    ∙ ap (λ xs. s ++ xs) (ap (λ (o : Option Answer). option_to_list o ++ filter_map (left_open rows gone) got) one ∙ listed (left_open rows gone x) (filter_map (left_open rows gone) got))
+    ∙ ap (λ xs. s ++ xs) (ap (λ (o : Option Answer). option_to_list o ++ filter_map (left_open rows gone) got) one
+    ∙ listed (left_open rows gone x) (filter_map (left_open rows gone) got))
 
 -- who was heard answers so
-heard_answers : (cells : List CellRep) (cell : List ℕ) (epoch : ℕ) (x : Answer) → StandApart (names_of cells) → IsHeardFrom cells cell epoch x → Answers cells x
-heard_answers cells cell epoch x apart h at rep stands = ap (λ (r : CellRep). answer_of r) (heard_rep cells cell epoch x apart h at rep stands) ∙ h.answers
+heard_answers : (cells : List CellRep) (cell : List ℕ) (epoch : ℕ) (x : Answer) → StandApart (names_of cells)
+    → IsHeardFrom cells cell epoch x → Answers cells x
+heard_answers cells cell epoch x apart h at rep stands =
+    ap (λ (r : CellRep). answer_of r) (heard_rep cells cell epoch x apart h at rep stands) ∙ h.answers
 
 pub what-is-left : RoundsAuctionWhatIsLeft
 what-is-left by now line s s' r h apart =
     let got = h.opens.hearing.got in
     let rows = rows_seen h.opened.view in
-    let l = are-lessened (strays (rows_seen h.opens.third) got) (so_far (stops_at h.opens.wire s.reps) []) (so_far (stops_at h.opened.wire h.opened.reps) h.opens.stops.stopped) apart h.opens.stopped.each in
-    let heard = are-heard s.reps (present (rows_seen h.opens.first) now) (questions s.wire []) (questions h.opens.wire got) h.opens.heard.got in
+    let l = are-lessened (strays (rows_seen h.opens.third) got) (so_far (stops_at h.opens.wire s.reps) [])
+    (so_far (stops_at h.opened.wire h.opened.reps) h.opens.stops.stopped) apart h.opens.stopped.each in
+    let heard = are-heard s.reps (present (rows_seen h.opens.first) now) (questions s.wire []) (questions h.opens.wire got)
+    h.opens.heard.got in
     let stopped : l.more ≡ r.stopped = sym (h.reports.stopped ∙ h.opens.stopped_is ∙ l.is) in
     subst (λ gone. h.opening_is.places.roomy ≡ filter_map (left_open rows gone) got) stopped
     (opens-so rows h.opened.reps l.more got [] h.opening_is.places.roomy (subst StandApart (sym l.names) apart)
@@ -90,7 +98,8 @@ what-is-left by now line s s' r h apart =
     let c = heard.from x (subst (λ xs. Contains xs x) heard.is inside) in
     record {
       there = subst (λ ns. Contains ns x.cell) (sym l.names)
-          (subst (Contains (names_of s.reps)) (sym (heard_cell s.reps c.0.cell c.0.epoch x c.2)) (heard_named s.reps c.0.cell c.0.epoch x c.2));
+          (subst (Contains (names_of s.reps)) (sym (heard_cell s.reps c.0.cell c.0.epoch x c.2))
+          (heard_named s.reps c.0.cell c.0.epoch x c.2));
       sound = sound_as c.2.rep (record { cell = x.cell; joined = None }) x (sym c.2.sound.cell) c.2.sound;
       answers = l.answer x (heard_answers s.reps c.0.cell c.0.epoch x apart c.2);
     })

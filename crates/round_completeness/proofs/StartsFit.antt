@@ -40,7 +40,8 @@ pub record IsFreeOn (free : Amounts) (cell : List ℕ) (rep : CellRep) : Type 0 
   pub free_is : IsFree free rep.joined
 
 -- the end of a claim leaves the rep as it is, or without the container
-by_end : (P : CellRep → Type 0) (n : JobName) (cell : List ℕ) (i : Instance) (e : CallEnd) (rep : CellRep) → P rep → P (without rep i) → P (left (claim_op cell n i) e rep)
+by_end : (P : CellRep → Type 0) (n : JobName) (cell : List ℕ) (i : Instance) (e : CallEnd) (rep : CellRep) → P rep → P (without rep i)
+    → P (left (claim_op cell n i) e rep)
 by_end P (name.Lrp key) cell i (Got (reply.Ok place stamp)) rep h g = h
 by_end P (name.Lrp key) cell i (Got (reply.Same place)) rep h g = h
 by_end P (name.Lrp key) cell i (Got (reply.Refused why place)) rep h g = g
@@ -67,9 +68,11 @@ pub record IsFitted (free : Amounts) (job : Job) (rep : CellRep) (wire : WireAt)
   pub fits : EndFits (end_now wire.ends rep.cell) a.end
   pub rest : IsFreeOn (less free job) rep.cell rep'
 
-module _ (by : ℕ) (now : Moment) (job : Job) (s s' : Serving) (wire : WireAt) (a : Called) (ended : HasNoFault a.end) (free : Amounts) (room : FindsRoom free job) where
+module _ (by : ℕ) (now : Moment) (job : Job) (s s' : Serving) (wire : WireAt) (a : Called) (ended : HasNoFault a.end) (free : Amounts)
+    (room : FindsRoom free job) where
   fits_joined : (o : Option Joined) → IsFree free o
-      → Follows by s.rep.cell wire.ends (job_todo job now s.rep.cell o ∷ []) (job_begun job s.rep o) s.view (a ∷ []) s'.rep s'.view → IsFitted free job s.rep wire a s'.rep
+      → Follows by s.rep.cell wire.ends (job_todo job now s.rep.cell o ∷ []) (job_begun job s.rep o) s.view (a ∷ []) s'.rep s'.view
+      → IsFitted free job s.rep wire a s'.rep
   fits_joined None is h = absurd is
   fits_joined (Some j) is h =
       let n = next_container j.store job.job job.memory job.disk in
@@ -84,29 +87,40 @@ module _ (by : ℕ) (now : Moment) (job : Job) (s s' : Serving) (wire : WireAt) 
         rest = subst (IsFreeOn (less free job) s.rep.cell) (sym made.3.0)
             (by_end (IsFreeOn (less free job) s.rep.cell) job.job s.rep.cell (next_of j.store) a.end rep
             (record { cell_is = refl; free_is = held_free free job j.store is })
-            (record { cell_is = cell_stays s.rep.cell (next_of j.store) rep.joined; free_is = gone_free free job s.rep j (next_of j.store) is }));
+            (record {
+              cell_is = cell_stays s.rep.cell (next_of j.store) rep.joined;
+              free_is = gone_free free job s.rep j (next_of j.store) is;
+            }));
       }
 
   first_of : (x y : Called) → x ∷ [] ≡ y ∷ [] → x ≡ y
   first_of x y e = cc
 
-  pub fits_started : IsFree free s.rep.joined → IsStarted by job now (stage s.rep s.view wire.ends wire.losses []) (stage s'.rep s'.view s'.wire.ends s'.wire.losses (a ∷ [])) → IsFitted free job s.rep wire a s'.rep
+  pub fits_started : IsFree free s.rep.joined
+      → IsStarted by job now (stage s.rep s.view wire.ends wire.losses []) (stage s'.rep s'.view s'.wire.ends s'.wire.losses (a ∷ []))
+      → IsFitted free job s.rep wire a s'.rep
   fits_started is h = ⊎_elim
       (λ p. fits_joined s.rep.joined is
-      (subst (λ out. Follows by s.rep.cell wire.ends (job_todo job now s.rep.cell s.rep.joined ∷ []) (job_begun job s.rep s.rep.joined) s.view out s'.rep s'.view) (sym p.out_is) p.follows))
+      (subst (λ out. Follows by s.rep.cell wire.ends (job_todo job now s.rep.cell s.rep.joined ∷ []) (job_begun job s.rep s.rep.joined)
+      s.view out s'.rep s'.view) (sym p.out_is) p.follows))
       (λ e. absurd (subst (λ (x : Called). HasNoFault x.end) (first_of a starved (ap (λ (x : Stage). x.out) e)) ended))
       h
 
-pub fits_if : (b : Bool) (by : ℕ) (now : Moment) (job : Job) (wire : WireAt) (s s' : Serving) (h : TakesIf b by now job wire s s') (free : Amounts) → FindsRoom free job → IsFree free s.rep.joined
+pub fits_if : (b : Bool) (by : ℕ) (now : Moment) (job : Job) (wire : WireAt) (s s' : Serving) (h : TakesIf b by now job wire s s')
+    (free : Amounts) → FindsRoom free job → IsFree free s.rep.joined
     → (declined_if b by now job wire s s' h ≡ 0) × IsFreeOn (less free job) s.rep.cell s'.rep
 fits_if true by now job wire s s' h free room is =
     let f = fits_started by now job s s' wire h.answer h.ended free room is h.started in
     (f.calls, f.rest)
-fits_if false by now job wire s s' h free room is =
-    (refl, subst (IsFreeOn (less free job) s.rep.cell) (sym h.rep) (record { cell_is = refl; free_is = weaker_free free job s.rep.joined is }))
+fits_if false by now job wire s s' h free room is = (
+  refl,
+  subst (IsFreeOn (less free job) s.rep.cell) (sym h.rep)
+      (record { cell_is = refl; free_is = weaker_free free job s.rep.joined is }),
+)
 
 -- starts that find room, one after another
-pub starts-fit : (by : ℕ) (now : Moment) (jobs : List Job) (s s' : Serving) (f : Each (StartsOne by now) jobs s s') (free : Amounts) → AllFindRoom free jobs → IsFree free s.rep.joined
+pub starts-fit : (by : ℕ) (now : Moment) (jobs : List Job) (s s' : Serving) (f : Each (StartsOne by now) jobs s s') (free : Amounts)
+    → AllFindRoom free jobs → IsFree free s.rep.joined
     → (declined_on by now jobs s s' f ≡ 0) × (s'.rep.cell ≡ s.rep.cell)
 starts-fit by now [] s s' f free room is = (refl, ap (λ (x : Serving). x.rep.cell) f)
 starts-fit by now (job ∷ jobs) s s' f free room is =

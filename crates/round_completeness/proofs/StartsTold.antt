@@ -49,10 +49,12 @@ counted_one : (a b : ℕ) → b ≡ min (a + 1) (2 ^ 64 - 1) → IsCounted 1 a b
 counted_one a b e = record { is = λ few. omega (arith, e) }
 
 counted_then : (n m a b c : ℕ) → IsCounted n a b → IsCounted m b c → IsCounted (n + m) a c
-counted_then n m a b c f g = record { is = λ few.
-    let first = f.is few in
-    let second = g.is (omega (arith, first)) in
-    omega (arith, first, second, few) }
+counted_then n m a b c f g = record {
+  is = λ few.
+      let first = f.is few in
+      let second = g.is (omega (arith, first)) in
+      omega (arith, first, second, few);
+}
 
 answered_lost : (o : Option Command) (r : Reply) (t : Tally) → (answered o r t).lost ≡ t.lost
 answered_lost None r t = refl
@@ -62,12 +64,17 @@ answered_lost (Some c) r t = lost_noted c r t
 abbrev one_if : Delivery → ℕ
 one_if d = cond (not (is_delivery_lost d)) 0 1
 
-end_counted : (o : Option Command) (e : CallEnd) (t : Tally) (d : Delivery) → HasNoFault e → declined_end e ≡ 0 → EndFits (Some d) e → IsCounted (one_if d) t.lost (counted o e t).lost
-end_counted o (Got r) t d fine calls fits = subst (λ (x : Delivery). IsCounted (one_if x) t.lost (counted o (Got r) t).lost) (sym fits) (counted_none t.lost (answered o r t).lost (answered_lost o r t))
+end_counted : (o : Option Command) (e : CallEnd) (t : Tally) (d : Delivery) → HasNoFault e → declined_end e ≡ 0 → EndFits (Some d) e
+    → IsCounted (one_if d) t.lost (counted o e t).lost
+end_counted o (Got r) t d fine calls fits =
+    subst (λ (x : Delivery). IsCounted (one_if x) t.lost (counted o (Got r) t).lost) (sym fits)
+    (counted_none t.lost (answered o r t).lost (answered_lost o r t))
 end_counted o (Fault why) t d fine calls fits = absurd fine
-end_counted o CallLost t d fine calls fits = subst (λ (x : Delivery). IsCounted (one_if x) t.lost (counted o CallLost t).lost) (sym fits) (counted_one t.lost (lost_one t).lost refl)
+end_counted o CallLost t d fine calls fits =
+    subst (λ (x : Delivery). IsCounted (one_if x) t.lost (counted o CallLost t).lost) (sym fits) (counted_one t.lost (lost_one t).lost refl)
 end_counted o (ReplyLost (Ok r)) t d fine calls fits =
-    subst (λ (x : Delivery). IsCounted (one_if x) t.lost (counted o (ReplyLost (Ok r)) t).lost) (sym fits) (counted_one t.lost (answered o r (lost_one t)).lost (answered_lost o r (lost_one t)))
+    subst (λ (x : Delivery). IsCounted (one_if x) t.lost (counted o (ReplyLost (Ok r)) t).lost) (sym fits)
+    (counted_one t.lost (answered o r (lost_one t)).lost (answered_lost o r (lost_one t)))
 end_counted o (ReplyLost (Err why)) t d fine calls fits = absurd fine
 end_counted o (Local why) t d fine calls fits = absurd cc
 end_counted o Idle t d fine calls fits = absurd cc
@@ -79,23 +86,30 @@ one_unless ends cell b = cond (b && gets_through ends cell Board) 0 1
 first_of : (x y : Called) → x ∷ [] ≡ y ∷ [] → x ≡ y
 first_of x y e = cc
 
-tells_started : (ends : WireEnds) (by : ℕ) (now : Moment) (job : Job) (w : WireAt) (s s' : Serving) (a : Called) → HasNoFault a.end → Tells ends w.ends
-    → IsStarted by job now (stage s.rep s.view w.ends w.losses []) (stage s'.rep s'.view s'.wire.ends s'.wire.losses (a ∷ [])) → Tells ends s'.wire.ends
+tells_started : (ends : WireEnds) (by : ℕ) (now : Moment) (job : Job) (w : WireAt) (s s' : Serving) (a : Called) → HasNoFault a.end
+    → Tells ends w.ends
+    → IsStarted by job now (stage s.rep s.view w.ends w.losses []) (stage s'.rep s'.view s'.wire.ends s'.wire.losses (a ∷ []))
+    → Tells ends s'.wire.ends
 tells_started ends by now job w s s' a ended tells h = ⊎_elim
     (λ p. subst (Tells ends) (sym p.ends_are) (tells_moved ends (job_todo job now s.rep.cell s.rep.joined) w.ends tells))
     (λ e. absurd (subst (λ (x : Called). HasNoFault x.end) (first_of a starved (ap (λ (x : Stage). x.out) e)) ended))
     h
 
-start_counted : (ends : WireEnds) (b : Bool) (by : ℕ) (now : Moment) (job : Job) (w : WireAt) (s s' : Serving) (h : TakesIf b by now job w s s') (free : Amounts) → FindsRoom free job → IsFree free s.rep.joined
+start_counted : (ends : WireEnds) (b : Bool) (by : ℕ) (now : Moment) (job : Job) (w : WireAt) (s s' : Serving)
+    (h : TakesIf b by now job w s s') (free : Amounts) → FindsRoom free job → IsFree free s.rep.joined
     → Tells ends w.ends → IsCounted (one_unless ends s.rep.cell b) s.tally.lost s'.tally.lost × Tells ends s'.wire.ends
 start_counted ends true by now job w s s' h free room is tells =
     let f = fits_started by now job s s' w h.answer h.ended free room is h.started in
-    let d = ends (record { actor = s.rep.cell; kind = Board }) 0 in
-    (subst (IsCounted (one_if d) s.tally.lost) (sym (ap (λ (t : Tally). t.lost) h.counts))
-    (end_counted h.answer.command h.answer.end s.tally d h.ended f.calls (fits_told ends w.ends s.rep.cell h.answer.end tells f.fits)),
-    tells_started ends by now job w s s' h.answer h.ended tells h.started)
-start_counted ends false by now job w s s' h free room is tells =
-    (counted_one s.tally.lost s'.tally.lost (ap (λ (t : Tally). t.lost) h.counts), subst (λ (x : WireAt). Tells ends x.ends) (sym h.wire_is) tells)
+    let d = ends (record { actor = s.rep.cell; kind = Board }) 0 in (
+      subst (IsCounted (one_if d) s.tally.lost) (sym (ap (λ (t : Tally). t.lost) h.counts))
+          (end_counted h.answer.command h.answer.end s.tally d h.ended f.calls
+          (fits_told ends w.ends s.rep.cell h.answer.end tells f.fits)),
+      tells_started ends by now job w s s' h.answer h.ended tells h.started,
+    )
+start_counted ends false by now job w s s' h free room is tells = (
+  counted_one s.tally.lost s'.tally.lost (ap (λ (t : Tally). t.lost) h.counts),
+  subst (λ (x : WireAt). Tells ends x.ends) (sym h.wire_is) tells,
+)
 
 -- so many, unless they get through
 abbrev all_unless : WireEnds → List ℕ → ℕ → ℕ
@@ -109,12 +123,15 @@ none_of : (b : Bool) → ◌≡◌ {A = ℕ} (cond b 0 0) 0
 none_of true = refl
 none_of false = refl
 
-starts_counted : (ends : WireEnds) (cell : List ℕ) (by : ℕ) (now : Moment) (jobs : List Job) (s s' : Serving) (f : Each (StartsOne by now) jobs s s') (free : Amounts) → AllFindRoom free jobs
-    → IsFree free s.rep.joined → s.rep.cell ≡ cell → Tells ends s.wire.ends → IsCounted (all_unless ends cell (length jobs)) s.tally.lost s'.tally.lost × Tells ends s'.wire.ends
-starts_counted ends cell by now [] s s' f free room is names tells =
-    (subst (λ (n : ℕ). IsCounted n s.tally.lost s'.tally.lost) (sym (none_of (gets_through ends cell Start && gets_through ends cell Board)))
-    (counted_none s.tally.lost s'.tally.lost (ap (λ (x : Serving). x.tally.lost) f)),
-    subst (λ (x : Serving). Tells ends x.wire.ends) (sym f) tells)
+starts_counted : (ends : WireEnds) (cell : List ℕ) (by : ℕ) (now : Moment) (jobs : List Job) (s s' : Serving)
+    (f : Each (StartsOne by now) jobs s s') (free : Amounts) → AllFindRoom free jobs
+    → IsFree free s.rep.joined → s.rep.cell ≡ cell → Tells ends s.wire.ends
+    → IsCounted (all_unless ends cell (length jobs)) s.tally.lost s'.tally.lost × Tells ends s'.wire.ends
+starts_counted ends cell by now [] s s' f free room is names tells = (
+  subst (λ (n : ℕ). IsCounted n s.tally.lost s'.tally.lost) (sym (none_of (gets_through ends cell Start && gets_through ends cell Board)))
+      (counted_none s.tally.lost s'.tally.lost (ap (λ (x : Serving). x.tally.lost) f)),
+  subst (λ (x : Serving). Tells ends x.wire.ends) (sym f) tells,
+)
 starts_counted ends cell by now (job ∷ jobs) s s' f free room is names tells =
     let w = sent_so ends s.rep.cell Start f.1.reached s.wire f.1.wire tells f.1.sent in
     let fit = fits_if f.1.reached by now job f.1.wire s f.0 f.1.takes free room.0 is in
@@ -122,10 +139,13 @@ starts_counted ends cell by now (job ∷ jobs) s s' f free room is names tells =
     let here : IsCounted (all_unless ends cell 1) s.tally.lost f.0.tally.lost =
     subst (λ (c : List ℕ). IsCounted (all_unless ends c 1) s.tally.lost f.0.tally.lost) names
     (subst (λ (b : Bool). IsCounted (one_unless ends s.rep.cell b) s.tally.lost f.0.tally.lost) w.0 one.0) in
-    let rest = starts_counted ends cell by now jobs f.0 s' f.2 (less free job) room.1 fit.1.free_is (fit.1.cell_is ∙ names) one.1 in
-    (subst (λ (n : ℕ). IsCounted n s.tally.lost s'.tally.lost) (one_more_of (gets_through ends cell Start && gets_through ends cell Board) (length jobs) ∙ ap (all_unless ends cell) (omega arith))
-    (counted_then (all_unless ends cell 1) (all_unless ends cell (length jobs)) s.tally.lost f.0.tally.lost s'.tally.lost here rest.0),
-    rest.1)
+    let rest = starts_counted ends cell by now jobs f.0 s' f.2 (less free job) room.1 fit.1.free_is (fit.1.cell_is ∙ names) one.1 in (
+      subst (λ (n : ℕ). IsCounted n s.tally.lost s'.tally.lost)
+          (one_more_of (gets_through ends cell Start && gets_through ends cell Board) (length jobs) ∙ ap (all_unless ends cell) (omega arith))
+          (counted_then (all_unless ends cell 1) (all_unless ends cell (length jobs)) s.tally.lost f.0.tally.lost s'.tally.lost here
+          rest.0),
+      rest.1,
+    )
 
 -- a cell is served
 record IsServedSo (ends : WireEnds) (n : ℕ) (s m : Course) : Type 0 where
@@ -133,7 +153,8 @@ record IsServedSo (ends : WireEnds) (n : ℕ) (s m : Course) : Type 0 where
   tells : Tells ends m.wire.ends
   names : names_of m.reps ≡ names_of s.reps
 
-serve_counted : (ends : WireEnds) (by : ℕ) (now : Moment) (p : Places) (x : Answer) (s m : Course) → ServesOne by now p x s m → Contains (names_of s.reps) x.cell → HasAnswered s.reps x
+serve_counted : (ends : WireEnds) (by : ℕ) (now : Moment) (p : Places) (x : Answer) (s m : Course) → ServesOne by now p x s m
+    → Contains (names_of s.reps) x.cell → HasAnswered s.reps x
     → AllFindRoom x.free (jobs_on p.rows p.placements x.cell) → Tells ends s.wire.ends → IsServedSo ends (starts_lost ends p x) s m
 serve_counted ends by now p x s m (inl c) have has room tells =
     let jobs = jobs_on p.rows p.placements x.cell in
@@ -152,10 +173,13 @@ serve_counted ends by now p x s m (inr none) have has room tells = absurd (none.
 pub record AreServedSo (ends : WireEnds) (n : ℕ) (s s' : Course) : Type 0 where
   pub counts : IsCounted n s.tally.lost s'.tally.lost
 
-pub serves-so : (ends : WireEnds) (by : ℕ) (now : Moment) (p : Places) (xs : List Answer) (s s' : Course) → Each (ServesOne by now p) xs s s' → Differ (map (λ (x : Answer). x.cell) xs)
+pub serves-so : (ends : WireEnds) (by : ℕ) (now : Moment) (p : Places) (xs : List Answer) (s s' : Course)
+    → Each (ServesOne by now p) xs s s' → Differ (map (λ (x : Answer). x.cell) xs)
     → ((x : Answer) → Contains xs x → Contains (names_of s.reps) x.cell) → ((x : Answer) → Contains xs x → HasAnswered s.reps x)
-    → ((x : Answer) → Contains xs x → AllFindRoom x.free (jobs_on p.rows p.placements x.cell)) → Tells ends s.wire.ends → AreServedSo ends (sum_by (starts_lost ends p) xs) s s'
-serves-so ends by now p [] s s' f differ have has room tells = record { counts = counted_none s.tally.lost s'.tally.lost (ap (λ (x : Course). x.tally.lost) f) }
+    → ((x : Answer) → Contains xs x → AllFindRoom x.free (jobs_on p.rows p.placements x.cell)) → Tells ends s.wire.ends
+    → AreServedSo ends (sum_by (starts_lost ends p) xs) s s'
+serves-so ends by now p [] s s' f differ have has room tells =
+    record { counts = counted_none s.tally.lost s'.tally.lost (ap (λ (x : Course). x.tally.lost) f) }
 serves-so ends by now p (x ∷ xs) s s' f differ have has room tells =
     let first = inside_first x xs in
     let one = serve_counted ends by now p x s f.0 f.1 (have x first) (has x first) (room x first) tells in
@@ -164,5 +188,6 @@ serves-so ends by now p (x ∷ xs) s s' f differ have has room tells =
     (λ y inside. subst (λ ns. Contains ns y.cell) (sym one.names) (have y (inside_rest y x xs inside)))
     (λ y inside. fits.1 y (differ.0 y.cell (inside_map (λ (z : Answer). z.cell) xs y inside)) (has y (inside_rest y x xs inside)))
     (λ y inside. room y (inside_rest y x xs inside)) one.tells in
-    let both = counted_then (starts_lost ends p x) (sum_by (starts_lost ends p) xs) s.tally.lost f.0.tally.lost s'.tally.lost one.counts rest.counts in
+    let both = counted_then (starts_lost ends p x) (sum_by (starts_lost ends p) xs) s.tally.lost f.0.tally.lost s'.tally.lost one.counts
+    rest.counts in
     record { counts = subst (λ (n : ℕ). IsCounted n s.tally.lost s'.tally.lost) (sym (sum_by-cons (starts_lost ends p) x xs)) both }

@@ -24,7 +24,8 @@ pub within_itself : (a : Amounts) → IsWithin a a
 within_itself a = record { memory = omega arith; disk = omega arith; containers = omega arith }
 
 pub less_within : (free whole : Amounts) (job : Job) → IsWithin free whole → IsWithin (less free job) whole
-less_within free whole job w = record { memory = omega (arith, w.memory); disk = omega (arith, w.disk); containers = omega (arith, w.containers) }
+less_within free whole job w =
+    record { memory = omega (arith, w.memory); disk = omega (arith, w.disk); containers = omega (arith, w.containers) }
 
 -- no more was taken of a store than the job asks for
 record IsTaken (job : Job) (s s' : StoreView) : Type 0 where
@@ -37,14 +38,19 @@ record IsTaken (job : Job) (s s' : StoreView) : Type 0 where
 amount_left : (total now used used' free part : ℕ) → now ≡ total → used' ≤ used + part → free ≤ total - used → free - part ≤ now - used'
 amount_left total now used used' free part same u f = omega (arith, same, u, f)
 
-slots_left : (total now held held' last last' free : ℕ) → now ≡ total → held' ≤ held + 1 → last' ≤ last + 1 → free ≤ min (total - held) (4294967295 - last) → free - 1 ≤ min (now - held') (4294967295 - last')
+slots_left : (total now held held' last last' free : ℕ) → now ≡ total → held' ≤ held + 1 → last' ≤ last + 1
+    → free ≤ min (total - held) (4294967295 - last) → free - 1 ≤ min (now - held') (4294967295 - last')
 slots_left total now held held' last last' free same h l f = omega (arith, same, h, l, f)
 
-left_free : (free : Amounts) (job : Job) (s s' : StoreView) → IsTaken job s s' → IsWithin free (free_of s) → IsWithin (less free job) (free_of s')
+left_free : (free : Amounts) (job : Job) (s s' : StoreView) → IsTaken job s s' → IsWithin free (free_of s)
+    → IsWithin (less free job) (free_of s')
 left_free free job s s' t w = record {
-  memory = amount_left s.totals.memory s'.totals.memory (used_memory s) (used_memory s') free.memory job.memory (ap (λ (a : Amounts). a.memory) t.totals) t.memory w.memory;
-  disk = amount_left s.totals.disk s'.totals.disk (used_disk s) (used_disk s') free.disk job.disk (ap (λ (a : Amounts). a.disk) t.totals) t.disk w.disk;
-  containers = slots_left s.totals.containers s'.totals.containers (length s.containers) (length s'.containers) s.last s'.last free.containers
+  memory = amount_left s.totals.memory s'.totals.memory (used_memory s) (used_memory s') free.memory job.memory
+      (ap (λ (a : Amounts). a.memory) t.totals) t.memory w.memory;
+  disk = amount_left s.totals.disk s'.totals.disk (used_disk s) (used_disk s') free.disk job.disk (ap (λ (a : Amounts). a.disk) t.totals)
+      t.disk w.disk;
+  containers = slots_left s.totals.containers s'.totals.containers (length s.containers) (length s'.containers) s.last s'.last
+      free.containers
       (ap (λ (a : Amounts). a.containers) t.totals) t.slots t.last w.containers;
 }
 
@@ -65,9 +71,24 @@ is_it i c = is_same_instance i c.instance
 removed_taken : (job : Job) (s m : StoreView) (i : Instance) → IsTaken job s m → IsTaken job s (without_container m i)
 removed_taken job s m i t = record {
   totals = t.totals;
-  memory = omega (arith, t.memory, sum_by-filter_both (λ c. not (is_it i c)) (λ c. not (not (is_it i c))) (λ c. refl) (λ (c : Container). c.memory) m.containers);
-  disk = omega (arith, t.disk, sum_by-filter_both (λ c. not (is_it i c)) (λ c. not (not (is_it i c))) (λ c. refl) (λ (c : Container). c.disk) m.containers);
-  slots = omega (arith, t.slots, length-filter_both (λ (c : Container). not (is_it i c)) (λ c. not (not (is_it i c))) (λ c. refl) m.containers);
+  memory = omega (
+    arith,
+    t.memory,
+    sum_by-filter_both (λ c. not (is_it i c)) (λ c. not (not (is_it i c))) (λ c. refl)
+        (λ (c : Container). c.memory) m.containers,
+  );
+  disk = omega (
+    arith,
+    t.disk,
+    sum_by-filter_both (λ c. not (is_it i c)) (λ c. not (not (is_it i c))) (λ c. refl)
+        (λ (c : Container). c.disk) m.containers,
+  );
+  slots = omega (
+    arith,
+    t.slots,
+    length-filter_both (λ (c : Container). not (is_it i c)) (λ c. not (not (is_it i c))) (λ c. refl)
+        m.containers,
+  );
   last = t.last;
 }
 
@@ -78,12 +99,15 @@ no_less a b h = grind arith
 not_none : (n : ℕ) → 1 ≤ n → eqb n 0 ≡ false
 not_none n h = grind arith
 
-pub room_made : (free : Amounts) (job : Job) (s : StoreView) → IsWithin free (free_of s) → FindsRoom free job → reserving s job.job job.memory job.disk ≡ Ok (reserved s job.job job.memory job.disk)
+pub room_made : (free : Amounts) (job : Job) (s : StoreView) → IsWithin free (free_of s) → FindsRoom free job
+    → reserving s job.job job.memory job.disk ≡ Ok (reserved s job.job job.memory job.disk)
 room_made free job s w f =
     let done : Result StoreView StoreRefusal = Ok (reserved s job.job job.memory job.disk) in
-    ap (λ (b : Bool). cond b (Err NoMemoryLeft) (cond (nat_lt (free_of s).disk job.disk) (Err NoDiskLeft) (cond (eqb (free_of s).containers 0) (Err NoSlot) done)))
+    ap (λ (b : Bool). cond b (Err NoMemoryLeft)
+    (cond (nat_lt (free_of s).disk job.disk) (Err NoDiskLeft) (cond (eqb (free_of s).containers 0) (Err NoSlot) done)))
     (no_less (free_of s).memory job.memory (omega (arith, w.memory, f.memory)))
-    ∙ ap (λ (b : Bool). cond b (Err NoDiskLeft) (cond (eqb (free_of s).containers 0) (Err NoSlot) done)) (no_less (free_of s).disk job.disk (omega (arith, w.disk, f.disk)))
+    ∙ ap (λ (b : Bool). cond b (Err NoDiskLeft) (cond (eqb (free_of s).containers 0) (Err NoSlot) done))
+    (no_less (free_of s).disk job.disk (omega (arith, w.disk, f.disk)))
     ∙ ap (λ (b : Bool). cond b (Err NoSlot) done) (not_none (free_of s).containers (omega (arith, w.containers, f.container)))
 
 -- a cell has joined, and has at least so much free
@@ -96,7 +120,8 @@ weaker_free free job None w = absurd w
 weaker_free free job (Some j) w = less_within free (free_of j.store) job w
 
 -- with the job's container, and where it has gone again
-pub held_free : (free : Amounts) (job : Job) (s : StoreView) → IsWithin free (free_of s) → IsWithin (less free job) (free_of (reserved s job.job job.memory job.disk))
+pub held_free : (free : Amounts) (job : Job) (s : StoreView) → IsWithin free (free_of s)
+    → IsWithin (less free job) (free_of (reserved s job.job job.memory job.disk))
 held_free free job s w = left_free free job s (reserved s job.job job.memory job.disk) (reserved_taken job s) w
 
 pub gone_free : (free : Amounts) (job : Job) (rep : CellRep) (j : Joined) (i : Instance) → IsWithin free (free_of j.store)
@@ -105,7 +130,8 @@ gone_free free job rep j i w =
     let store = reserved j.store job.job job.memory job.disk in
     let now = with_store rep j store in
     elim (find_container i store.containers) as
-    (λ (o : Option Container). IsFree (less free job) (result_unwrap_or (store_result now (record j { store = store }) (if_held o (λ c. Ok (without_container store i)))) now).joined) [
+    (λ (o : Option Container). IsFree (less free job)
+    (result_unwrap_or (store_result now (record j { store = store }) (if_held o (λ c. Ok (without_container store i)))) now).joined) [
       | None ↦ held_free free job j.store w
       | (Some c) ↦ left_free free job j.store (without_container store i) (removed_taken job j.store store i (reserved_taken job j.store)) w
     ]

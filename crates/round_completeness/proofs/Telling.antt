@@ -31,13 +31,15 @@ abbrev pub Tells : WireEnds → Option WireEnds → Type 0
 Tells ends None = ⊥
 Tells ends (Some e) = (c : WireCall) (n : ℕ) → e c n ≡ ends c 0
 
-delivers_so : (ends : WireEnds) (o o' : Option WireEnds) (call : WireCall) (d : Delivery) → Tells ends o → Delivers o o' call d → (d ≡ ends call 0) × Tells ends o'
+delivers_so : (ends : WireEnds) (o o' : Option WireEnds) (call : WireCall) (d : Delivery) → Tells ends o → Delivers o o' call d
+    → (d ≡ ends call 0) × Tells ends o'
 delivers_so ends None o' call d t h = absurd t
 delivers_so ends (Some e) None call d t h = absurd h
 delivers_so ends (Some e) (Some later) call d t h = (h.0 ∙ t call 0, λ c n. h.1 c n ∙ t c (n + 1))
 
 -- what is sent gets through as they tell
-pub sent_so : (ends : WireEnds) (cell : List ℕ) (kind : CallKind) (reached : Bool) (s s' : WireAt) → Tells ends s.ends → IsSent cell kind reached s s' → (reached ≡ gets_through ends cell kind) × Tells ends s'.ends
+pub sent_so : (ends : WireEnds) (cell : List ℕ) (kind : CallKind) (reached : Bool) (s s' : WireAt) → Tells ends s.ends
+    → IsSent cell kind reached s s' → (reached ≡ gets_through ends cell kind) × Tells ends s'.ends
 sent_so ends cell kind reached s s' t h =
     let d = delivers_so ends s.ends s'.ends (record { actor = cell; kind = kind }) h.end t h.ends in
     (h.is ∙ ap (λ (x : Delivery). not (is_delivery_lost x)) d.0, d.1)
@@ -49,7 +51,8 @@ tells_moved ends (todo.Call c) (Some e) h = λ call n. h call (n + 1)
 tells_moved ends todo.Idle (Some e) h = h
 tells_moved ends (todo.Local why) (Some e) h = h
 
-pub fits_told : (ends : WireEnds) (o : Option WireEnds) (cell : List ℕ) (e : CallEnd) → Tells ends o → EndFits (end_now o cell) e → EndFits (Some (ends (record { actor = cell; kind = Board }) 0)) e
+pub fits_told : (ends : WireEnds) (o : Option WireEnds) (cell : List ℕ) (e : CallEnd) → Tells ends o → EndFits (end_now o cell) e
+    → EndFits (Some (ends (record { actor = cell; kind = Board }) 0)) e
 fits_told ends None cell e t h = absurd t
 fits_told ends (Some x) cell e t h = subst (λ (d : Delivery). EndFits (Some d) e) (t (record { actor = cell; kind = Board }) 0) h
 
@@ -60,7 +63,8 @@ pub record AreAskedSo (ends : WireEnds) (reps : List CellRep) (cs : List CellRow
   pub heard : AreHeard ends reps cs more
   pub tells : Tells ends t.wire.ends
 
-pub asks-so : (ends : WireEnds) (reps : List CellRep) (cs : List CellRow) (s t : Asking) → Tells ends s.wire.ends → Each (AsksOne reps) cs s t → AreAskedSo ends reps cs s t
+pub asks-so : (ends : WireEnds) (reps : List CellRep) (cs : List CellRow) (s t : Asking) → Tells ends s.wire.ends
+    → Each (AsksOne reps) cs s t → AreAskedSo ends reps cs s t
 asks-so ends reps [] s t tells f = record {
   more = [];
   is = ap (λ (x : Asking). x.got) f ∙ sym (append-nil s.got);
@@ -81,7 +85,8 @@ asks-so ends reps (c ∷ cs) s t tells f =
 abbrev Stray : Type 0
 Stray = List ℕ × Instance
 
-done_so : (reached done : Bool) (a : Stray) (reps reps' : List CellRep) → Contains (names_of reps) a.0 → StopsIf reached done a reps reps' → done ≡ reached
+done_so : (reached done : Bool) (a : Stray) (reps reps' : List CellRep) → Contains (names_of reps) a.0 → StopsIf reached done a reps reps'
+    → done ≡ reached
 done_so true true a reps reps' have h = refl
 done_so true false a reps reps' have h = absurd (h.0 have)
 done_so false true a reps reps' have h = absurd h
@@ -95,7 +100,8 @@ pub record AreStoppedSo (ends : WireEnds) (gone : List Stray) (s t : Stopped) : 
   pub is : t.stopped ≡ s.stopped ++ filter (is_stopped ends) gone
   pub tells : Tells ends t.course.wire.ends
 
-pub stops-so : (ends : WireEnds) (gone : List Stray) (s t : Stopped) → Tells ends s.course.wire.ends → ((a : Stray) → Contains gone a → Contains (names_of s.course.reps) a.0) → Each StopsOne gone s t
+pub stops-so : (ends : WireEnds) (gone : List Stray) (s t : Stopped) → Tells ends s.course.wire.ends
+    → ((a : Stray) → Contains gone a → Contains (names_of s.course.reps) a.0) → Each StopsOne gone s t
     → AreStoppedSo ends gone s t
 stops-so ends [] s t tells have f = record {
   is = ap (λ (x : Stopped). x.stopped) f ∙ sym (append-nil s.stopped);
@@ -105,9 +111,11 @@ stops-so ends (a ∷ gone) s t tells have f =
     let w = sent_so ends a.0 Stop f.1.stops.reached s.course.wire f.0.course.wire tells f.1.stops.sent in
     let done = done_so f.1.stops.reached f.1.done a s.course.reps f.0.course.reps (have a (inside_first a gone)) f.1.stops.stops ∙ w.0 in
     let names = names_after f.1.stops.reached f.1.done a s.course.reps f.0.course.reps f.1.stops.stops in
-    let rest = stops-so ends gone f.0 t w.1 (λ b inside. subst (λ ns. Contains ns b.0) (sym names) (have b (inside_rest b a gone inside))) f.2 in
+    let rest = stops-so ends gone f.0 t w.1 (λ b inside. subst (λ ns. Contains ns b.0) (sym names) (have b (inside_rest b a gone inside)))
+    f.2 in
     record {
-      is = rest.is ∙ ap (λ xs. xs ++ filter (is_stopped ends) gone) f.1.stopped ∙ append_assoc s.stopped (if_done f.1.done a) (filter (is_stopped ends) gone)
+      is = rest.is ∙ ap (λ xs. xs ++ filter (is_stopped ends) gone) f.1.stopped
+          ∙ append_assoc s.stopped (if_done f.1.done a) (filter (is_stopped ends) gone)
           ∙ ap (λ xs. s.stopped ++ xs) (kept_or_not f.1.done a (filter (is_stopped ends) gone)
           ∙ ap (λ (b : Bool). cond b (a ∷ filter (is_stopped ends) gone) (filter (is_stopped ends) gone)) done);
       tells = rest.tells;

@@ -29,7 +29,8 @@ use Rattle.round_completeness.proofs.ByEnds.{by-ends}
 use Rattle.round_completeness.proofs.Ready.{decline-none}
 
 -- each cell that has an answer is heard, unless its question was lost
-heard_if : (b : Bool) (cells : List CellRep) (c : CellRow) (o : Option Answer) → StandApart (names_of cells) → (a : Answer) → IsHeardFrom cells c.cell c.epoch a → HearsIf b cells c.cell c.epoch o → mute_if b o ≡ 0
+heard_if : (b : Bool) (cells : List CellRep) (c : CellRow) (o : Option Answer) → StandApart (names_of cells) → (a : Answer)
+    → IsHeardFrom cells c.cell c.epoch a → HearsIf b cells c.cell c.epoch o → mute_if b o ≡ 0
 heard_if true cells c None apart a heard h = absurd (h apart a heard)
 heard_if true cells c (Some x) apart a heard h = refl
 heard_if false cells c o apart a heard h = refl
@@ -43,17 +44,21 @@ mute_none cells (c ∷ cs) s t f apart answers =
     let rest = mute_none cells cs f.0 t f.2 apart (λ d inside. answers d (inside_rest d c cs inside)) in
     omega (arith, one, rest)
 
-none-mute : (by : ℕ) (now : Moment) (line : ℕ) (s s' : Standing) (r : Report) (h : IsRound by now line s s' r) → IsUndisturbed by now line s s' r h → mute_of by now line s s' r h ≡ 0
+none-mute : (by : ℕ) (now : Moment) (line : ℕ) (s s' : Standing) (r : Report) (h : IsRound by now line s s' r)
+    → IsUndisturbed by now line s s' r h → mute_of by now line s s' r h ≡ 0
 none-mute by now line s s' r h u =
-    mute_none s.reps (present (rows_seen h.opens.first) now) (questions s.wire []) (questions h.opens.wire h.opens.hearing.got) h.opens.heard.got u.names u.answer
+    mute_none s.reps (present (rows_seen h.opens.first) now) (questions s.wire []) (questions h.opens.wire h.opens.hearing.got)
+    h.opens.heard.got u.names u.answer
 
 -- where all gets through, each of them is heard, all are stopped, and no start is lost
-heard_some : (cells : List CellRep) (c : CellRow) (o : Option Answer) → StandApart (names_of cells) → (a : Answer) → IsHeardFrom cells c.cell c.epoch a → Hears cells c.cell c.epoch o → length (option_to_list o) ≡ 1
+heard_some : (cells : List CellRep) (c : CellRow) (o : Option Answer) → StandApart (names_of cells) → (a : Answer)
+    → IsHeardFrom cells c.cell c.epoch a → Hears cells c.cell c.epoch o → length (option_to_list o) ≡ 1
 heard_some cells c None apart a heard h = absurd (h apart a heard)
 heard_some cells c (Some x) apart a heard h = refl
 
 module _ (ends : WireEnds) (through : (cell : List ℕ) (kind : CallKind) → gets_through ends cell kind ≡ true) where
-  all_heard : (cells : List CellRep) (cs : List CellRow) (got : List Answer) → StandApart (names_of cells) → ((c : CellRow) → Contains cs c → (a : Answer) × IsHeardFrom cells c.cell c.epoch a)
+  all_heard : (cells : List CellRep) (cs : List CellRow) (got : List Answer) → StandApart (names_of cells)
+      → ((c : CellRow) → Contains cs c → (a : Answer) × IsHeardFrom cells c.cell c.epoch a)
       → AreHeard ends cells cs got → length got ≡ length cs
   all_heard cells [] got apart answers h = ap length h
   all_heard cells (c ∷ cs) got apart answers h =
@@ -74,7 +79,8 @@ all_kept : {X : Type 0} (p : X → Bool) (xs : List X) → ((x : X) → p x ≡ 
 all_kept p [] h = refl
 all_kept p (x ∷ xs) h = ap (λ (b : Bool). length (cond b (x ∷ filter p xs) (filter p xs))) (h x) ∙ omega (arith, all_kept p xs h)
 
-module _ (by : ℕ) (now : Moment) (line : ℕ) (s s' : Standing) (r : Report) (h : IsRound by now line s s' r) (u : IsUndisturbed by now line s s' r h) where
+module _ (by : ℕ) (now : Moment) (line : ℕ) (s s' : Standing) (r : Report) (h : IsRound by now line s s' r)
+    (u : IsUndisturbed by now line s s' r h) where
   none_by_count : IsCountSame s.wire s'.wire → r.lost ≡ 0
   none_by_count w =
       let c = has-causes by now line s s' r h in
@@ -87,10 +93,17 @@ module _ (by : ℕ) (now : Moment) (line : ℕ) (s s' : Standing) (r : Report) (
       let steady : IsSteady s.wire.ends = subst IsSteady (sym w.told) (λ call n. w.through call n ∙ sym (w.through call 0)) in
       let b = by-ends by now line s s' r h w.ends u.names w.told steady in
       let gone = strays (rows_seen h.opens.third) h.opens.hearing.got in
-      omega (arith, b.lost, h.reports.asked, h.opens.asked_is, h.opens.heard.asked,
-      all_heard w.ends through s.reps (present (rows_seen h.opens.first) now) h.opens.hearing.got u.names u.answer b.heard,
-      ap length b.stopped, all_kept (is_stopped w.ends) gone (λ a. through a.0 Stop),
-      none_starts w.ends through h.opening_is.places h.opening_is.places.roomy)
+      omega (
+        arith,
+        b.lost,
+        h.reports.asked,
+        h.opens.asked_is,
+        h.opens.heard.asked,
+        all_heard w.ends through s.reps (present (rows_seen h.opens.first) now) h.opens.hearing.got u.names u.answer b.heard,
+        ap length b.stopped,
+        all_kept (is_stopped w.ends) gone (λ a. through a.0 Stop),
+        none_starts w.ends through h.opening_is.places h.opening_is.places.roomy,
+      )
 
 none_inside : {X : Type 0} (xs : List X) → ((x : X) → Contains xs x → ⊥) → xs ≡ []
 none_inside [] h = refl
