@@ -1,0 +1,61 @@
+-- The ways in which the program ends, each with its status and its line.
+use Rattle.std.specs.Prelude.{ℕ, List, [], ◌∷◌, ◌++◌, codes}
+use Rattle.std.specs.Fmt.{decimal}
+use Rattle.disk_trait.specs.declared.area.Area.{Area}
+use Rattle.disk_trait.specs.declared.area.Area.TheVariants.{A, B}
+use Rattle.program_edge.specs.declared.ending.Ending.{Ending}
+use Rattle.program_edge.specs.declared.ending.Ending.TheVariants as ending
+
+-- the program's status
+abbrev pub status_of : Ending → ℕ
+status_of ending.Done = 0
+status_of ending.Usage = 1
+status_of ending.Script = 2
+status_of ending.Read = 3
+status_of ending.Unwritten = 4
+status_of ending.Unopened = 5
+status_of ending.Doubt = 5
+status_of (ending.NotABoard area) = 6
+status_of (ending.Damaged area at) = 6
+status_of ending.OutOfMemory = 7
+status_of ending.TooLong = 8
+status_of ending.Exists = 9
+
+-- a line, and its newline
+abbrev pub with_newline : List ℕ → List ℕ
+with_newline line = line ++ 10 ∷ []
+
+-- the word of an area
+abbrev pub area_word : Area → List ℕ
+area_word A = codes "a"
+area_word B = codes "b"
+
+-- the line of an area that isn't one of a board
+abbrev pub no_board_line : Area → List ℕ
+no_board_line A = with_newline (codes "{\"area\":\"a\",\"at\":0,\"fault\":\"not a board\"}")
+no_board_line B = with_newline (codes "{\"area\":\"b\",\"at\":0,\"fault\":\"not a board\"}")
+
+-- the line of a defect at a place of an area
+abbrev pub damaged_line : Area → ℕ → List ℕ
+damaged_line area at =
+    codes "{\"area\":\"" ++ (area_word area ++ (codes "\",\"at\":" ++ (decimal at ++ codes ",\"fault\":\"damaged\"}\n")))
+
+-- the line that a fault is told by, where it tells no place
+abbrev pub constant_line : Ending → List ℕ
+constant_line ending.Usage = with_newline (codes "{\"fault\":\"usage\"}")
+constant_line ending.Script = with_newline (codes "{\"fault\":\"script\"}")
+constant_line ending.Read = with_newline (codes "{\"fault\":\"read\"}")
+constant_line ending.Unopened = with_newline (codes "{\"fault\":\"disk\"}")
+constant_line (ending.NotABoard area) = no_board_line area
+constant_line (ending.Damaged area at) = []
+constant_line ending.TooLong = with_newline (codes "{\"fault\":\"too long\"}")
+constant_line ending.Exists = with_newline (codes "{\"fault\":\"exists\"}")
+constant_line ending.Done = []
+constant_line ending.Unwritten = []
+constant_line ending.Doubt = []
+constant_line ending.OutOfMemory = []
+
+-- the line that a fault is told by
+abbrev pub line_of : Ending → List ℕ
+line_of (ending.Damaged area at) = damaged_line area at
+line_of how = constant_line how

@@ -1,0 +1,12 @@
+//! The edge of the program: how it ends, what it prints at a fault, and the opening of the board.
+#![tactic(auto)]
+
+mod ending;
+mod opening;
+mod printing;
+mod top_end;
+
+pub use ending::{Ending, number_of};
+pub use opening::open;
+pub use printing::{ended_early, written};
+pub use top_end::TopEnd;

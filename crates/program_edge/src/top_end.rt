@@ -1,0 +1,16 @@
+use bbs_model::Item;
+use scenario_lines::Answered;
+
+/// How the program ended: its status, what it was given, and what its run did.
+pub struct TopEnd<S, K, D> {
+    pub status: u8,
+    pub source: S,
+    pub sink: K,
+    pub disk: D,
+    /// The items of this run, in the order of the board's log.
+    pub log: Vec<Item>,
+    /// The disk's clock at the end of the call of each item.
+    pub marks: Vec<u64>,
+    /// The calls of the phases that ran, and how each ended.
+    pub answers: Vec<Answered>,
+}
