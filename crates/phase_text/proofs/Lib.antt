@@ -1,0 +1,5 @@
+mod StableSorts
+mod Orders
+mod Finding
+mod Splitting
+mod Told

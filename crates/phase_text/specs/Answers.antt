@@ -1,0 +1,33 @@
+-- Which answers are those of a phase.
+use Rattle.std.specs.Prelude.{◌≡◌, ℕ, ◌≤◌, ◌<◌, List, length, All, AllPairs, Contains}
+use Rattle.std.specs.List.Sorted.{IsNonDecreasingBy}
+use Rattle.scenario_lines.specs.declared.actor.Actor.{Actor}
+use Rattle.scenario_lines.specs.declared.answered.Answered.{Answered}
+use Rattle.scenario_lines.specs.declared.script.Line.{Line}
+use Rattle.scenario_lines.specs.declared.script.Phase.{Phase}
+use Rattle.scenario_lines.specs.declared.script.Script.{Script}
+
+-- an answer is to one of these lines, and to the line's actor
+pub record IsToLine (lines : List Line) (a : Answered) : Type 0 where
+  pub line : Line
+  pub among : Contains lines line
+  pub number : line.line ≡ a.line
+  pub actor : line.actor ≡ a.actor
+
+-- it is to one of these actors too, which count from 1
+pub record IsAnswer (actors : List Actor) (lines : List Line) (a : Answered) : Type 0 where
+  pub line : IsToLine lines a
+  pub actor : (1 ≤ a.actor) × (a.actor ≤ length actors)
+
+-- the numbers of lines rise
+abbrev pub AreRising : List Line → Type 0
+AreRising lines = AllPairs (λ a b. a.line < b.line) lines
+
+-- the lines that answers are to don't fall
+abbrev pub AreByLine : List Answered → Type 0
+AreByLine answers = IsNonDecreasingBy (λ a. a.line) answers
+
+-- the answers are to lines of a phase of a script
+pub record AreAnswers (script : Script) (phase : Phase) (answers : List Answered) : Type 0 where
+  pub rising : AreRising phase.lines
+  pub each : All (IsAnswer script.actors phase.lines) answers

@@ -1,0 +1,5 @@
+pub mod Sorting
+pub mod Asking
+pub mod Answers
+pub mod Texts
+pub mod Laws

@@ -1,0 +1,130 @@
+//! The text of a phase.
+ghost use Rattle.std.specs.Prelude.{◌≡◌, ◌++◌, IfOk, OnOk, Some};
+ghost use Rattle.phase_text.specs.Answers.{AreAnswers, AreByLine};
+ghost use Rattle.phase_text.specs.Texts.{answers_before, answers_behind, answers_words, events_words, lines_words, phase_words, round_words};
+
+use crate::answering::answer_line;
+use bbs_model::Event;
+use convergence::Report;
+use diego_names::OutOfMemory;
+use record_print::{event_text, failed_round_text, report_text};
+use scenario_lines::{Answered, Phase, RoundLine, Script};
+use std::alloc::Global;
+
+/// The text of a phase, whose answers stand by line and whose events stand by key: each answer, and
+/// the report of its round where the round's line stands among theirs, and then each event. A round
+/// without a report was ended by a fault of the disk, and is told so.
+pub fn phase_text(
+    alloc: Global,
+    script: &Script,
+    phase: &Phase,
+    answers: &[Answered],
+    report: &Option<Report>,
+    events: &[Event],
+) -> Result<Vec<u8>, OutOfMemory>
+    requires answers { AreAnswers script.now phase.now answers.now }
+    requires by_line { AreByLine answers.now }
+    ensures { IfOk result (λ text.
+        text.items ≡ phase_words script.now phase.now answers.now report.now events.now) }
+{
+    let mut text = Vec::new(alloc);
+    add_lines(&mut text, alloc, script, phase, answers, report)?;
+    add_events(&mut text, alloc, events)?;
+    Ok(text)
+}
+
+fn add_lines(
+    text: &mut Vec<u8>,
+    alloc: Global,
+    script: &Script,
+    phase: &Phase,
+    answers: &[Answered],
+    report: &Option<Report>,
+) -> Result<(), OutOfMemory>
+    requires answers { AreAnswers script.now phase.now answers.now }
+    requires by_line { AreByLine answers.now }
+    ensures { OnOk result (text.new.items ≡ text.old.items
+        ++ lines_words script.now.actors phase.now.lines phase.now.round answers.now report.now) }
+{
+    match &phase.round {
+        None => add_answers(text, alloc, script, phase, answers)?,
+        Some(round) => add_around(text, alloc, script, phase, round, answers, report)?,
+    }
+    Ok(())
+}
+
+// A round's line, and the answers on both sides of it.
+fn add_around(
+    text: &mut Vec<u8>,
+    alloc: Global,
+    script: &Script,
+    phase: &Phase,
+    round: &RoundLine,
+    answers: &[Answered],
+    report: &Option<Report>,
+) -> Result<(), OutOfMemory>
+    requires answers { AreAnswers script.now phase.now answers.now }
+    requires by_line { AreByLine answers.now }
+    ensures { OnOk result (text.new.items ≡ text.old.items
+        ++ lines_words script.now.actors phase.now.lines (Some round.now) answers.now report.now) }
+{
+    let (before, behind) = split_by(answers, round.line);
+    add_answers(text, alloc, script, phase, before)?;
+    add_round(text, alloc, round, report)?;
+    add_answers(text, alloc, script, phase, behind)?;
+    Ok(())
+}
+
+// The answers to lines before a line, and the others.
+fn split_by(answers: &[Answered], number: u32) -> (&[Answered], &[Answered])
+    requires { AreByLine answers.now }
+    ensures before { result.0.now ≡ answers_before number answers.now }
+    ensures behind { result.1.now ≡ answers_behind number answers.now }
+{
+    let split = answers.partition_point(|answered| answered.line < number);
+    answers.split_at(split)
+}
+
+fn add_answers(
+    text: &mut Vec<u8>,
+    alloc: Global,
+    script: &Script,
+    phase: &Phase,
+    answers: &[Answered],
+) -> Result<(), OutOfMemory>
+    requires { AreAnswers script.now phase.now answers.now }
+    ensures { OnOk result (text.new.items ≡ text.old.items
+        ++ answers_words script.now.actors phase.now.lines answers.now) }
+{
+    for answered in answers {
+        let line = answer_line(alloc, script.actors.items(), phase.lines.items(), answered)?;
+        text.extend_from_slice(&line)?;
+    }
+    Ok(())
+}
+
+fn add_round(
+    text: &mut Vec<u8>,
+    alloc: Global,
+    round: &RoundLine,
+    report: &Option<Report>,
+) -> Result<(), OutOfMemory>
+    ensures { OnOk result (text.new.items ≡ text.old.items ++ round_words round.now report.now) }
+{
+    let line = match report {
+        Some(report) => report_text(alloc, report)?,
+        None => failed_round_text(alloc, round.line)?,
+    };
+    text.extend_from_slice(&line)?;
+    Ok(())
+}
+
+fn add_events(text: &mut Vec<u8>, alloc: Global, events: &[Event]) -> Result<(), OutOfMemory>
+    ensures { OnOk result (text.new.items ≡ text.old.items ++ events_words events.now) }
+{
+    for event in events {
+        let line = event_text(alloc, event)?;
+        text.extend_from_slice(&line)?;
+    }
+    Ok(())
+}

@@ -1,0 +1,162 @@
+//! Phases of actors: lines that are run more than once, and lines that made no command.
+use super::{OK, answer, called, instance, line, name, parts, phase, script, tells, web};
+use bbs_model::{BoardRefusal, Change, Event, Op, Reply, Row};
+use cell_records::JobName;
+use cell_rep::{CallEnd, CellAct, RepRefusal};
+use container_store::StoreRefusal;
+use crash_backoff::Moment;
+use diego_names::StateName;
+use scenario_lines::{Act, Line};
+use std::test::Fail;
+use task_records::{Task, TaskRefusal, TaskState};
+
+fn job(birth: u64, since: u32, change: Change, state: TaskState) -> Result<Event, Fail> {
+    let row = Row::Task(Task {
+        name: name("job")?,
+        birth,
+        state,
+        since: Moment(since),
+        memory: 64,
+        disk: 64,
+        tag: None,
+    });
+    Ok(Event { change, row })
+}
+
+#[test]
+fn each_run_of_a_line_has_its_answer(rt: HostRuntime) -> Result<(), Fail> {
+    let alloc = rt.alloc();
+    let (name, failed) = (name("job")?, false);
+    let finish = Line {
+        times: 2,
+        ..line(8, 1, Act::Cell(CellAct::Finish { name, failed }))
+    };
+    let complete = Op::CompleteTask {
+        name,
+        instance: instance(0, 1),
+        failed,
+    };
+    let state = StateName::Completed;
+    let refused = CallEnd::Got(Reply::Refused {
+        why: BoardRefusal::Task(TaskRefusal::WrongState { state }),
+        place: 4,
+    });
+    let lost = CallEnd::ReplyLost(Ok(Reply::Ok { place: 3, stamp: 3 }));
+    tells(
+        &rt,
+        alloc,
+        &script(alloc, &[(true, "c1"), (false, "cli")])?,
+        &phase(alloc, &[finish], None)?,
+        &parts(
+            alloc,
+            &[
+                &[
+                    called(&finish, complete, lost),
+                    called(&finish, complete, refused),
+                ],
+                &[],
+            ],
+        )?,
+        &None,
+        &[job(1, 9, Change::Changed, TaskState::Completed { failed })?],
+        &[
+            r#"{"actor":"c1","answer":"lost reply","call":"completetask","line":8,"subject":"job"}"#,
+            r#"{"actor":"c1","answer":"refused","call":"completetask","line":8,"subject":"job","why":"wrong state completed"}"#,
+            r#"{"event":"changed","row":{"birth":1,"cell":null,"disk":64,"failed":false,"instance":null,"memory":64,"name":"job","since":9,"state":"completed","tag":null},"table":"task"}"#,
+        ],
+    )
+}
+
+#[test]
+fn events_of_one_row_stay_in_their_order(rt: HostRuntime) -> Result<(), Fail> {
+    let alloc = rt.alloc();
+    let name = name("job")?;
+    let (resolve, delete) = (Op::ResolveTask { name }, Op::DeleteTask { name });
+    let make = Op::NewTask {
+        name,
+        memory: 64,
+        disk: 64,
+        tag: None,
+    };
+    let resolving = TaskState::Resolving { failed: false };
+    let lines = [
+        line(10, 2, Act::Client(resolve)),
+        line(11, 2, Act::Client(delete)),
+        line(12, 2, Act::Client(make)),
+    ];
+    tells(
+        &rt,
+        alloc,
+        &script(alloc, &[(true, "c1"), (false, "cli")])?,
+        &phase(alloc, &lines, None)?,
+        &parts(
+            alloc,
+            &[
+                &[],
+                &[
+                    called(&lines[0], resolve, OK),
+                    called(&lines[1], delete, OK),
+                    called(&lines[2], make, OK),
+                ],
+            ],
+        )?,
+        &None,
+        &[
+            job(1, 10, Change::Changed, resolving)?,
+            job(1, 10, Change::Removed, resolving)?,
+            job(6, 10, Change::Created, TaskState::Pending)?,
+        ],
+        &[
+            r#"{"actor":"cli","answer":"ok","call":"resolve","line":10,"subject":"job"}"#,
+            r#"{"actor":"cli","answer":"ok","call":"delete","line":11,"subject":"job"}"#,
+            r#"{"actor":"cli","answer":"ok","call":"task","line":12,"subject":"job"}"#,
+            r#"{"event":"changed","row":{"birth":1,"cell":null,"disk":64,"failed":false,"instance":null,"memory":64,"name":"job","since":10,"state":"resolving","tag":null},"table":"task"}"#,
+            r#"{"event":"removed","row":{"birth":1,"cell":null,"disk":64,"failed":false,"instance":null,"memory":64,"name":"job","since":10,"state":"resolving","tag":null},"table":"task"}"#,
+            r#"{"event":"created","row":{"birth":6,"cell":null,"disk":64,"failed":null,"instance":null,"memory":64,"name":"job","since":10,"state":"pending","tag":null},"table":"task"}"#,
+        ],
+    )
+}
+
+#[test]
+fn a_line_without_a_command_tells_its_own_word_and_job(rt: HostRuntime) -> Result<(), Fail> {
+    let alloc = rt.alloc();
+    let claim = CellAct::Claim {
+        job: JobName::Lrp(web(0)?),
+        memory: 64,
+        disk: 128,
+    };
+    let job = Some(JobName::Task(name("job")?));
+    let lines = [
+        line(4, 1, Act::Cell(claim)),
+        line(5, 2, Act::Cell(CellAct::Up { job })),
+        line(6, 1, Act::Cell(CellAct::Die)),
+        line(7, 1, Act::Evacuate),
+    ];
+    let full = CallEnd::Local(RepRefusal::Store(StoreRefusal::NoMemoryLeft));
+    let down = CallEnd::Local(RepRefusal::Down);
+    tells(
+        &rt,
+        alloc,
+        &script(alloc, &[(true, "c1"), (true, "c2")])?,
+        &phase(alloc, &lines, None)?,
+        &parts(
+            alloc,
+            &[
+                &[
+                    answer(&lines[0], None, full),
+                    answer(&lines[2], None, CallEnd::Idle),
+                    answer(&lines[3], None, down),
+                ],
+                &[answer(&lines[1], None, CallEnd::Idle)],
+            ],
+        )?,
+        &None,
+        &[],
+        &[
+            r#"{"actor":"c1","answer":"refused","call":"claim","line":4,"subject":"web/0","why":"no memory left"}"#,
+            r#"{"actor":"c2","answer":"none","call":"up","line":5,"subject":"job"}"#,
+            r#"{"actor":"c1","answer":"none","call":"die","line":6,"subject":"c1"}"#,
+            r#"{"actor":"c1","answer":"refused","call":"evacuate","line":7,"subject":"c1","why":"down"}"#,
+        ],
+    )
+}

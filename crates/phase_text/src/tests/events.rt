@@ -1,0 +1,116 @@
+//! The order of events: by table, by key, and the ORDINARY row before the EVACUATING one.
+use super::{
+    OK, TOTALS, actual_event, called, desired, instance, line, name, parts, phase, script, tells,
+    unclaimed, web,
+};
+use crate::events_by_key;
+use bbs_model::{Change, Event, Op, Row};
+use cell_records::CellRow;
+use crash_backoff::Moment;
+use lrp_records::{Actual, LrpState, Presence};
+use scenario_lines::Act;
+use std::test::Fail;
+use task_records::{Task, TaskState};
+
+fn cell(text: &str) -> Result<CellRow, Fail> {
+    Ok(CellRow {
+        cell: name(text)?,
+        zone: name("z1")?,
+        tag: None,
+        totals: TOTALS,
+        epoch: 0,
+        until: 600,
+        evacuating: true,
+    })
+}
+
+fn evacuating(index: u32) -> Result<Actual, Fail> {
+    Ok(Actual {
+        presence: Presence::Evacuating,
+        state: LrpState::Running {
+            instance: instance(0, 1),
+            cell: name("c1")?,
+        },
+        ..unclaimed(index, 2)?
+    })
+}
+
+#[test]
+fn an_evacuation_is_told_by_its_calls_and_then_by_its_rows(rt: HostRuntime) -> Result<(), Fail> {
+    let alloc = rt.alloc();
+    let evacuate = line(10, 1, Act::Evacuate);
+    let drain = Op::Drain {
+        cell: name("c1")?,
+        epoch: 0,
+    };
+    let leave = Op::Evacuate {
+        key: web(0)?,
+        instance: instance(0, 1),
+    };
+    let emptied = Event {
+        change: Change::Changed,
+        row: Row::Cell(cell("c1")?),
+    };
+    tells(
+        &rt,
+        alloc,
+        &script(alloc, &[(true, "c1"), (false, "cli")])?,
+        &phase(alloc, &[evacuate], None)?,
+        &parts(
+            alloc,
+            &[
+                &[called(&evacuate, drain, OK), called(&evacuate, leave, OK)],
+                &[],
+            ],
+        )?,
+        &None,
+        &[
+            emptied,
+            actual_event(Change::Created, evacuating(0)?),
+            actual_event(Change::Changed, unclaimed(0, 3)?),
+        ],
+        &[
+            r#"{"actor":"c1","answer":"ok","call":"drain","line":10,"subject":"c1"}"#,
+            r#"{"actor":"c1","answer":"ok","call":"evacuate","line":10,"subject":"web/0"}"#,
+            r#"{"event":"changed","row":{"cell":null,"count":0,"error":false,"index":0,"instance":null,"presence":"ordinary","process":"web","since":3,"state":"unclaimed"},"table":"actual"}"#,
+            r#"{"event":"created","row":{"cell":"c1","count":0,"error":false,"index":0,"instance":"0.1","presence":"evacuating","process":"web","since":2,"state":"running"},"table":"actual"}"#,
+            r#"{"event":"changed","row":{"cell":"c1","containers":10,"disk":4096,"epoch":0,"evacuating":true,"memory":1024,"tag":null,"until":600,"zone":"z1"},"table":"cell"}"#,
+        ],
+    )
+}
+
+#[test]
+fn events_stand_by_table_key_and_presence(rt: HostRuntime) -> Result<(), Fail> {
+    let job = Task {
+        name: name("a")?,
+        birth: 0,
+        state: TaskState::Pending,
+        since: Moment(0),
+        memory: 1,
+        disk: 1,
+        tag: None,
+    };
+    let sorted = [
+        Row::Desired(desired("b", 1)?),
+        Row::Desired(desired("ba", 1)?),
+        Row::Actual(unclaimed(0, 0)?),
+        Row::Actual(evacuating(0)?),
+        Row::Actual(unclaimed(2, 0)?),
+        Row::Actual(unclaimed(10, 0)?),
+        Row::Task(job),
+        Row::Cell(cell("a")?),
+        Row::Cell(cell("b")?),
+    ];
+    let mut mixed = Vec::new(rt.alloc());
+    for at in [8, 3, 5, 0, 7, 2, 6, 4, 1] {
+        let change = Change::Changed;
+        let row = sorted[at];
+        mixed.push(Event { change, row })?;
+    }
+    let events = events_by_key(rt.alloc(), mixed.as_slice())?;
+    assert_eq!(rt; events.len(), sorted.len());
+    for (event, row) in events.items().iter().zip(sorted.iter()) {
+        assert!(rt; event.row == *row, "a row out of its place");
+    }
+    Ok(())
+}

@@ -1,0 +1,61 @@
+//! Whether answers are those of a phase, which the text of a phase asks for.
+ghost use Rattle.std.specs.Prelude.{All, IsTrue};
+ghost use Rattle.phase_text.specs.Answers.{AreAnswers, AreRising, IsAnswer, IsToLine};
+
+use scenario_lines::{Actor, Answered, Line, Phase, Script};
+
+pub fn fits(script: &Script, phase: &Phase, answers: &[Answered]) -> bool
+    ensures { IsTrue result → AreAnswers script.now phase.now answers.now }
+{
+    let lines = phase.lines.items();
+    if !rises(lines) {
+        return false;
+    }
+    are_answers(script.actors.items(), lines, answers)
+}
+
+#[tactic(auto, using(crate::proofs::Fitting::rises_to_none, crate::proofs::Fitting::rises_to_more, crate::proofs::Fitting::rises_at_end))]
+fn rises(lines: &[Line]) -> bool
+    ensures { IsTrue result → AreRising lines.now }
+{
+    let mut last = 0;
+    for line in lines {
+        if line.line <= last {
+            return false;
+        }
+        last = line.line;
+    }
+    true
+}
+
+fn are_answers(actors: &[Actor], lines: &[Line], answers: &[Answered]) -> bool
+    ensures { IsTrue result → All (IsAnswer actors.now lines.now) answers.now }
+{
+    for answered in answers {
+        if !is_answer(actors, lines, answered) {
+            return false;
+        }
+    }
+    true
+}
+
+fn is_answer(actors: &[Actor], lines: &[Line], answered: &Answered) -> bool
+    ensures { IsTrue result → IsAnswer actors.now lines.now answered.now }
+{
+    if answered.actor < 1 || answered.actor as usize > actors.len() {
+        return false;
+    }
+    has_line(lines, answered)
+}
+
+#[tactic(auto, using(crate::proofs::Fitting::to_line_at))]
+fn has_line(lines: &[Line], answered: &Answered) -> bool
+    ensures { IsTrue result → IsToLine lines.now answered.now }
+{
+    for line in lines {
+        if line.line == answered.line && line.actor == answered.actor {
+            return true;
+        }
+    }
+    false
+}
