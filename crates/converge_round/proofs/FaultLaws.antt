@@ -1,7 +1,7 @@
 -- Why a round ended with a fault.
-use Rattle.std.proofs.Common.{◌≡◌, ℕ, zero, suc, List, [], ◌∷◌, ◌++◌, length, get_or, Option, Some, Result, Ok, Err, refl, sym, ap, subst, ◌∙◌, append_assoc, arith, length-append, inl, inr, ◌⊎◌, ⊎_elim}
+use Rattle.std.proofs.Common.{◌≡◌, ℕ, List, [], ◌∷◌, ◌++◌, length, get_or, Option, Some, Result, Ok, Err, refl, sym, ap, subst, ◌∙◌, append_assoc, arith, length-append, inl, inr, ◌⊎◌, ⊎_elim}
 use Rattle.std.specs.Prelude.{slice_get, IfErr, IsOkUnless}
-use Rattle.std.proofs.lemmas.List.Elements.{Contains-append_left, Contains-append_right}
+use Rattle.std.proofs.lemmas.List.Elements.{Contains-append_right}
 use Rattle.std.proofs.lemmas.Result.{IfErr-weaker}
 use Rattle.bbs_model.specs.Calls.{Ends}
 use Rattle.bbs_model.specs.PortView.{PortView, IsCalled, IsLater}
@@ -32,19 +32,14 @@ last_stands : (xs : List Item) (x : Item) → slice_get (xs ++ x ∷ []) (length
 last_stands [] x = refl
 last_stands (y ∷ ys) x = last_stands ys x
 
--- what stands in a list stays there when more comes behind
-still_stands : (xs more : List Item) (k : ℕ) (x : Item) → slice_get xs k ≡ Some x → slice_get (xs ++ more) k ≡ Some x
-still_stands [] more k x e = absurd cc
-still_stands (y ∷ ys) more zero x e = e
-still_stands (y ∷ ys) more (suc k) x e = still_stands ys more k x e
-
 -- a fault of the disk tells the place of its turn
 place_of_fault : (turn : Verdict) (here stamp place : ℕ) → Ends turn here stamp (Err (fault.Disk place)) → place ≡ here
 place_of_fault verdict.Ok here stamp place h = ⊎_elim (λ e. absurd cc) (λ r. ⊎_elim (λ e. cc) (λ e. absurd cc) r) h
 place_of_fault verdict.Same here stamp place h = absurd cc
 place_of_fault (verdict.Refused why) here stamp place h = absurd cc
 
-doubted_at_once : (by : ℕ) (v : PortView) (c : Command) (place : ℕ) (w : PortView) → IsCalled by v c (Err (fault.Disk place)) w → IsDoubtedAt by place v w
+doubted_at_once : (by : ℕ) (v : PortView) (c : Command) (place : ℕ) (w : PortView)
+    → IsCalled by v c (Err (fault.Disk place)) w → IsDoubtedAt by place v w
 doubted_at_once by v c place w h =
     let before = v.seen ++ h.others in
     let here : place ≡ length before = place_of_fault _ (length before) _ place h.ends in
@@ -65,7 +60,8 @@ doubted_at_once by v c place w h =
     }
 
 -- the fault of a call
-pub caused_at_once : (by : ℕ) (v : PortView) (c : Command) (why : CallFault) (w : PortView) → IsCalled by v c (Err why) w → IsCausedBy by v w why
+pub caused_at_once : (by : ℕ) (v : PortView) (c : Command) (why : CallFault) (w : PortView)
+    → IsCalled by v c (Err why) w → IsCausedBy by v w why
 caused_at_once by v c why w h = record {
   disk = λ place e. doubted_at_once by v c place w (subst (λ f. IsCalled by v c (Err f) w) e h);
 }
@@ -74,7 +70,8 @@ caused_at_once by v c why w h = record {
 pub caused_by_want : (by : ℕ) (v w : PortView) → IsCausedBy by v w fault.OutOfMemory
 caused_by_want by v w = record { disk = λ place e. absurd cc }
 
-pub caused_by_nothing_else : {X : Type 0} (r : Result X CallFault) (by : ℕ) (v w : PortView) → IsOkUnless r fault.OutOfMemory → IfErr r (IsCausedBy by v w)
+pub caused_by_nothing_else : {X : Type 0} (r : Result X CallFault) (by : ℕ) (v w : PortView)
+    → IsOkUnless r fault.OutOfMemory → IfErr r (IsCausedBy by v w)
 caused_by_nothing_else (Ok x) by v w h = tt
 caused_by_nothing_else (Err why) by v w h = subst (IsCausedBy by v w) (sym h) (caused_by_want by v w)
 
@@ -105,24 +102,12 @@ caused_before by by' u v w why same f h = record {
 -- the same of a call that comes to an end with it
 pub causes_before : {X : Type 0} (r : Result X CallFault) (by by' : ℕ) (u v w : PortView) → by' ≡ by → IsLater u v
     → IfErr r (IsCausedBy by' v w) → IfErr r (IsCausedBy by u w)
-causes_before r by by' u v w same f h = IfErr-weaker r (IsCausedBy by' v w) (IsCausedBy by u w) (λ why. caused_before by by' u v w why same f) h
-
-doubted_later : (by place : ℕ) (u v w : PortView) → IsLater v w → IsDoubtedAt by place u v → IsDoubtedAt by place u w
-doubted_later by place u v w f d = record {
-  command = d.command;
-  later = joined u v w d.later f;
-  behind = d.behind;
-  stands = ap (λ xs. slice_get xs place) f.seen.1 ∙ still_stands v.seen f.seen.0 place (Doubt by d.command) d.stands;
-  own = Contains-append_left d.later.mine.0 f.mine.0 (Doubt by d.command) d.own;
-}
-
--- the cause of a fault stays
-pub caused_later : (by : ℕ) (u v w : PortView) (why : CallFault) → IsLater v w → IsCausedBy by u v why → IsCausedBy by u w why
-caused_later by u v w why f h = record { disk = λ place e. doubted_later by place u v w f (h.disk place e) }
+causes_before r by by' u v w same f h =
+    IfErr-weaker r (IsCausedBy by' v w) (IsCausedBy by u w) (λ why. caused_before by by' u v w why same f) h
 
 -- want of memory is the only fault of an end that is neither a fault of the disk nor hides one
-only_want : (by : ℕ) (v w : PortView) (end : CallEnd) (why : CallFault) → ((x : CallFault) → (end ≡ Fault x) ⊎ (end ≡ ReplyLost (Err x)) → x ≡ fault.OutOfMemory)
-    → IsFaultOf end why → IsCausedBy by v w why
+only_want : (by : ℕ) (v w : PortView) (end : CallEnd) (why : CallFault)
+    → ((x : CallFault) → (end ≡ Fault x) ⊎ (end ≡ ReplyLost (Err x)) → x ≡ fault.OutOfMemory) → IsFaultOf end why → IsCausedBy by v w why
 only_want by v w end why only h = subst (IsCausedBy by v w) (sym (⊎_elim
     (λ e. only why (inl e))
     (λ r. ⊎_elim (λ e. only why (inr e)) (λ e. e) r) h)) (caused_by_want by v w)
@@ -142,18 +127,20 @@ caused_todo by cell ends (todo.Local refusal) v a w why is h f =
     let end : a.end ≡ Local refusal = ap (λ (x : Called). x.end) is in
     only_want by v w a.end why (λ x. ⊎_elim (λ e. absurd cc) (λ e. absurd cc)) f
 
-caused_follows : (by : ℕ) (cell : List ℕ) (ends : Option WireEnds) (t : Todo) (rep rep' : CellRep) (v w : PortView) (a : Called) (why : CallFault)
-    → Follows by cell ends (t ∷ []) rep v (a ∷ []) rep' w → IsFaultOf a.end why → IsCausedBy by v w why
+caused_follows : (by : ℕ) (cell : List ℕ) (ends : Option WireEnds) (t : Todo) (rep rep' : CellRep) (v w : PortView)
+    (a : Called) (why : CallFault) → Follows by cell ends (t ∷ []) rep v (a ∷ []) rep' w → IsFaultOf a.end why → IsCausedBy by v w why
 caused_follows by cell ends t rep rep' v w a why h f =
     subst (λ x. IsCausedBy by v x why) (sym h.3.1) (caused_todo by cell ends t v a h.0 why h.1 h.2 f)
 
 -- the fault of a start
-pub caused_started : (by : ℕ) (job : Job) (now : Moment) (rep rep' : CellRep) (v w : PortView) (ends ends' : Option WireEnds) (losses losses' : ℕ) (a : Called) (why : CallFault)
+pub caused_started : (by : ℕ) (job : Job) (now : Moment) (rep rep' : CellRep) (v w : PortView) (ends ends' : Option WireEnds)
+    (losses losses' : ℕ) (a : Called) (why : CallFault)
     → IsStarted by job now (stage rep v ends losses []) (stage rep' w ends' losses' (a ∷ [])) → IsFaultOf a.end why → IsCausedBy by v w why
 caused_started by job now rep rep' v w ends ends' losses losses' a why h f = ⊎_elim
     (λ p.
     let todo : Todo = job_todo job now rep.cell rep.joined in
-    caused_follows by rep.cell ends todo _ rep' v w a why (subst (λ xs. Follows by rep.cell ends (todo ∷ []) _ v xs rep' w) (sym p.out_is) p.follows) f)
+    caused_follows by rep.cell ends todo _ rep' v w a why
+    (subst (λ xs. Follows by rep.cell ends (todo ∷ []) _ v xs rep' w) (sym p.out_is) p.follows) f)
     (λ e.
     let same : a ∷ [] ≡ starved ∷ [] = ap (λ (x : Stage). x.out) e in
     let end : a.end ≡ Fault fault.OutOfMemory = ap (λ xs. (get_or xs 0 a).end) same in
