@@ -94,7 +94,8 @@ doubted_before by place u v w f d = record {
 }
 
 -- the fault of what was done from a later view on, by a caller of that number
-pub caused_before : (by by' : ℕ) (u v w : PortView) (why : CallFault) → by' ≡ by → IsLater u v → IsCausedBy by' v w why → IsCausedBy by u w why
+pub caused_before : (by by' : ℕ) (u v w : PortView) (why : CallFault) → by' ≡ by → IsLater u v
+    → IsCausedBy by' v w why → IsCausedBy by u w why
 caused_before by by' u v w why same f h = record {
   disk = λ place e. doubted_before by place u v w f (subst (λ n. IsDoubtedAt n place v w) same (h.disk place e));
 }

@@ -81,7 +81,8 @@ pub returns-in-Err-clause-cause : goal.returns-in-Err-clause-cause
 returns-in-Err-clause-cause g c = caused_by_want _ _ _
 
 pub returns-in-Err-open_round-clause-cause : goal.returns-in-Err-open_round-clause-cause
-returns-in-Err-open_round-clause-cause g c = caused_before _ _ _ _ _ _ c.place-start.ensures.number (later_looks _ _ c.place-start.ensures.looks) c.in-Err-open_round.ensures.cause
+returns-in-Err-open_round-clause-cause g c =
+    caused_before _ _ _ _ _ _ c.place-start.ensures.number (later_looks _ _ c.place-start.ensures.looks) c.in-Err-open_round.ensures.cause
 
 pub returns-in-Err-start_each-clause-cause : goal.returns-in-Err-start_each-clause-cause
 returns-in-Err-start_each-clause-cause g c =
@@ -91,7 +92,8 @@ returns-in-Err-start_each-clause-cause g c =
 pub returns-in-Err-call_fails-clause-cause : goal.returns-in-Err-call_fails-clause-cause
 returns-in-Err-call_fails-clause-cause g c =
     caused_before _ _ _ _ _ _ (c.start_each.ensures.number ∙ (c.open_round.ensures.number ∙ c.place-start.ensures.number))
-    (later_then _ _ _ (later_then _ _ _ (later_looks _ _ c.place-start.ensures.looks) c.open_round.ensures.own.asked.later) c.start_each.ensures.own.later)
+    (later_then _ _ _ (later_then _ _ _ (later_looks _ _ c.place-start.ensures.looks) c.open_round.ensures.own.asked.later)
+    c.start_each.ensures.own.later)
     c.in-Err-call_fails.ensures.cause
 
 pub returns-in-Err-report_of-clause-cause : goal.returns-in-Err-report_of-clause-cause

@@ -20,4 +20,5 @@ pub returns-in-Err-clause-cause : goal.returns-in-Err-clause-cause
 returns-in-Err-clause-cause g c = caused_by_want _ _ _
 
 pub returns-in-Ok-clause-cause : goal.returns-in-Ok-clause-cause
-returns-in-Ok-clause-cause g c = causes_before c.call_each.result _ _ _ _ _ c.in-Ok.ensures.number (later_looks _ _ c.in-Ok.ensures.looks) c.call_each.ensures.cause
+returns-in-Ok-clause-cause g c =
+    causes_before c.call_each.result _ _ _ _ _ c.in-Ok.ensures.number (later_looks _ _ c.in-Ok.ensures.looks) c.call_each.ensures.cause

@@ -81,7 +81,8 @@ pub returns-in-Err-clause-cause : goal.returns-in-Err-clause-cause
 returns-in-Err-clause-cause g c = caused_by_want _ _ _
 
 pub returns-in-Err-call_work-clause-cause : goal.returns-in-Err-call_work-clause-cause
-returns-in-Err-call_work-clause-cause g c = caused_before _ _ _ _ _ _ c.hear.ensures.number (later_looks _ _ c.hear.ensures.looks) c.in-Err-call_work.ensures.cause
+returns-in-Err-call_work-clause-cause g c =
+    caused_before _ _ _ _ _ _ c.hear.ensures.number (later_looks _ _ c.hear.ensures.looks) c.in-Err-call_work.ensures.cause
 
 pub returns-in-Err-call_plan-clause-cause : goal.returns-in-Err-call_plan-clause-cause
 returns-in-Err-call_plan-clause-cause g c =
