@@ -1,12 +1,11 @@
 -- Each job that the auction gives to a cell finds room there.
-use Rattle.std.proofs.Common.{◌≡◌, ℕ, ◌≤◌, Bool, true, false, cond, ◌&&◌, nat_eq, nat_le, nat_lt, List, [], ◌∷◌, ◌++◌, map, filter_map, Option, Some, None, refl, sym, ap, subst, ◌∙◌, arith, ⊎_elim}
+use Rattle.std.proofs.Common.{◌≡◌, ℕ, ◌≤◌, Bool, true, false, cond, ◌&&◌, nat_eq, nat_le, nat_lt, List, [], ◌∷◌, map, filter_map, Option, Some, None, refl, sym, ap, subst, ◌∙◌, arith, ⊎_elim}
 use Rattle.std.specs.Cmp.Lexicographic.{pointwise, same_text}
 use Rattle.std.specs.List.{Contains, cons_option}
-use Rattle.std.specs.Option.{option_eq, option_map, option_map_or, option_and_then}
+use Rattle.std.specs.Option.{option_eq, option_map, option_map_or}
 use Rattle.std.proofs.lemmas.Bool.{leb-true}
 use Rattle.std.proofs.lemmas.Cmp.{nat_list_eq_equiv}
 use Rattle.std.proofs.lemmas.List.Elements.{Contains-append_cases}
-use Rattle.auction_scoring.specs.Fits.{fits}
 use Rattle.auctioneer.specs.Asked.{AreAnswers}
 use Rattle.auctioneer.specs.Laws.{job_in, AtEachTurn, UsesRoom}
 use Rattle.auctioneer.specs.Order.{turn_of, turn_order, in_order}
@@ -22,15 +21,13 @@ use Rattle.cell_records.specs.declared.amounts.Amounts.{Amounts}
 use Rattle.cell_records.specs.declared.answer.Answer.{Answer}
 use Rattle.cell_records.specs.declared.job.Job.{Job}
 use Rattle.cell_records.specs.declared.job_name.JobName.{JobName}
-use Rattle.cell_records.specs.declared.job_name.JobName.TheVariants as name
 use Rattle.converge_laws.proofs.Public.{inside_first, inside_rest, from_map}
 use Rattle.converge_round.specs.Jobs.{instance_job, waiting_job, row_job, job_of_task, pending_job, task_job, jobs, named_job}
-use Rattle.converge_round.specs.Places.{job_on, jobs_on, placements}
+use Rattle.converge_round.specs.Places.{jobs_on, placements}
 use Rattle.converge_round.proofs.Public.{from_kept}
 use Rattle.diego_names.proofs.Public.{IsKeyOrder-name_order}
 use Rattle.diego_names.specs.Order.{name_order}
 use Rattle.diego_names.specs.declared.key.Key.{Key}
-use Rattle.lrp_records.specs.declared.actual.Actual.{Actual}
 use Rattle.lrp_records.specs.declared.presence.Presence.{Presence}
 use Rattle.lrp_records.specs.declared.presence.Presence.TheVariants.{Ordinary, Evacuating}
 use Rattle.lrp_records.specs.declared.state.LrpState.{LrpState}

@@ -1,5 +1,5 @@
 -- What a round loses by the ends that the wire tells.
-use Rattle.std.proofs.Common.{◌≡◌, ℕ, ◌+◌, [], length, sym, ap, subst, ◌∙◌, arith}
+use Rattle.std.proofs.Common.{◌≡◌, [], length, sym, ap, subst, ◌∙◌, arith}
 use Rattle.std.specs.List.{Contains}
 use Rattle.bbs_model.specs.PortView.{rows_seen}
 use Rattle.bbs_model.specs.Work.{work}
@@ -15,7 +15,7 @@ use Rattle.converge_round.specs.Stops.{stops_at, so_far}
 use Rattle.converge_round.specs.Tallies.{no_calls}
 use Rattle.converge_round.specs.declared.tally.Tally.{Tally}
 use Rattle.round_laws.proofs.Public.{are-heard, heard_cell, heard_named, in_course, lost_each}
-use Rattle.round_completeness.specs.Ends.{AreHeard, IsByEnds, RoundsLoseByTheEnds}
+use Rattle.round_completeness.specs.Ends.{AreHeard, RoundsLoseByTheEnds}
 use Rattle.round_completeness.proofs.Ready.{are-ready}
 use Rattle.round_completeness.proofs.StartsTold.{serves-so}
 use Rattle.round_completeness.proofs.Telling.{Tells, asks-so, stops-so}

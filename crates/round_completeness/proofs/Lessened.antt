@@ -1,7 +1,6 @@
 -- What the reps answer once strays are stopped.
-use Rattle.std.proofs.Common.{◌≡◌, ◌≢◌, ℕ, ◌≤◌, ◌<◌, Bool, true, false, not, cond, List, [], ◌∷◌, ◌++◌, length, filter, get_or, set, Option, Some, None, Result, Ok, refl, sym, ap, subst, ◌∙◌, arith}
+use Rattle.std.proofs.Common.{◌≡◌, ◌≢◌, ℕ, Bool, true, false, not, cond, List, [], ◌∷◌, ◌++◌, filter, get_or, set, Option, Some, None, Ok, refl, sym, ap, subst, ◌∙◌, arith}
 use Rattle.std.specs.Cmp.Lexicographic.{same_text}
-use Rattle.std.specs.List.{All}
 use Rattle.std.specs.Option.{option_map, option_map_or}
 use Rattle.std.specs.Result.{result_unwrap_or}
 use Rattle.std.specs.Ordering.{nat_cmp}
@@ -18,7 +17,7 @@ use Rattle.cell_rep.specs.Reps.{answer_in, answer_of, store_result}
 use Rattle.cell_rep.specs.declared.joined.Joined.{Joined}
 use Rattle.cell_rep.specs.declared.rep.CellRep.{CellRep}
 use Rattle.container_store.specs.Changes.{if_held, without_container}
-use Rattle.container_store.specs.Store.{StoreView, IsGiven, number_of, find_container}
+use Rattle.container_store.specs.Store.{IsGiven, number_of, find_container}
 use Rattle.container_store.proofs.Rising.{IsRising-filter}
 use Rattle.converge_round.specs.Askings.{StandApart}
 use Rattle.converge_round.specs.Each.{Each}
@@ -27,7 +26,7 @@ use Rattle.converge_round.specs.Stops.{StopsIf, LetsGo, if_done, Stopped, StopsO
 use Rattle.converge_round.proofs.Public.{name_there}
 use Rattle.diego_names.specs.declared.instance.Instance.{Instance}
 use Rattle.lrp_records.specs.States.{is_same_instance}
-use Rattle.round_laws.proofs.Public.{cell_stays, names_after, names_set}
+use Rattle.round_laws.proofs.Public.{cell_stays, names_after}
 use Rattle.round_completeness.specs.Left.{answer_with, less_one, less_all}
 use Rattle.round_completeness.proofs.CellsFit.{stood_before}
 

@@ -1,10 +1,9 @@
 -- A start that finds room makes its call.
-use Rattle.std.proofs.Common.{◌≡◌, ◌⊎◌, ℕ, ◌+◌, Bool, true, false, List, [], ◌∷◌, Option, Some, None, Result, Ok, Err, refl, sym, ap, subst, ◌∙◌, arith, ⊎_elim}
+use Rattle.std.proofs.Common.{◌≡◌, ℕ, Bool, true, false, List, [], ◌∷◌, Option, Some, None, Result, refl, sym, ap, subst, ◌∙◌, arith, ⊎_elim}
 use Rattle.auctioneer.specs.Stands.{less}
 use Rattle.bbs_model.specs.PortView.{PortView}
 use Rattle.bbs_model.specs.Work.{at}
 use Rattle.bbs_model.specs.declared.command.Command.{Command}
-use Rattle.bbs_model.specs.declared.reply.Reply.{Reply}
 use Rattle.bbs_model.specs.declared.reply.Reply.TheVariants as reply
 use Rattle.cell_records.specs.declared.amounts.Amounts.{Amounts}
 use Rattle.cell_records.specs.declared.job.Job.{Job}
@@ -21,7 +20,7 @@ use Rattle.cell_rep.specs.declared.call_end.CallEnd.TheVariants.{Got, Fault, Cal
 use Rattle.cell_rep.specs.declared.call_end.Called.{Called}
 use Rattle.cell_rep.specs.declared.joined.Joined.{Joined}
 use Rattle.cell_rep.specs.declared.rep.CellRep.{CellRep}
-use Rattle.container_store.specs.Changes.{next_of, next_container, reserved, reserving}
+use Rattle.container_store.specs.Changes.{next_of, next_container, reserved}
 use Rattle.container_store.specs.Store.{StoreView}
 use Rattle.container_store.specs.declared.refusal.StoreRefusal.{StoreRefusal}
 use Rattle.converge_round.specs.Each.{Each}

@@ -1,5 +1,5 @@
 -- How many starts are lost over a wire whose ends don't depend on their number.
-use Rattle.std.proofs.Common.{◌≡◌, ◌⊎◌, ℕ, ◌+◌, ◌-◌, ◌^◌, ◌≤◌, min, Bool, true, false, not, cond, ◌&&◌, List, [], ◌∷◌, length, map, sum_by, Option, Some, None, Ok, Err, refl, sym, ap, subst, ◌∙◌, arith, inl, inr, ⊎_elim}
+use Rattle.std.proofs.Common.{◌≡◌, ℕ, ◌+◌, ◌-◌, ◌^◌, ◌≤◌, min, Bool, true, false, not, cond, ◌&&◌, List, [], ◌∷◌, length, map, sum_by, Option, Some, None, Ok, Err, refl, sym, ap, subst, ◌∙◌, arith, inl, inr, ⊎_elim}
 use Rattle.std.specs.List.{Contains}
 use Rattle.std.proofs.lemmas.List.Sums.{sum_by-cons}
 use Rattle.auctioneer.specs.Stands.{less}
@@ -17,7 +17,6 @@ use Rattle.cell_rep.specs.declared.call_end.CallEnd.TheVariants.{Got, Fault, Cal
 use Rattle.cell_rep.specs.declared.call_end.Called.{Called}
 use Rattle.cell_rep.specs.declared.wire.CallKind.TheVariants.{Start, Board}
 use Rattle.cell_rep.specs.declared.wire.Delivery.{Delivery}
-use Rattle.cell_rep.specs.declared.wire.Delivery.TheVariants as wire
 use Rattle.converge_laws.proofs.Public.{inside_first, inside_rest, inside_map}
 use Rattle.converge_round.specs.Each.{Each}
 use Rattle.converge_round.specs.Phases.{Course, ServesOne}

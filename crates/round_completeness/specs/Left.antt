@@ -1,5 +1,5 @@
 -- What the cells have left that jobs may go to: their answers less what was stopped.
-use Rattle.std.specs.Prelude.{◌≡◌, ℕ, Bool, not, List, [], ◌∷◌, filter, Option, Some, None, if◌then◌else◌}
+use Rattle.std.specs.Prelude.{◌≡◌, ℕ, not, List, [], ◌∷◌, filter, Option, Some, None, if◌then◌else◌}
 use Rattle.std.specs.List.{filter_map}
 use Rattle.auctioneer.specs.Stands.{same_name}
 use Rattle.bbs_model.specs.PortView.{rows_seen}

@@ -4,8 +4,8 @@ ghost use Rattle.round_completeness.specs.Ends.{RoundsLoseByTheEnds};
 ghost use Rattle.round_completeness.specs.Left.{RoundsAuctionWhatIsLeft};
 ghost use Rattle.round_completeness.specs.Rooms.{PlacementsHaveRoom, RoundsDeclineNoStart};
 
-/// Over valid rows and sound answers of cells whose names differ, each job that the auction gives to
-/// a cell finds room in what the ones before it leave of what the cell answered.
+/// Over valid rows and sound answers of cells whose names differ, each job that the auction gives
+/// to a cell finds room in what the ones before it leave of what the cell answered.
 pub fn placements_have_room()
     ensures { PlacementsHaveRoom }
 {}
@@ -28,9 +28,9 @@ pub fn rounds_auction_what_is_left()
     ensures { RoundsAuctionWhatIsLeft }
 {}
 
-/// A round's report is complete where the names of the reps differ and each cell that is present has
-/// an answer, the wire loses nothing, nobody else moves the board, each job finds a cell, and no
-/// refusal says that the board has no room left.
+/// A round's report is complete where the names of the reps differ and each cell that is present
+/// has an answer, the wire loses nothing, nobody else moves the board, each job finds a cell, and
+/// no refusal says that the board has no room left.
 pub fn rounds_that_nothing_disturbs_are_complete()
     ensures { RoundsThatNothingDisturbsAreComplete }
 {}
