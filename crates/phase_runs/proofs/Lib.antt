@@ -3,3 +3,6 @@ mod Parts
 mod Places
 mod InTurn
 mod Cells
+mod PutBack
+mod RoundsAlone
+mod WholePhases

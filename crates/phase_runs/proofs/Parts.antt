@@ -94,17 +94,33 @@ not_begun base now lines before fresh by a none = record {
     begun_nothing [] = (refl, refl)
     begun_nothing (t ∷ ts) = inl (refl, refl)
 
+-- a caller alone sees the board as it was and as it is
+pub own_sees : {D : Type 0} (told : D → Option Past) (by name name' : ℕ) (m w : View D) (went : Went told by by name name' m w)
+    → SeesPhase m.base m.log went.more by (seen_of by m) (seen_of by w)
+own_sees told by name name' m w went = record {
+  base_is = refl;
+  from = ([], sym (append-nil m.log));
+  upto = ([], sym went.grows ∙ sym (append-nil w.log));
+  own = ap (by_number by) went.grows ∙ by_both by m.log went.more;
+}
+
+-- what is seen behind others is seen of the phase
+pub sees_behind : {D : Type 0} (told : D → Option Past) (by : ℕ) (v m : View D) (fresh more : List Item) → GoesOn told fresh v m → by_number by fresh ≡ []
+    → (first last : PortView) → SeesPhase m.base m.log more by first last → SeesPhase v.base v.log (fresh ++ more) by first last
+sees_behind told by v m fresh more goes none first last sees = record {
+  base_is = sees.base_is ∙ goes.base;
+  from = (fresh ++ sees.from.0, sees.from.1 ∙ ap (λ (xs : List Item). xs ++ sees.from.0) goes.grows ∙ append_assoc v.log fresh sees.from.0);
+  upto = (sees.upto.0, sym (append_assoc v.log fresh more) ∙ ap (λ (xs : List Item). xs ++ more) (sym goes.grows) ∙ sees.upto.1);
+  own = sees.own
+      ∙ ap (λ (xs : List Item). first.mine ++ xs) (sym (by_both by fresh more ∙ ap (λ (xs : List Item). xs ++ by_number by more) none));
+}
+
 module _ {D : Type 0} (told : D → Option Past) (by name name' : ℕ) (v m w : View D) (fresh : List Item)
     (goes : GoesOn told fresh v m) (none : by_number by fresh ≡ []) (went : Went told by by name name' m w) where
   -- an actor whose turn it is sees the phase as it is by then
   sole_sees : SeesPhase v.base v.log (fresh ++ went.more) by (seen_of by m) (seen_of by w)
-  sole_sees = record {
-    base_is = goes.base;
-    from = (fresh, goes.grows);
-    upto = ([], sym (append_assoc v.log fresh went.more) ∙ ap (λ (xs : List Item). xs ++ went.more) (sym goes.grows) ∙ sym went.grows ∙ sym (append-nil w.log));
-    own = ap (by_number by) went.grows ∙ by_both by m.log went.more
-        ∙ ap (λ (xs : List Item). by_number by m.log ++ xs) (sym (by_both by fresh went.more ∙ ap (λ (xs : List Item). xs ++ by_number by went.more) none));
-  }
+  sole_sees =
+      sees_behind told by v m fresh went.more goes none (seen_of by m) (seen_of by w) (own_sees told by name name' m w went)
 
   pub part_ran : (now : Moment) (lines : List Line) (a a' : ActorState) (out : List Answered)
       → Takes by now (turns_in by lines) (standing a (seen_of by m) []) (standing a' (seen_of by w) out)

@@ -3,3 +3,4 @@ pub mod Actors
 pub mod RoundMarks
 pub mod Reps
 pub mod Rounds
+pub mod Phases

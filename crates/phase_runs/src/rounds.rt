@@ -1,5 +1,6 @@
 //! The round of a phase, on a board that nobody else calls meanwhile.
-ghost use Rattle.std.specs.Prelude.{◌≡◌, IfOk};
+ghost use Rattle.std.specs.Prelude.{◌≡◌, IfErr, IfOk};
+ghost use Rattle.converge_round.specs.Faults.{IsCausedBy};
 ghost use Rattle.converge_round.specs.Items.{HasItems};
 ghost use Rattle.converge_round.specs.Reps.{KeepReps};
 ghost use Rattle.sole_port.specs.Went.{seen_of};
@@ -34,6 +35,7 @@ pub fn round_on<D: Disk, G: Gate>(
 ) -> Result<Report, CallFault>
     ensures alone { IsAlone D.told 0 board.old board.new }
     ensures items { HasItems 0 now (seen_of 0 board.old) (seen_of 0 board.new) }
+    ensures cause { IfErr result (IsCausedBy 0 (seen_of 0 board.old) (seen_of 0 board.new)) }
     ensures cells { KeepReps cells.old cells.new }
     ensures account { IfOk result (RoundOf now line.now cells.old cells.new
         (seen_of 0 board.old) (seen_of 0 board.new)) }
