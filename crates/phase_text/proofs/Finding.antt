@@ -39,10 +39,10 @@ module _ {X : Type 0} (number : X → ℕ) where
     point_is_there =
         ⊎_elim
         (λ (lt : i < k).
-          let rises : number (get_or xs i d) < number (get_or xs k d) = rising i k d lt there in
-          let less : ltb (number (get_or xs i d)) n ≡ true = lt-ltb (number (get_or xs i d)) n (omega arith) in
-          let more : ltb (number (get_or xs i d)) n ≡ false = point.1 i d (omega arith) (omega arith) in
-          absurd cc)
+        let rises : number (get_or xs i d) < number (get_or xs k d) = rising i k d lt there in
+        let less : ltb (number (get_or xs i d)) n ≡ true = lt-ltb (number (get_or xs i d)) n (omega arith) in
+        let more : ltb (number (get_or xs i d)) n ≡ false = point.1 i d (omega arith) (omega arith) in
+        absurd cc)
         (λ (ge : k ≤ i). let back = not_behind in omega arith)
         (cases_lt i k)
 

@@ -3,3 +3,4 @@ mod Orders
 mod Finding
 mod Splitting
 mod Told
+mod Fitting

@@ -71,9 +71,9 @@ module _ {X : Type 0} (lt : X → X → Bool) (o : IsStrictWeakOrder lt) where
   ties_on : (x a y : X) → ties lt x a ≡ true → ties lt a y ≡ false → ties lt x y ≡ false
   ties_on x a y h isnt = by_test (ties lt x y)
       (λ t.
-        let left : lt a y ≡ false = o.chain a x y (tie_right x a h) (tie_left x y t) in
-        let right : lt y a ≡ false = o.chain y x a (tie_right x y t) (tie_left x a h) in
-        let e = tied a y left right in absurd cc)
+      let left : lt a y ≡ false = o.chain a x y (tie_right x a h) (tie_left x y t) in
+      let right : lt y a ≡ false = o.chain y x a (tie_right x y t) (tie_left x a h) in
+      let e = tied a y left right in absurd cc)
       (λ e. e)
 
   -- a filter by ties of a list with one more in its place
@@ -83,16 +83,16 @@ module _ {X : Type 0} (lt : X → X → Bool) (o : IsStrictWeakOrder lt) where
       let rest = filter (ties lt x) ys in
       by_test (lt y a)
       (λ is.
-        ap (λ b. filter (ties lt x) (cond b (y ∷ with_placed lt a ys) (a ∷ y ∷ ys))) is
-        ∙ ap (λ zs. cond (ties lt x y) (y ∷ zs) zs) (placed_kept x a ys)
-        ∙ by_test (ties lt x a)
-          (λ t.
-            let none : ties lt x y ≡ false = ties_on x a y t (before_no_tie a y is) in
-            left_at (ties lt x y) y (cond (ties lt x a) (a ∷ rest) rest) none
-            ∙ ap (λ zs. cond (ties lt x a) (a ∷ zs) zs) (sym (left_at (ties lt x y) y rest none)))
-          (λ n.
-            ap (λ zs. cond (ties lt x y) (y ∷ zs) zs) (left_at (ties lt x a) a rest n)
-            ∙ sym (left_at (ties lt x a) a (cond (ties lt x y) (y ∷ rest) rest) n)))
+      ap (λ b. filter (ties lt x) (cond b (y ∷ with_placed lt a ys) (a ∷ y ∷ ys))) is
+      ∙ ap (λ zs. cond (ties lt x y) (y ∷ zs) zs) (placed_kept x a ys)
+      ∙ by_test (ties lt x a)
+      (λ t.
+      let none : ties lt x y ≡ false = ties_on x a y t (before_no_tie a y is) in
+      left_at (ties lt x y) y (cond (ties lt x a) (a ∷ rest) rest) none
+      ∙ ap (λ zs. cond (ties lt x a) (a ∷ zs) zs) (sym (left_at (ties lt x y) y rest none)))
+      (λ n.
+      ap (λ zs. cond (ties lt x y) (y ∷ zs) zs) (left_at (ties lt x a) a rest n)
+      ∙ sym (left_at (ties lt x a) a (cond (ties lt x y) (y ∷ rest) rest) n)))
       (λ n. ap (λ b. filter (ties lt x) (cond b (y ∷ with_placed lt a ys) (a ∷ y ∷ ys))) n)
 
   -- elements that tie stay in their order
@@ -129,8 +129,8 @@ module _ {X : Type 0} (lt : X → X → Bool) (o : IsStrictWeakOrder lt) where
   none_before x z (w ∷ zs) h f =
       left_at (ties lt x w) w (filter (ties lt x) zs)
       (by_test (ties lt x w)
-        (λ t. let e : lt x z ≡ false = o.chain x w z (tie_left x w t) f.0 in absurd cc)
-        (λ e. e))
+      (λ t. let e : lt x z ≡ false = o.chain x w z (tie_left x w t) f.0 in absurd cc)
+      (λ e. e))
       ∙ none_before x z zs h f.1
 
   -- where the filters by ties are the same, neither list's first stands before the other's
@@ -138,10 +138,10 @@ module _ {X : Type 0} (lt : X → X → Bool) (o : IsStrictWeakOrder lt) where
   not_before y z ys zs f same =
       by_test (lt y z)
       (λ is.
-        let mine : filter (ties lt y) (y ∷ ys) ≡ y ∷ filter (ties lt y) ys = kept_at (ties lt y y) y (filter (ties lt y) ys) (tied y y (itself y) (itself y)) in
-        let theirs : filter (ties lt y) (z ∷ zs) ≡ [] = none_before y z (z ∷ zs) is (itself z, f) in
-        let clash : y ∷ filter (ties lt y) ys ≡ [] = sym mine ∙ same ∙ theirs in
-        absurd cc)
+      let mine : filter (ties lt y) (y ∷ ys) ≡ y ∷ filter (ties lt y) ys = kept_at (ties lt y y) y (filter (ties lt y) ys) (tied y y (itself y) (itself y)) in
+      let theirs : filter (ties lt y) (z ∷ zs) ≡ [] = none_before y z (z ∷ zs) is (itself z, f) in
+      let clash : y ∷ filter (ties lt y) ys ≡ [] = sym mine ∙ same ∙ theirs in
+      absurd cc)
       (λ e. e)
 
   first_of : (y z : X) (ys zs : List X) → y ∷ ys ≡ z ∷ zs → y ≡ z
@@ -172,7 +172,7 @@ module _ {X : Type 0} (lt : X → X → Bool) (o : IsStrictWeakOrder lt) where
       let theirs : filter (ties lt y) (z ∷ zs) ≡ z ∷ filter (ties lt y) zs = kept_at (ties lt y z) z (filter (ties lt y) zs) (tied y z ahead back) in
       let one : y ≡ z = first_of y z _ _ (sym mine ∙ same y ∙ theirs) in
       let rest : ys ≡ zs = same_in_order ys zs h.1 k.1 (λ x. same_rest (ties lt x y) y (filter (ties lt x) ys) (filter (ties lt x) zs)
-        (same x ∙ ap (λ w. cond (ties lt x w) (w ∷ filter (ties lt x) zs) (filter (ties lt x) zs)) (sym one))) in
+      (same x ∙ ap (λ w. cond (ties lt x w) (w ∷ filter (ties lt x) zs) (filter (ties lt x) zs)) (sym one))) in
       λ i. one i ∷ rest i
 
   -- a stable sort leaves the elements, each placed in turn

@@ -1,20 +1,22 @@
 -- What is told of answers, of some of them, and of one more.
-use Rattle.std.proofs.Common.{◌≡◌, ℕ, ◌+◌, ◌<◌, List, [], ◌∷◌, ◌++◌, length, take, get_or, filter, Option, Some, Bool, sym, ap, ◌∙◌, append_assoc}
-use Rattle.std.specs.List.{flat_map}
-use Rattle.std.specs.List.Sorted.{IsPartitionPoint}
+use Rattle.std.proofs.Common.{◌≡◌, ℕ, ◌+◌, ◌<◌, List, [], ◌∷◌, ◌++◌, length, take, get_or, filter, Option, Some, Bool, nat_lt, not, sym, subst, ap, ◌∙◌, append_assoc}
+use Rattle.std.specs.List.{flat_map, All}
 use Rattle.std.specs.Option.{option_map_or}
 use Rattle.std.proofs.lemmas.List.{flat_map_more, take_more}
 use Rattle.std.proofs.lemmas.List.Elements.{All-filter}
+use Rattle.bbs_model.specs.declared.event.Event.{Event}
+use Rattle.convergence.specs.declared.report.Report.{Report}
 use Rattle.record_print.specs.Printed.{line_text, answer_data}
 use Rattle.record_print.specs.declared.asked.Asked.{Asked}
 use Rattle.scenario_lines.specs.declared.actor.Actor.{Actor}
 use Rattle.scenario_lines.specs.declared.answered.Answered.{Answered}
 use Rattle.scenario_lines.specs.declared.script.Line.{Line}
 use Rattle.scenario_lines.specs.declared.script.Phase.{Phase}
+use Rattle.scenario_lines.specs.declared.script.RoundLine.{RoundLine}
 use Rattle.scenario_lines.specs.declared.script.Script.{Script}
 use Rattle.phase_text.specs.Answers.{AreAnswers, IsAnswer}
 use Rattle.phase_text.specs.Asking.{asked_at}
-use Rattle.phase_text.specs.Texts.{answer_at, answer_words, answers_before, answers_behind, line_of, name_of}
+use Rattle.phase_text.specs.Texts.{answer_at, answer_words, answers_before, answers_behind, answers_words, events_words, line_of, lines_words, name_of, phase_words, round_words}
 
 -- what is told of an answer, by its actor's name, what it is about and its line
 pub told_as : (actors : List Actor) (lines : List Line) (a : Answered) (line : Line) (name : List ℕ) (asked : Asked) → name ≡ name_of actors a.actor → asked ≡ asked_at line a.command → line_of lines a.line ≡ Some line → line_text (answer_data name a.line asked a.end) ≡ answer_words actors lines a
@@ -29,10 +31,31 @@ told_more words start xs i x l at =
     ∙ ap (λ y. start ++ flat_map words (take i xs ++ y ∷ [])) at
     ∙ ap (λ ys. start ++ flat_map words ys) (sym (take_more xs i x l))
 
--- three texts behind another
-pub three_more : (s a b c : List ℕ) → ((s ++ a) ++ b) ++ c ≡ s ++ (a ++ (b ++ c))
-three_more s a b c = simp append_assoc
+-- some of them are answers too
+some_answers : (actors : List Actor) (lines : List Line) (answers some : List Answered) (p : Answered → Bool) → some ≡ filter p answers → AreAnswers actors lines answers → AreAnswers actors lines some
+some_answers actors lines answers some p is h = record {
+  rising = h.rising;
+  each = subst (λ (ones : List Answered). All (IsAnswer actors lines) ones) (sym is) (All-filter p (IsAnswer actors lines) answers h.each);
+}
 
--- some answers of a phase are answers of it
-pub some_answers : (script : Script) (phase : Phase) (answers : List Answered) (p : Answered → Bool) → AreAnswers script phase answers → AreAnswers script phase (filter p answers)
-some_answers script phase answers p h = record { rising = h.rising; each = All-filter p (IsAnswer script.actors phase.lines) answers h.each }
+pub some_before : (actors : List Actor) (lines : List Line) (answers some : List Answered) (number : ℕ) → some ≡ answers_before number answers → AreAnswers actors lines answers → AreAnswers actors lines some
+some_before actors lines answers some number is h = some_answers actors lines answers some (λ a. nat_lt a.line number) is h
+
+pub some_behind : (actors : List Actor) (lines : List Line) (answers some : List Answered) (number : ℕ) → some ≡ answers_behind number answers → AreAnswers actors lines answers → AreAnswers actors lines some
+some_behind actors lines answers some number is h = some_answers actors lines answers some (λ a. not (nat_lt a.line number)) is h
+
+-- the answers before a round, the round, and the answers behind it
+pub around_told : (actors : List Actor) (lines : List Line) (round : RoundLine) (answers before behind : List Answered) (report : Option Report) (start first second third : List ℕ) → third ≡ second ++ answers_words actors lines behind → second ≡ first ++ round_words round report → first ≡ start ++ answers_words actors lines before → before ≡ answers_before round.line answers → behind ≡ answers_behind round.line answers → third ≡ start ++ lines_words actors lines (Some round) answers report
+around_told actors lines round answers before behind report start first second third c b a is_before is_behind =
+    c
+    ∙ ap (λ t. t ++ answers_words actors lines behind) (b ∙ ap (λ t. t ++ round_words round report) a)
+    ∙ append_assoc (start ++ answers_words actors lines before) (round_words round report) (answers_words actors lines behind)
+    ∙ append_assoc start (answers_words actors lines before) (round_words round report ++ answers_words actors lines behind)
+    ∙ (λ i. start ++ (answers_words actors lines (is_before i) ++ (round_words round report ++ answers_words actors lines (is_behind i))))
+
+-- the lines of a phase, and its events behind them
+pub phase_told : (script : Script) (phase : Phase) (actors : List Actor) (lines : List Line) (answers : List Answered) (report : Option Report) (events : List Event) (start first second : List ℕ) → second ≡ first ++ events_words events → first ≡ start ++ lines_words actors lines phase.round answers report → start ≡ [] → actors ≡ script.actors → lines ≡ phase.lines → second ≡ phase_words script phase answers report events
+phase_told script phase actors lines answers report events start first second b a none same_actors same_lines =
+    b
+    ∙ ap (λ t. t ++ events_words events) a
+    ∙ (λ i. (none i ++ lines_words (same_actors i) (same_lines i) phase.round answers report) ++ events_words events)

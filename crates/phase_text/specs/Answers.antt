@@ -4,8 +4,6 @@ use Rattle.std.specs.List.Sorted.{IsNonDecreasingBy}
 use Rattle.scenario_lines.specs.declared.actor.Actor.{Actor}
 use Rattle.scenario_lines.specs.declared.answered.Answered.{Answered}
 use Rattle.scenario_lines.specs.declared.script.Line.{Line}
-use Rattle.scenario_lines.specs.declared.script.Phase.{Phase}
-use Rattle.scenario_lines.specs.declared.script.Script.{Script}
 
 -- an answer is to one of these lines, and to the line's actor
 pub record IsToLine (lines : List Line) (a : Answered) : Type 0 where
@@ -27,7 +25,7 @@ AreRising lines = AllPairs (λ a b. a.line < b.line) lines
 abbrev pub AreByLine : List Answered → Type 0
 AreByLine answers = IsNonDecreasingBy (λ a. a.line) answers
 
--- the answers are to lines of a phase of a script
-pub record AreAnswers (script : Script) (phase : Phase) (answers : List Answered) : Type 0 where
-  pub rising : AreRising phase.lines
-  pub each : All (IsAnswer script.actors phase.lines) answers
+-- the answers are to these lines, whose numbers rise, and by these actors
+pub record AreAnswers (actors : List Actor) (lines : List Line) (answers : List Answered) : Type 0 where
+  pub rising : AreRising lines
+  pub each : All (IsAnswer actors lines) answers

@@ -8,12 +8,13 @@ use bbs_model::Event;
 use convergence::Report;
 use diego_names::OutOfMemory;
 use record_print::{event_text, failed_round_text, report_text};
-use scenario_lines::{Answered, Phase, RoundLine, Script};
+use scenario_lines::{Actor, Answered, Line, Phase, RoundLine, Script};
 use std::alloc::Global;
 
 /// The text of a phase, whose answers stand by line and whose events stand by key: each answer, and
 /// the report of its round where the round's line stands among theirs, and then each event. A round
 /// without a report was ended by a fault of the disk, and is told so.
+#[tactic(auto, using(crate::proofs::Told::phase_told))]
 pub fn phase_text(
     alloc: Global,
     script: &Script,
@@ -22,13 +23,23 @@ pub fn phase_text(
     report: &Option<Report>,
     events: &[Event],
 ) -> Result<Vec<u8>, OutOfMemory>
-    requires answers { AreAnswers script.now phase.now answers.now }
+    requires answers { AreAnswers script.now.actors phase.now.lines answers.now }
     requires by_line { AreByLine answers.now }
     ensures { IfOk result (λ text.
         text.items ≡ phase_words script.now phase.now answers.now report.now events.now) }
 {
+    let actors = script.actors.items();
+    let lines = phase.lines.items();
     let mut text = Vec::new(alloc);
-    add_lines(&mut text, alloc, script, phase, answers, report)?;
+    add_lines(
+        &mut text,
+        alloc,
+        actors,
+        lines,
+        &phase.round,
+        answers,
+        report,
+    )?;
     add_events(&mut text, alloc, events)?;
     Ok(text)
 }
@@ -36,42 +47,49 @@ pub fn phase_text(
 fn add_lines(
     text: &mut Vec<u8>,
     alloc: Global,
-    script: &Script,
-    phase: &Phase,
+    actors: &[Actor],
+    lines: &[Line],
+    round: &Option<RoundLine>,
     answers: &[Answered],
     report: &Option<Report>,
 ) -> Result<(), OutOfMemory>
-    requires answers { AreAnswers script.now phase.now answers.now }
+    requires answers { AreAnswers actors.now lines.now answers.now }
     requires by_line { AreByLine answers.now }
     ensures { OnOk result (text.new.items ≡ text.old.items
-        ++ lines_words script.now.actors phase.now.lines phase.now.round answers.now report.now) }
+        ++ lines_words actors.now lines.now round.now answers.now report.now) }
 {
-    match &phase.round {
-        None => add_answers(text, alloc, script, phase, answers)?,
-        Some(round) => add_around(text, alloc, script, phase, round, answers, report)?,
+    match round {
+        None => {
+            add_answers(text, alloc, actors, lines, answers)?;
+            Ok(())
+        }
+        Some(round) => {
+            add_around(text, alloc, actors, lines, round, answers, report)?;
+            Ok(())
+        }
     }
-    Ok(())
 }
 
 // A round's line, and the answers on both sides of it.
+#[tactic(auto, using(crate::proofs::Told::around_told, crate::proofs::Told::some_before, crate::proofs::Told::some_behind))]
 fn add_around(
     text: &mut Vec<u8>,
     alloc: Global,
-    script: &Script,
-    phase: &Phase,
+    actors: &[Actor],
+    lines: &[Line],
     round: &RoundLine,
     answers: &[Answered],
     report: &Option<Report>,
 ) -> Result<(), OutOfMemory>
-    requires answers { AreAnswers script.now phase.now answers.now }
+    requires answers { AreAnswers actors.now lines.now answers.now }
     requires by_line { AreByLine answers.now }
     ensures { OnOk result (text.new.items ≡ text.old.items
-        ++ lines_words script.now.actors phase.now.lines (Some round.now) answers.now report.now) }
+        ++ lines_words actors.now lines.now (Some round.now) answers.now report.now) }
 {
     let (before, behind) = split_by(answers, round.line);
-    add_answers(text, alloc, script, phase, before)?;
+    add_answers(text, alloc, actors, lines, before)?;
     add_round(text, alloc, round, report)?;
-    add_answers(text, alloc, script, phase, behind)?;
+    add_answers(text, alloc, actors, lines, behind)?;
     Ok(())
 }
 
@@ -88,16 +106,16 @@ fn split_by(answers: &[Answered], number: u32) -> (&[Answered], &[Answered])
 fn add_answers(
     text: &mut Vec<u8>,
     alloc: Global,
-    script: &Script,
-    phase: &Phase,
+    actors: &[Actor],
+    lines: &[Line],
     answers: &[Answered],
 ) -> Result<(), OutOfMemory>
-    requires { AreAnswers script.now phase.now answers.now }
+    requires { AreAnswers actors.now lines.now answers.now }
     ensures { OnOk result (text.new.items ≡ text.old.items
-        ++ answers_words script.now.actors phase.now.lines answers.now) }
+        ++ answers_words actors.now lines.now answers.now) }
 {
     for answered in answers {
-        let line = answer_line(alloc, script.actors.items(), phase.lines.items(), answered)?;
+        let line = answer_line(alloc, actors, lines, answered)?;
         text.extend_from_slice(&line)?;
     }
     Ok(())
@@ -111,12 +129,22 @@ fn add_round(
 ) -> Result<(), OutOfMemory>
     ensures { OnOk result (text.new.items ≡ text.old.items ++ round_words round.now report.now) }
 {
-    let line = match report {
-        Some(report) => report_text(alloc, report)?,
-        None => failed_round_text(alloc, round.line)?,
-    };
+    let line = round_text(alloc, round, report)?;
     text.extend_from_slice(&line)?;
     Ok(())
+}
+
+fn round_text(
+    alloc: Global,
+    round: &RoundLine,
+    report: &Option<Report>,
+) -> Result<Vec<u8>, OutOfMemory>
+    ensures { IfOk result (λ text. text.items ≡ round_words round.now report.now) }
+{
+    match report {
+        Some(report) => Ok(report_text(alloc, report)?),
+        None => Ok(failed_round_text(alloc, round.line)?),
+    }
 }
 
 fn add_events(text: &mut Vec<u8>, alloc: Global, events: &[Event]) -> Result<(), OutOfMemory>

@@ -155,6 +155,7 @@ fn report(alloc: Global, line: u32, own: u64) -> Report {
 }
 
 /// That the phase is told by these lines, and no others.
+#[tactic(auto, using(crate::proofs::Fitting::fits_same))]
 fn tells(
     rt: &impl Abort,
     alloc: Global,
@@ -167,9 +168,16 @@ fn tells(
 ) -> Result<(), Fail> {
     let answers = answers_by_line(alloc, parts)?;
     let events = events_by_key(alloc, events)?;
-    let is_fit = fits(script, phase, answers.items());
+    let is_fit = fits(script.actors.items(), phase.lines.items(), answers.items());
     assert!(rt; is_fit, "answers of another phase");
-    let text = phase_text(alloc, script, phase, answers.items(), report, events.items())?;
+    let text = phase_text(
+        alloc,
+        script,
+        phase,
+        answers.items(),
+        report,
+        events.items(),
+    )?;
     let mut wanted = Vec::new(alloc);
     for line in want {
         wanted.extend_from_slice(line.as_bytes())?;

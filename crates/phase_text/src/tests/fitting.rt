@@ -1,17 +1,22 @@
 //! Whether answers are those of a phase, which the text of a phase asks for.
-ghost use Rattle.std.specs.Prelude.{All, IsTrue};
+ghost use Rattle.std.specs.Prelude.{IsTrue};
 ghost use Rattle.phase_text.specs.Answers.{AreAnswers, AreRising, IsAnswer, IsToLine};
 
-use scenario_lines::{Actor, Answered, Line, Phase, Script};
+use scenario_lines::{Actor, Answered, Line};
 
-pub fn fits(script: &Script, phase: &Phase, answers: &[Answered]) -> bool
-    ensures { IsTrue result → AreAnswers script.now phase.now answers.now }
+#[tactic(auto, using(crate::proofs::Fitting::fits_none, crate::proofs::Fitting::fits_more, crate::proofs::Fitting::fits_at_end))]
+pub fn fits(actors: &[Actor], lines: &[Line], answers: &[Answered]) -> bool
+    ensures { IsTrue result → AreAnswers actors.now lines.now answers.now }
 {
-    let lines = phase.lines.items();
     if !rises(lines) {
         return false;
     }
-    are_answers(script.actors.items(), lines, answers)
+    for answered in answers {
+        if !is_answer(actors, lines, answered) {
+            return false;
+        }
+    }
+    true
 }
 
 #[tactic(auto, using(crate::proofs::Fitting::rises_to_none, crate::proofs::Fitting::rises_to_more, crate::proofs::Fitting::rises_at_end))]
@@ -24,17 +29,6 @@ fn rises(lines: &[Line]) -> bool
             return false;
         }
         last = line.line;
-    }
-    true
-}
-
-fn are_answers(actors: &[Actor], lines: &[Line], answers: &[Answered]) -> bool
-    ensures { IsTrue result → All (IsAnswer actors.now lines.now) answers.now }
-{
-    for answered in answers {
-        if !is_answer(actors, lines, answered) {
-            return false;
-        }
     }
     true
 }

@@ -97,12 +97,7 @@ fn wanted(desired: Desired) -> Event {
 }
 
 // Client a has the lines 2 and 5 and client b the line 4; the round's is line 3.
-fn around(
-    rt: &impl Abort,
-    alloc: Global,
-    report: &Option<Report>,
-    told: &str,
-) -> Result<(), Fail> {
+fn around(rt: &impl Abort, alloc: Global, report: &Option<Report>, told: &str) -> Result<(), Fail> {
     let (pa, pb) = (desired("pa", 1)?, desired("pb", 1)?);
     let first = line(2, 1, Act::Client(Op::Desire { desired: pa }));
     let other = line(4, 2, Act::Client(Op::Desire { desired: pb }));
