@@ -1,0 +1,3 @@
+pub mod Laws
+pub mod Public
+pub mod Shown

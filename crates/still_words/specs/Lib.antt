@@ -1,0 +1,4 @@
+pub mod Records
+pub mod Showing
+pub mod Still
+pub mod Words

@@ -1,0 +1,17 @@
+//! The words of the program, and what it does at those that wait for nobody: it prepares a board, shows its
+//! rows, or checks it.
+#![tactic(auto)]
+
+mod checking;
+mod preparing;
+mod records;
+mod showing;
+mod still;
+mod words;
+
+pub use records::records_text;
+pub use still::still_top;
+pub use words::{Asked, read_words};
+
+#[cfg(test)]
+mod tests;
