@@ -1,6 +1,6 @@
 -- The actors of a phase, and the round behind them.
 use Rattle.std.proofs.Common.{◌≡◌, ◌≢◌, inl, inr, ℕ, suc, ◌<◌, List, [], ◌++◌, length, get_or, Option, Some, None, refl, sym, ap, subst, ◌∙◌, arith}
-use Rattle.std.specs.List.{slice_get, Contains}
+use Rattle.std.specs.List.{slice_get}
 use Rattle.std.proofs.lemmas.List.Elements.{Contains-append_right}
 use Rattle.std.proofs.lemmas.Option.{slice_get-get_or, slice_get_within}
 use Rattle.disk_trait.specs.Past.{Past}
@@ -19,7 +19,7 @@ use Rattle.scenario_lines.specs.declared.script.RoundLine.{RoundLine}
 use Rattle.actor_runs.specs.declared.actor_state.ActorState.{ActorState}
 use Rattle.phase_runs.specs.Actors.{ActorsCut, ActorsRan, AreSame, PartCut, PartRan}
 use Rattle.phase_runs.specs.Boards.{GoesOn}
-use Rattle.phase_runs.specs.Phases.{CutAlone, HasRound, IsRoundCut, IsToldBy, PhaseCut, PhaseRan, RoundAlone, RoundCut, RoundRan}
+use Rattle.phase_runs.specs.Phases.{CutAlone, IsRoundCut, IsToldBy, PhaseCut, PhaseRan, RoundAlone, RoundRan}
 use Rattle.phase_runs.specs.Reps.{reps_of}
 use Rattle.phase_runs.proofs.Going.{goes_further}
 use Rattle.phase_runs.proofs.Parts.{by_both, ran_on, ran_whole, sees_behind}
