@@ -6,3 +6,4 @@ mod Cells
 mod PutBack
 mod RoundsAlone
 mod WholePhases
+pub mod Public

@@ -27,8 +27,8 @@ same_number (x ∷ xs) [] kept = absurd kept
 same_number (x ∷ xs) (y ∷ ys) kept = ap suc (same_number xs ys kept.1)
 
 -- the reps that were taken, lent as a slice and put back are those of the actors now
-pub put_after : (olds bared news : List ActorState) (took lent after : List CellRep) (len : ℕ) → (took ≡ reps_of olds) × (bared ≡ map bare olds)
-    → lent ≡ took → len ≡ length took → KeepReps lent after → news ≡ with_reps bared (take len (after ++ drop (length after) took))
+pub put_after : (olds bared news : List ActorState) (took lent after : List CellRep) (len : ℕ)
+    → (took ≡ reps_of olds) × (bared ≡ map bare olds) → lent ≡ took → len ≡ length took → KeepReps lent after → news ≡ with_reps bared (take len (after ++ drop (length after) took))
     → (news ≡ with_reps olds after) × KeepReps (reps_of olds) after
 put_after olds bared news took lent after len taken lent_is len_is kept put = (
   put ∙ ap (with_reps bared) all_of ∙ ap (λ (l : List ActorState). with_reps l after) taken.1 ∙ put_back olds after kept_now,
@@ -51,7 +51,8 @@ as_many (Cell rep ∷ xs) [] = ap suc (as_many xs [])
 as_many (Cell rep ∷ xs) (r ∷ rs) = ap suc (as_many xs rs)
 
 between : (x y a a' : ActorState) → IsOneActor x y → Some x ≡ Some a → Some y ≡ Some a' → IsOneActor a a'
-between x y a a' one p q = subst (λ b. IsOneActor b a') (one_of (Some x) x a refl p) (subst (IsOneActor x) (one_of (Some y) y a' refl q) one)
+between x y a a' one p q =
+    subst (λ b. IsOneActor b a') (one_of (Some x) x a refl p) (subst (IsOneActor x) (one_of (Some y) y a' refl q) one)
 
 one_put : (xs : List ActorState) (rs : List CellRep) → KeepReps (reps_of xs) rs
     → (k : ℕ) (a a' : ActorState) → slice_get xs k ≡ Some a → slice_get (with_reps xs rs) k ≡ Some a' → IsOneActor a a'
@@ -69,7 +70,9 @@ same_put xs rs kept = record { length_is = as_many xs rs; one = one_put xs rs ke
 pub same_as : (xs ys : List ActorState) → ys ≡ xs → AreSame xs ys
 same_as xs ys is = record {
   length_is = ap length is;
-  one = λ k a a' old new. subst (IsOneActor a) (one_of (slice_get xs k) a a' old (sym (ap (λ (l : List ActorState). slice_get l k) is) ∙ new)) (one_same a);
+  one = λ k a a' old new.
+      subst (IsOneActor a) (one_of (slice_get xs k) a a' old (sym (ap (λ (l : List ActorState). slice_get l k) is) ∙ new))
+      (one_same a);
 }
 
 pub same_then : (xs ys zs : List ActorState) → AreSame xs ys → AreSame ys zs → AreSame xs zs

@@ -60,8 +60,9 @@ module _ {D : Type 0} (told : D → Option Past) (now : Moment) (v : View D) whe
 
     module _ (line : RoundLine) (items : HasItems 0 now (seen_of 0 v) (seen_of 0 w)) where
       -- it was held
-      pub was_held : (mids news : List ActorState) (reps : List CellRep) → news ≡ with_reps mids reps → KeepReps (reps_of mids) reps → (report : Option Report)
-          → IsToldBy now line (reps_of mids) reps (seen_of 0 v) (seen_of 0 w) its report → RoundAlone told now (Some line) mids news report v w
+      pub was_held : (mids news : List ActorState) (reps : List CellRep) → news ≡ with_reps mids reps → KeepReps (reps_of mids) reps
+          → (report : Option Report) → IsToldBy now line (reps_of mids) reps (seen_of 0 v) (seen_of 0 w) its report
+          → RoundAlone told now (Some line) mids news report v w
       was_held mids news reps news_are kept report is_told = record {
         fresh = its;
         goes = goes_as told 0 0 alone.name alone.name' v w alone.went;

@@ -96,7 +96,8 @@ module _ {D : Type 0} (told : D → Option Past) (phase : Phase) (olds mids : Li
 
     none_behind : (by : ℕ) → length olds < by → by_number by all ≡ []
     none_behind by behind =
-        none_then told v m acted.fresh more acted.goes by (acted.others by (inr behind)) (others by (λ e. absurd (omega (arith, behind, e))))
+        none_then told v m acted.fresh more acted.goes by (acted.others by (inr behind))
+        (others by (λ e. absurd (omega (arith, behind, e))))
 
     by_no_actor : (k : ℕ) → by_number (suc k) more ≡ []
     by_no_actor k = others (suc k) (λ e. absurd (omega (arith, e)))
@@ -105,7 +106,8 @@ module _ {D : Type 0} (told : D → Option Past) (phase : Phase) (olds mids : Li
     all_ran : (k : ℕ) (a a' : ActorState) (answers : List Answered) → slice_get olds k ≡ Some a → slice_get mids k ≡ Some a'
         → slice_get parts k ≡ Some answers → PartRan v.base phase.at phase.lines v.log all (suc k) a a' answers
     all_ran k a a' answers old new part =
-        ran_on v.base v.log acted.fresh more (suc k) (by_no_actor k) phase.at phase.lines a a' answers (acted.ran k a a' answers old new part)
+        ran_on v.base v.log acted.fresh more (suc k) (by_no_actor k) phase.at phase.lines a a' answers
+        (acted.ran k a a' answers old new part)
 
     all_cut : (k : ℕ) (a a' : ActorState) → slice_get olds k ≡ Some a → slice_get mids k ≡ Some a'
         → PartCut v.base phase.at phase.lines v.log all (suc k) a a'
@@ -132,7 +134,9 @@ module _ {D : Type 0} (told : D → Option Past) (phase : Phase) (olds mids : Li
     ran = all_ran told phase olds mids v m parts acted w held.fresh held.goes held.others;
     others = none_behind told phase olds mids v m parts acted w held.fresh held.goes held.others;
     same = acted.same;
-    round = round_behind told v m acted.fresh held.fresh acted.goes (acted.others 0 (inl refl)) phase.at phase.round mids news report held.ran;
+    round =
+        round_behind told v m acted.fresh held.fresh acted.goes (acted.others 0 (inl refl)) phase.at phase.round mids news report
+        held.ran;
     kept = same_then olds mids news acted.same (same_held phase.round m.base m.log held.fresh phase.at mids news report held.ran);
   }
 

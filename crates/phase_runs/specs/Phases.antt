@@ -84,8 +84,8 @@ pub record PhaseRan {D : Type 0} (told : D → Option Past) (phase : Phase) (old
   pub goes : GoesOn told fresh v w
   pub mids : List ActorState
   pub count_is : length parts ≡ length olds
-  pub ran : (k : ℕ) (a a' : ActorState) (answers : List Answered) → slice_get olds k ≡ Some a → slice_get mids k ≡ Some a'
-      → slice_get parts k ≡ Some answers → PartRan v.base phase.at phase.lines v.log fresh (suc k) a a' answers
+  pub ran : (k : ℕ) (a a' : ActorState) (answers : List Answered) → slice_get olds k ≡ Some a
+      → slice_get mids k ≡ Some a' → slice_get parts k ≡ Some answers → PartRan v.base phase.at phase.lines v.log fresh (suc k) a a' answers
   pub others : (by : ℕ) → length olds < by → by_number by fresh ≡ []
   pub same : AreSame olds mids
   pub round : RoundRan phase.round v.base v.log fresh phase.at mids news report
