@@ -105,8 +105,8 @@ own_sees told by name name' m w went = record {
 }
 
 -- what is seen behind others is seen of the phase
-pub sees_behind : {D : Type 0} (told : D → Option Past) (by : ℕ) (v m : View D) (fresh more : List Item) → GoesOn told fresh v m → by_number by fresh ≡ []
-    → (first last : PortView) → SeesPhase m.base m.log more by first last → SeesPhase v.base v.log (fresh ++ more) by first last
+pub sees_behind : {D : Type 0} (told : D → Option Past) (by : ℕ) (v m : View D) (fresh more : List Item) → GoesOn told fresh v m
+    → by_number by fresh ≡ [] → (first last : PortView) → SeesPhase m.base m.log more by first last → SeesPhase v.base v.log (fresh ++ more) by first last
 sees_behind told by v m fresh more goes none first last sees = record {
   base_is = sees.base_is ∙ goes.base;
   from = (fresh ++ sees.from.0, sees.from.1 ∙ ap (λ (xs : List Item). xs ++ sees.from.0) goes.grows ∙ append_assoc v.log fresh sees.from.0);

@@ -28,7 +28,8 @@ same_number (x ∷ xs) (y ∷ ys) kept = ap suc (same_number xs ys kept.1)
 
 -- the reps that were taken, lent as a slice and put back are those of the actors now
 pub put_after : (olds bared news : List ActorState) (took lent after : List CellRep) (len : ℕ)
-    → (took ≡ reps_of olds) × (bared ≡ map bare olds) → lent ≡ took → len ≡ length took → KeepReps lent after → news ≡ with_reps bared (take len (after ++ drop (length after) took))
+    → (took ≡ reps_of olds) × (bared ≡ map bare olds) → lent ≡ took → len ≡ length took → KeepReps lent after
+    → news ≡ with_reps bared (take len (after ++ drop (length after) took))
     → (news ≡ with_reps olds after) × KeepReps (reps_of olds) after
 put_after olds bared news took lent after len taken lent_is len_is kept put = (
   put ∙ ap (with_reps bared) all_of ∙ ap (λ (l : List ActorState). with_reps l after) taken.1 ∙ put_back olds after kept_now,

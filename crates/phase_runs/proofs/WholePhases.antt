@@ -26,8 +26,8 @@ use Rattle.phase_runs.proofs.Parts.{by_both, ran_on, ran_whole, sees_behind}
 use Rattle.phase_runs.proofs.PutBack.{same_as, same_put, same_then}
 
 -- each is the client or the cell that it was
-same_held : (round : Option RoundLine) (base : Rows) (before fresh : List Item) (now : Moment) (mids news : List ActorState) (report : Option Report)
-    → RoundRan round base before fresh now mids news report → AreSame mids news
+same_held : (round : Option RoundLine) (base : Rows) (before fresh : List Item) (now : Moment) (mids news : List ActorState)
+    (report : Option Report) → RoundRan round base before fresh now mids news report → AreSame mids news
 same_held None base before fresh now mids news report ran = same_as mids news ran.1.0
 same_held (Some line) base before fresh now mids news report ran =
     subst (AreSame mids) (sym ran.news_are) (same_put mids ran.reps ran.kept)

@@ -14,8 +14,8 @@ pub returns-in-Ok-end-clause-ran : goal.returns-in-Ok-end-clause-ran
 returns-in-Ok-end-clause-ran g c =
     let after = c.round_on-end.new.cells in
     let w = c.round_on-end.new.board in
-    let back = put_after c.args.actors.now c.take_reps.new.actors c.put_reps.new.actors c.in-Ok.reps.items c.deref_mut.result.now after c.in-Ok.reps.len
-    c.in-Ok.ensures.taken c.deref_mut.ensures.value c.in-Ok.reps.ok.0 c.round_on-end.ensures.cells c.put_reps.ensures in
+    let back = put_after c.args.actors.now c.take_reps.new.actors c.put_reps.new.actors c.in-Ok.reps.items c.deref_mut.result.now after
+    c.in-Ok.reps.len c.in-Ok.ensures.taken c.deref_mut.ensures.value c.in-Ok.reps.ok.0 c.round_on-end.ensures.cells c.put_reps.ensures in
     was_held g.D.Disk.told c.args.now c.args.board.now w c.round_on-end.ensures.alone c.args.line.now c.round_on-end.ensures.items
     c.args.actors.now c.put_reps.new.actors after back.0 back.1 (Some c.in-Ok-end.report)
     (subst (λ (l : List CellRep). RoundOf c.args.now c.args.line.now l after (seen_of 0 c.args.board.now) (seen_of 0 w) c.in-Ok-end.report)
@@ -25,8 +25,8 @@ pub returns-in-Disk-clause-ran : goal.returns-in-Disk-clause-ran
 returns-in-Disk-clause-ran g c =
     let after = c.round_on-end.new.cells in
     let w = c.round_on-end.new.board in
-    let back = put_after c.args.actors.now c.take_reps.new.actors c.put_reps.new.actors c.in-Ok.reps.items c.deref_mut.result.now after c.in-Ok.reps.len
-    c.in-Ok.ensures.taken c.deref_mut.ensures.value c.in-Ok.reps.ok.0 c.round_on-end.ensures.cells c.put_reps.ensures in
+    let back = put_after c.args.actors.now c.take_reps.new.actors c.put_reps.new.actors c.in-Ok.reps.items c.deref_mut.result.now after
+    c.in-Ok.reps.len c.in-Ok.ensures.taken c.deref_mut.ensures.value c.in-Ok.reps.ok.0 c.round_on-end.ensures.cells c.put_reps.ensures in
     was_held g.D.Disk.told c.args.now c.args.board.now w c.round_on-end.ensures.alone c.args.line.now c.round_on-end.ensures.items
     c.args.actors.now c.put_reps.new.actors after back.0 back.1 None
     (tells_fault g.D.Disk.told c.args.now c.args.board.now w c.round_on-end.ensures.alone c.args.line.now (reps_of c.args.actors.now) after
@@ -34,4 +34,5 @@ returns-in-Disk-clause-ran g c =
 
 pub returns-in-OutOfMemory-clause-cut : goal.returns-in-OutOfMemory-clause-cut
 returns-in-OutOfMemory-clause-cut g c =
-    was_cut g.D.Disk.told c.args.now c.args.board.now c.round_on-end.new.board c.round_on-end.ensures.alone c.args.line.now c.round_on-end.ensures.items
+    was_cut g.D.Disk.told c.args.now c.args.board.now c.round_on-end.new.board c.round_on-end.ensures.alone c.args.line.now
+    c.round_on-end.ensures.items
