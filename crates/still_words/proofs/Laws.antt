@@ -1,5 +1,5 @@
 -- What each status says, from how the words end that ask for no run.
-use Rattle.std.proofs.Common.{◌≡◌, ◌⊎◌, ◌≤◌, ℕ, true, [], Option, Some, None, Err, refl, ap, subst, inl, inr, arith}
+use Rattle.std.proofs.Common.{◌≡◌, ◌⊎◌, ◌≤◌, true, [], Option, Some, None, Err, refl, ap, subst, inl, inr, arith}
 use Rattle.byte_ports.specs.Cause.{Rose}
 use Rattle.disk_trait.proofs.Public.{goes_weaker}
 use Rattle.disk_trait.specs.Past.{Past, Image}

@@ -1,6 +1,5 @@
-use Rattle.std.proofs.Common.{◌≡◌, Ok, List, refl, ◌∙◌, ap, sym, rules}
+use Rattle.std.proofs.Common.{◌≡◌, ◌∙◌, ap}
 use Rattle.bbs_model.specs.Replay.{replay_log}
-use Rattle.bbs_model.specs.declared.rows.Rows.{Rows}
 use Rattle.bbs_board.specs.View.{rows_of}
 use Rattle.still_words.specs.Records.{records_text}
 use Rattle.still_words.proofs.Shown.{records_end, ok_has, unopened_records}

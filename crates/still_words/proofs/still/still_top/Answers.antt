@@ -1,4 +1,4 @@
-use Rattle.std.proofs.Common.{◌∙◌, ℕ, sym, ap, inl, inr}
+use Rattle.std.proofs.Common.{◌∙◌, sym, ap, inl, inr}
 use Rattle.program_edge.specs.Opening.{is_before_board}
 use Rattle.still_words.proofs.Laws.{opens_from, usage_from, usage_to, unwritten_from, unstored_from, refused_from, exists_from, complete_from, asked_as}
 use Rattle.still_words.proofs.still.still_top.Goals as goal
