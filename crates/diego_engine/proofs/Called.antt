@@ -9,8 +9,9 @@ use Rattle.bbs_model.specs.declared.rows.Rows.{Rows}
 use Rattle.bbs_board.specs.Doubts.{doubts_in, RoseForEach}
 use Rattle.bbs_board.specs.Kept.{Kept}
 use Rattle.diego_engine.specs.Phase.{command_of, call_end_of}
-use Rattle.diego_engine.specs.Running.{Ports, Prints, Calls, EndsCall, CallEnds, ending_of}
-use Rattle.diego_engine.specs.declared.ending.Ending.{Ending}
+use Rattle.program_edge.specs.Ports.{Ports, Prints}
+use Rattle.diego_engine.specs.Running.{Calls, EndsCall, CallEnds, ending_of}
+use Rattle.program_edge.specs.declared.ending.Ending.{Ending}
 use Rattle.diego_engine.specs.declared.phase.Phase.{Phase}
 use Rattle.diego_engine.specs.declared.running.Ended.{Ended}
 use Rattle.diego_engine.specs.declared.script.Script.{Script}

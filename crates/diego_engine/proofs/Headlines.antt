@@ -12,14 +12,17 @@ use Rattle.bbs_board.specs.Calls.{StoresBy}
 use Rattle.bbs_board.specs.Doubts.{doubts_in, RoseForEach}
 use Rattle.diego_engine.specs.Headline.{Headline}
 use Rattle.diego_engine.specs.Phase.{command_of}
-use Rattle.diego_engine.specs.Running.{Ports, IsEmpty, EndsEarly, EndsLate}
-use Rattle.diego_engine.specs.Top.{EndsUntouched, RunEnds, ProgramEnds}
-use Rattle.diego_engine.specs.declared.ending.Ending.{Ending}
-use Rattle.diego_engine.specs.declared.ending.Ending.TheVariants as ending
+use Rattle.program_edge.specs.Opening.{EndsEarly, EndsUntouched}
+use Rattle.program_edge.specs.Ports.{Ports}
+use Rattle.still_words.proofs.Public.{later_from}
+use Rattle.diego_engine.specs.Running.{IsEmpty, EndsLate, EndsUncalled}
+use Rattle.diego_engine.specs.Top.{EndsUnseen, RunEnds, ProgramEnds}
+use Rattle.program_edge.specs.declared.ending.Ending.{Ending}
+use Rattle.program_edge.specs.declared.ending.Ending.TheVariants as ending
 use Rattle.diego_engine.specs.declared.running.Ended.{Ended}
 use Rattle.diego_engine.specs.declared.script.Script.{Script}
-use Rattle.diego_engine.specs.declared.words.Asked.{Asked}
-use Rattle.diego_engine.specs.declared.words.Asked.TheVariants as asked
+use Rattle.still_words.specs.declared.words.Asked.{Asked}
+use Rattle.still_words.specs.declared.words.Asked.TheVariants as asked
 use Rattle.diego_engine.proofs.SinceEntry.{stores_extend, headline_rests, headline_on}
 
 keeps_same : (p : Past) → KeepsContent p p
@@ -40,13 +43,13 @@ module _ (e : Ended) (v w : Ports) where
       (subst (λ (marks : List ℕ). Headline [] marks v.told w.told v.disk_faults w.disk_faults) (sym is.marks)
       (headline_rests v.told w.told v.disk_faults w.disk_faults le goes))
 
-  early : (failed : Bool) → EndsEarly failed e v w → HasHeadline
-  early failed ends = empty ends.empty ends.cause.later ends.rests
+  early : (failed : Bool) (how : Ending) → IsEmpty e → EndsEarly failed how v w → HasHeadline
+  early failed how is ends = empty is ends.cause.later ends.rests
 
-  untouched : EndsUntouched e v w → HasHeadline
-  untouched ends =
-      empty ends.empty (omega (arith, ends.faults))
-      (subst (λ (t : Option Past). Goes v.told t KeepsContent) (sym ends.told) (goes_same v.told KeepsContent (λ p is. keeps_same p)))
+  untouched : (how : Ending) → EndsUnseen how e v w → HasHeadline
+  untouched how ends =
+      empty ends.0 (omega (arith, ends.1.faults))
+      (subst (λ (t : Option Past). Goes v.told t KeepsContent) (sym ends.1.told) (goes_same v.told KeepsContent (λ p is. keeps_same p)))
 
   -- a run that made its call
   late : (script : Script) (whole failed : Bool) → EndsLate script whole failed e v w → HasHeadline
@@ -62,13 +65,13 @@ module _ (e : Ended) (v w : Ports) where
     by_ending ending.Done (script, reads, ends) = late script _ _ ends
     by_ending ending.Doubt (script, reads, ends) = late script _ _ ends
     by_ending ending.Unwritten (script, reads, (failed, ends)) = late script _ failed ends
-    by_ending ending.Unopened (script, reads, ends) = early _ ends
-    by_ending (ending.NotABoard area) (script, reads, ends) = early _ ends.0
-    by_ending (ending.Damaged area at) (script, reads, ends) = early _ ends.0
-    by_ending ending.OutOfMemory ends = early _ ends.0
-    by_ending ending.Script ends = untouched ends.0
-    by_ending ending.Read ends = untouched ends.0
-    by_ending ending.TooLong ends = untouched ends.0
+    by_ending ending.Unopened (script, reads, (is, ends)) = early true ending.Unopened is ends
+    by_ending (ending.NotABoard area) (script, reads, (is, ends)) = early false (ending.NotABoard area) is ends.early
+    by_ending (ending.Damaged area at) (script, reads, (is, ends)) = early false (ending.Damaged area at) is ends.early
+    by_ending ending.OutOfMemory ((is, ends), lost) = early false ending.OutOfMemory is ends
+    by_ending ending.Script ends = untouched ending.Script ends.0
+    by_ending ending.Read ends = untouched ending.Read ends.0
+    by_ending ending.TooLong ends = untouched ending.TooLong ends.0
     by_ending ending.Usage never = absurd never
     by_ending ending.Exists never = absurd never
 
@@ -87,17 +90,15 @@ module _ (e : Ended) (v w : Ports) where
     doubts_from ending.Done (Some asked.Run) (script, reads, ends) = called script _ _ ends
     doubts_from ending.Doubt (Some asked.Run) (script, reads, ends) = called script _ _ ends
     doubts_from ending.Unwritten (Some asked.Run) (script, reads, (failed, ends)) = called script _ failed ends
-    doubts_from ending.Unopened (Some asked.Run) (script, reads, ends) = none ends.empty ends.cause.later
-    doubts_from (ending.NotABoard area) (Some asked.Run) (script, reads, ends) = none ends.0.empty ends.0.cause.later
-    doubts_from (ending.Damaged area at) (Some asked.Run) (script, reads, ends) = none ends.0.empty ends.0.cause.later
-    doubts_from ending.OutOfMemory (Some asked.Run) ends = none ends.0.empty ends.0.cause.later
-    doubts_from ending.Script (Some asked.Run) ends = none ends.0.empty (omega (arith, ends.0.faults))
-    doubts_from ending.Read (Some asked.Run) ends = none ends.0.empty (omega (arith, ends.0.faults))
-    doubts_from ending.TooLong (Some asked.Run) ends = none ends.0.empty (omega (arith, ends.0.faults))
-    doubts_from ending.Usage None ends = none ends.0.empty (omega (arith, ends.0.faults))
-    doubts_from ending.Done (Some asked.Prepare) ends = none ends.0.0.empty ends.0.0.cause.later
-    doubts_from ending.Exists (Some asked.Prepare) ends = none ends.0.0.empty ends.0.0.cause.later
-    doubts_from ending.Unopened (Some asked.Prepare) ends = none ends.0.0.empty ends.0.0.cause.later
+    doubts_from ending.Unopened (Some asked.Run) (script, reads, (is, ends)) = none is ends.cause.later
+    doubts_from (ending.NotABoard area) (Some asked.Run) (script, reads, (is, ends)) = none is ends.early.cause.later
+    doubts_from (ending.Damaged area at) (Some asked.Run) (script, reads, (is, ends)) = none is ends.early.cause.later
+    doubts_from ending.OutOfMemory (Some asked.Run) ((is, ends), lost) = none is ends.cause.later
+    doubts_from ending.Script (Some asked.Run) ((is, ends), reads) = let stands = ends.faults in none is (omega (arith, stands))
+    doubts_from ending.Read (Some asked.Run) ((is, ends), reads) = let stands = ends.faults in none is (omega (arith, stands))
+    doubts_from ending.TooLong (Some asked.Run) ((is, ends), reads) = let stands = ends.faults in none is (omega (arith, stands))
     doubts_from how (Some asked.Run) never = absurd never
-    doubts_from how (Some asked.Prepare) never = absurd never.0
-    doubts_from how None never = absurd never.0
+    doubts_from how (Some asked.Prepare) ends = none ends.empty (later_from v w how (Some asked.Prepare) ends.still)
+    doubts_from how (Some asked.Records) ends = none ends.empty (later_from v w how (Some asked.Records) ends.still)
+    doubts_from how (Some asked.Check) ends = none ends.empty (later_from v w how (Some asked.Check) ends.still)
+    doubts_from how None ends = none ends.empty (later_from v w how None ends.still)

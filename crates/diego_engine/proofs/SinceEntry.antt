@@ -21,7 +21,7 @@ use Rattle.bbs_board.specs.Kept.{IsFound, RiseBetween, Kept}
 use Rattle.bbs_board.specs.Opening.{IsBoard}
 use Rattle.bbs_board.proofs.Public.{one_board}
 use Rattle.diego_engine.specs.Headline.{HoldsOnly, Takes, Headline}
-use Rattle.diego_engine.specs.Running.{IsTold}
+use Rattle.program_edge.specs.Ports.{IsTold}
 
 -- numbers that never fall lie above each smaller one
 rising_from : (less low high : ℕ) (marks : List ℕ) → less ≤ low → RiseBetween low marks high → RiseBetween less marks high

@@ -9,15 +9,17 @@ use Rattle.bbs_board.specs.Opening.{IsBoard, IsRefused}
 use Rattle.disk_trait.specs.Shows.{Shows, Secures}
 use Rattle.bbs_journal.specs.declared.load_fault.LoadFault.{LoadFault}
 use Rattle.bbs_journal.specs.declared.load_fault.LoadFault.TheVariants as fault
-use Rattle.diego_engine.specs.Running.{Ports, EndsEarly, EndsCall}
+use Rattle.program_edge.specs.Opening.{EndsEarly}
+use Rattle.program_edge.specs.Ports.{Ports}
+use Rattle.program_edge.specs.declared.ending.Ending.{Ending}
+use Rattle.program_edge.specs.declared.ending.Ending.TheVariants as ending
+use Rattle.still_words.specs.declared.words.Asked.{Asked}
+use Rattle.still_words.specs.declared.words.Asked.TheVariants as asked
+use Rattle.diego_engine.specs.Running.{IsEmpty, EndsCall, EndsUncalled}
 use Rattle.diego_engine.specs.Script.{script_of}
-use Rattle.diego_engine.specs.Top.{ReadsWhole, EndsUntouched, StillEnds, limit}
-use Rattle.diego_engine.specs.declared.ending.Ending.{Ending}
-use Rattle.diego_engine.specs.declared.ending.Ending.TheVariants as ending
+use Rattle.diego_engine.specs.Top.{ReadsWhole, EndsUnseen, EndsWithoutRun, limit}
 use Rattle.diego_engine.specs.declared.running.Ended.{Ended}
 use Rattle.diego_engine.specs.declared.script.Script.{Script}
-use Rattle.diego_engine.specs.declared.words.Asked.{Asked}
-use Rattle.diego_engine.specs.declared.words.Asked.TheVariants as asked
 
 -- the run loaded the board of the disk, and made its call
 pub record EndsLateInMemory (script : Script) (whole failed : Bool) (e : Ended) (v w : Ports) : Type 0 where
@@ -29,19 +31,21 @@ pub record EndsLateInMemory (script : Script) (whole failed : Bool) (e : Ended) 
   pub no_fault : between.disk_faults ≡ v.disk_faults
   pub call : EndsCall script rows whole failed e between w
 
--- no board was loaded, for this fault, which the content of the disk explains
-abbrev pub EndsRefusedInMemory : LoadFault → Ended → Ports → Ports → Type 0
-EndsRefusedInMemory why e v w = EndsEarly false e v w × ((image : Image) → Shows v.told image → IsRefused why image)
+-- the run made no call, and no board was loaded, for this fault, which the content of the disk explains
+pub record EndsRefusedInMemory (why : LoadFault) (how : Ending) (e : Ended) (v w : Ports) : Type 0 where
+  pub empty : IsEmpty e
+  pub early : EndsEarly false how v w
+  pub refused : (image : Image) → Shows v.told image → IsRefused why image
 
 -- how the run of a script ends
 abbrev pub ScriptEndsInMemory : Ending → Script → Ended → Ports → Ports → Type 0
 ScriptEndsInMemory ending.Done script e v w = EndsLateInMemory script true false e v w
 ScriptEndsInMemory ending.Doubt script e v w = EndsLateInMemory script true true e v w
 ScriptEndsInMemory ending.Unwritten script e v w = (failed : Bool) × EndsLateInMemory script false failed e v w
-ScriptEndsInMemory ending.Unopened script e v w = EndsEarly true e v w
-ScriptEndsInMemory (ending.NotABoard area) script e v w = EndsRefusedInMemory (fault.NotABoard area) e v w
-ScriptEndsInMemory (ending.Damaged area at) script e v w = EndsRefusedInMemory (fault.Damaged area at) e v w
-ScriptEndsInMemory ending.OutOfMemory script e v w = EndsEarly false e v w
+ScriptEndsInMemory ending.Unopened script e v w = EndsUncalled ending.Unopened e v w
+ScriptEndsInMemory (ending.NotABoard area) script e v w = EndsRefusedInMemory (fault.NotABoard area) (ending.NotABoard area) e v w
+ScriptEndsInMemory (ending.Damaged area at) script e v w = EndsRefusedInMemory (fault.Damaged area at) (ending.Damaged area at) e v w
+ScriptEndsInMemory ending.OutOfMemory script e v w = EndsUncalled ending.OutOfMemory e v w
 ScriptEndsInMemory other script e v w = ⊥
 
 -- a script was read, and its run ended so
@@ -57,18 +61,20 @@ RunEndsInMemory ending.Unwritten e left left' v w = RunsScriptInMemory ending.Un
 RunEndsInMemory ending.Unopened e left left' v w = RunsScriptInMemory ending.Unopened e left left' v w
 RunEndsInMemory (ending.NotABoard area) e left left' v w = RunsScriptInMemory (ending.NotABoard area) e left left' v w
 RunEndsInMemory (ending.Damaged area at) e left left' v w = RunsScriptInMemory (ending.Damaged area at) e left left' v w
-RunEndsInMemory ending.OutOfMemory e left left' v w = EndsEarly false e v w × LostAtMost left left' limit
-RunEndsInMemory ending.Script e left left' v w = EndsUntouched e v w × ReadsWhole left left' (λ bytes. script_of bytes ≡ None)
-RunEndsInMemory ending.Read e left left' v w = EndsUntouched e v w × LostAtMost left left' limit
-RunEndsInMemory ending.TooLong e left left' v w = EndsUntouched e v w × Lost left left' (limit + 1)
+RunEndsInMemory ending.OutOfMemory e left left' v w = EndsUncalled ending.OutOfMemory e v w × LostAtMost left left' limit
+RunEndsInMemory ending.Script e left left' v w = EndsUnseen ending.Script e v w × ReadsWhole left left' (λ bytes. script_of bytes ≡ None)
+RunEndsInMemory ending.Read e left left' v w = EndsUnseen ending.Read e v w × LostAtMost left left' limit
+RunEndsInMemory ending.TooLong e left left' v w = EndsUnseen ending.TooLong e v w × Lost left left' (limit + 1)
 RunEndsInMemory ending.Usage e left left' v w = ⊥
 RunEndsInMemory ending.Exists e left left' v w = ⊥
 
 -- how the program ends
 abbrev pub EndsInMemory : Ending → Option Asked → Ended → Option (List ℕ) → Option (List ℕ) → Ports → Ports → Type 0
 EndsInMemory how (Some asked.Run) e left left' v w = RunEndsInMemory how e left left' v w
-EndsInMemory how (Some asked.Prepare) e left left' v w = StillEnds how (Some asked.Prepare) e v w × (left' ≡ left)
-EndsInMemory how None e left left' v w = StillEnds how None e v w × (left' ≡ left)
+EndsInMemory how (Some asked.Prepare) e left left' v w = EndsWithoutRun how (Some asked.Prepare) e left left' v w
+EndsInMemory how (Some asked.Records) e left left' v w = EndsWithoutRun how (Some asked.Records) e left left' v w
+EndsInMemory how (Some asked.Check) e left left' v w = EndsWithoutRun how (Some asked.Check) e left left' v w
+EndsInMemory how None e left left' v w = EndsWithoutRun how None e left left' v w
 
 -- a script was read, its call was made, and its text was written whole, and no fault was met
 abbrev pub RunsWholeInMemory : Ended → Option (List ℕ) → Option (List ℕ) → Ports → Ports → Type 0

@@ -1,4 +1,3 @@
-pub mod Ending
 pub mod Headline
 pub mod InMemory
 pub mod LineKinds
@@ -8,4 +7,3 @@ pub mod Phase
 pub mod Running
 pub mod Script
 pub mod Top
-pub mod Words

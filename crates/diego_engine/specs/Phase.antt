@@ -17,7 +17,7 @@ use Rattle.lrp_records.specs.declared.desired.Desired.{Desired}
 use Rattle.record_print.specs.Printed.{line_text, answer_data, event_data, summary_data}
 use Rattle.record_print.specs.declared.asked.Asked.TheVariants as asked
 use Rattle.record_print.specs.declared.summary.Summary.{Summary}
-use Rattle.diego_engine.specs.declared.answered.Answered.{Answered}
+use Rattle.scenario_lines.specs.declared.answered.Answered.{Answered}
 use Rattle.diego_engine.specs.declared.phase.Phase.{Phase}
 use Rattle.diego_engine.specs.declared.script.Script.{Script}
 

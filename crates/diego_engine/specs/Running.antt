@@ -1,9 +1,7 @@
 -- How the run of a script ends, by what the ports and the disk did.
-use Rattle.std.specs.Prelude.{◌≡◌, ◌⊎◌, ℕ, Bool, true, false, not, List, [], ◌∷◌, map, Option, Some, None, Result, Ok, Err}
-use Rattle.std.specs.Io.KnownBytes.{Appends}
+use Rattle.std.specs.Prelude.{◌≡◌, ℕ, Bool, true, false, List, [], ◌∷◌, map, Option, Some, Result, Ok, Err}
 use Rattle.std.specs.Option.{ForSome}
 use Rattle.byte_ports.specs.Cause.{HasCause}
-use Rattle.byte_ports.specs.Content.{HoldsFront}
 use Rattle.disk_trait.specs.Past.{Past, Image}
 use Rattle.disk_trait.specs.Steps.{Goes}
 use Rattle.std.specs.declared.alloc.AllocError.{AllocError}
@@ -14,51 +12,17 @@ use Rattle.bbs_model.specs.declared.item.Item.{Item}
 use Rattle.bbs_board.specs.Calls.{StoresBy}
 use Rattle.bbs_board.specs.Doubts.{doubts_in, RoseForEach}
 use Rattle.bbs_board.specs.Kept.{Kept}
-use Rattle.bbs_board.specs.Opening.{IsBoard, IsRefused}
-use Rattle.disk_trait.specs.Shows.{Shows, KeepsContent, Secures}
-use Rattle.bbs_journal.specs.declared.load_fault.LoadFault.{LoadFault}
-use Rattle.bbs_journal.specs.declared.load_fault.LoadFault.TheVariants as fault
+use Rattle.bbs_board.specs.Opening.{IsBoard}
+use Rattle.disk_trait.specs.Shows.{Shows, Secures}
 use Rattle.cell_rep.specs.declared.call_end.CallEnd.{CallEnd}
-use Rattle.diego_engine.specs.Ending.{line_of}
+use Rattle.program_edge.specs.Opening.{EndsEarly, EndsUnopened}
+use Rattle.program_edge.specs.Ports.{Ports, IsTold, Prints}
+use Rattle.program_edge.specs.declared.ending.Ending.{Ending}
+use Rattle.program_edge.specs.declared.ending.Ending.TheVariants as ending
 use Rattle.diego_engine.specs.Phase.{TellsPhase, command_of, call_end_of, log_of, is_doubt, run_text, answered_of}
-use Rattle.diego_engine.specs.declared.ending.Ending.{Ending}
-use Rattle.diego_engine.specs.declared.ending.Ending.TheVariants as ending
 use Rattle.diego_engine.specs.declared.phase.Phase.{Phase}
 use Rattle.diego_engine.specs.declared.running.Ended.{Ended}
 use Rattle.diego_engine.specs.declared.script.Script.{Script}
-
--- what is told of the sink and the disk at one moment
-pub record Ports : Type 0 where
-  pub held : Option (List ℕ)
-  pub write_faults : ℕ
-  pub told : Option Past
-  pub disk_faults : ℕ
-  pub clock : ℕ
-
--- the ports, from what the sink tells and then what the disk tells
-abbrev pub ports_of : Option (List ℕ) → ℕ → Option Past → ℕ → ℕ → Ports
-ports_of held write_faults told disk_faults clock = record {
-  held = held;
-  write_faults = write_faults;
-  told = told;
-  disk_faults = disk_faults;
-  clock = clock;
-}
-
--- the disk tells its past
-abbrev pub IsTold : Option Past → Type 0
-IsTold None = ⊥
-IsTold (Some p) = Unit {0}
-
--- a text was put into a sink that held this, whole or up to a fault
-pub record PrintsTo (whole : Bool) (text : List ℕ) (held held' : Option (List ℕ)) (faults faults' : ℕ) : Type 0 where
-  pub cause : HasCause (not whole) faults faults'
-  pub front : HoldsFront held held' text
-  pub all : whole ≡ true → Appends held held' text
-
--- the same, of all ports
-abbrev pub Prints : Bool → List ℕ → Ports → Ports → Type 0
-Prints whole text v w = PrintsTo whole text v.held w.held v.write_faults w.write_faults
 
 -- how a run ends that made its call
 abbrev pub ending_of : Bool → Bool → Ending
@@ -86,14 +50,6 @@ pub record IsEmpty (e : Ended) : Type 0 where
   pub marks : e.marks.items ≡ []
   pub answers : e.answers.items ≡ []
 
--- the run ended before a call, with a line; the disk failed or not, and a read gives what it gave
-pub record EndsEarly (failed : Bool) (e : Ended) (v w : Ports) : Type 0 where
-  pub empty : IsEmpty e
-  pub rests : Goes v.told w.told KeepsContent
-  pub cause : HasCause failed v.disk_faults w.disk_faults
-  pub whole : Bool
-  pub prints : Prints whole (line_of e.ending) v w
-
 -- the run made its call at a board with these rows; the disk failed in it or not, and its text was
 -- written whole or not; whatever a stop leaves of the disk from then on is a board that its log reaches, and
 -- each doubt in the log has a fault of the disk for its cause
@@ -117,7 +73,7 @@ abbrev pub CallEnds : Ending → Script → Rows → Ended → Ports → Ports �
 CallEnds ending.Done script rows e v w = EndsCall script rows true false e v w
 CallEnds ending.Doubt script rows e v w = EndsCall script rows true true e v w
 CallEnds ending.Unwritten script rows e v w = (failed : Bool) × EndsCall script rows false failed e v w
-CallEnds ending.OutOfMemory script rows e v w = EndsEarly false e v w
+CallEnds ending.OutOfMemory script rows e v w = IsEmpty e × EndsEarly false ending.OutOfMemory v w
 CallEnds other script rows e v w = ⊥
 
 -- the run loaded a board, that of the disk where it tells its past to the end, and made its call
@@ -131,24 +87,17 @@ pub record EndsLate (script : Script) (whole failed : Bool) (e : Ended) (v w : P
   pub no_fault : between.disk_faults ≡ v.disk_faults
   pub call : EndsCall script rows whole failed e between w
 
--- no board was loaded, for this fault, which the content of a disk explains that tells its past to the end
-abbrev pub EndsRefused : LoadFault → Ended → Ports → Ports → Type 0
-EndsRefused why e v w = EndsEarly false e v w × ((image : Image) → Shows v.told image → IsTold w.told → IsRefused why image)
+-- the run made no call, and no board was opened
+abbrev pub EndsUncalled : Ending → Ended → Ports → Ports → Type 0
+EndsUncalled how e v w = IsEmpty e × EndsUnopened how v w
 
 -- how the run of a script ends
 abbrev pub ScriptEnds : Ending → Script → Ended → Ports → Ports → Type 0
 ScriptEnds ending.Done script e v w = EndsLate script true false e v w
 ScriptEnds ending.Doubt script e v w = EndsLate script true true e v w
 ScriptEnds ending.Unwritten script e v w = (failed : Bool) × EndsLate script false failed e v w
-ScriptEnds ending.Unopened script e v w = EndsEarly true e v w
-ScriptEnds (ending.NotABoard area) script e v w = EndsRefused (fault.NotABoard area) e v w
-ScriptEnds (ending.Damaged area at) script e v w = EndsRefused (fault.Damaged area at) e v w
-ScriptEnds ending.OutOfMemory script e v w = EndsEarly false e v w
+ScriptEnds ending.Unopened script e v w = EndsUncalled ending.Unopened e v w
+ScriptEnds (ending.NotABoard area) script e v w = EndsUncalled (ending.NotABoard area) e v w
+ScriptEnds (ending.Damaged area at) script e v w = EndsUncalled (ending.Damaged area at) e v w
+ScriptEnds ending.OutOfMemory script e v w = EndsUncalled ending.OutOfMemory e v w
 ScriptEnds other script e v w = ⊥
-
--- how a run ends whose board wasn't loaded: a line that tells a place may want memory
-abbrev pub EndsAs : LoadFault → Ending → Type 0
-EndsAs fault.Disk how = how ≡ ending.Unopened
-EndsAs (fault.NotABoard area) how = how ≡ ending.NotABoard area
-EndsAs (fault.Damaged area at) how = (how ≡ ending.Damaged area at) ⊎ (how ≡ ending.OutOfMemory)
-EndsAs fault.OutOfMemory how = how ≡ ending.OutOfMemory

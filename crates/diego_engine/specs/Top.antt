@@ -1,24 +1,22 @@
 -- How the program ends, by what it was asked, what the source gave, and what the sink and the disk did.
-use Rattle.std.specs.Prelude.{◌≡◌, ℕ, ◌+◌, ◌≤◌, ◌==◌, ◌||◌, Bool, true, false, List, length, Option, Some, None, Result, Ok, Err}
+use Rattle.std.specs.Prelude.{◌≡◌, ℕ, ◌+◌, ◌≤◌, Bool, true, false, List, length, Option, Some, None, Result, Ok, Err}
 use Rattle.std.specs.Io.KnownBytes.{Consumes, IsAtEnd}
-use Rattle.byte_ports.specs.Cause.{HasCause}
 use Rattle.byte_ports.specs.Content.{Lost, LostAtMost}
 use Rattle.disk_trait.specs.Past.{Past, Image}
-use Rattle.disk_trait.specs.Runs.{Extends}
 use Rattle.bbs_model.specs.declared.rows.Rows.{Rows}
 use Rattle.bbs_board.specs.Opening.{IsBoard}
 use Rattle.disk_trait.specs.Shows.{Shows}
-use Rattle.bbs_journal.specs.Preparing.{Prepares, FindsBytes}
-use Rattle.disk_trait.specs.Steps.{Goes}
-use Rattle.diego_engine.specs.Ending.{line_of}
-use Rattle.diego_engine.specs.Running.{Ports, IsEmpty, Prints, EndsEarly, EndsLate, ScriptEnds}
+use Rattle.program_edge.specs.Opening.{EndsUntouched}
+use Rattle.program_edge.specs.Ports.{Ports}
+use Rattle.program_edge.specs.declared.ending.Ending.{Ending}
+use Rattle.program_edge.specs.declared.ending.Ending.TheVariants as ending
+use Rattle.still_words.specs.Still.{StillEnds}
+use Rattle.still_words.specs.declared.words.Asked.{Asked}
+use Rattle.still_words.specs.declared.words.Asked.TheVariants as asked
+use Rattle.diego_engine.specs.Running.{IsEmpty, EndsLate, EndsUncalled, ScriptEnds}
 use Rattle.diego_engine.specs.Script.{script_of}
-use Rattle.diego_engine.specs.declared.ending.Ending.{Ending}
-use Rattle.diego_engine.specs.declared.ending.Ending.TheVariants as ending
 use Rattle.diego_engine.specs.declared.running.Ended.{Ended}
 use Rattle.diego_engine.specs.declared.script.Script.{Script}
-use Rattle.diego_engine.specs.declared.words.Asked.{Asked}
-use Rattle.diego_engine.specs.declared.words.Asked.TheVariants as asked
 
 -- the most bytes that a script may have
 abbrev pub limit : ℕ
@@ -54,13 +52,9 @@ abbrev pub is_unread : Result Script Ending → Bool
 is_unread (Ok script) = false
 is_unread (Err e) = is_read e
 
--- the run ended with a line, and the disk is untouched
-pub record EndsUntouched (e : Ended) (v w : Ports) : Type 0 where
-  pub empty : IsEmpty e
-  pub told : w.told ≡ v.told
-  pub faults : w.disk_faults ≡ v.disk_faults
-  pub whole : Bool
-  pub prints : Prints whole (line_of e.ending) v w
+-- the run made no call, and ended before it looked at the disk
+abbrev pub EndsUnseen : Ending → Ended → Ports → Ports → Type 0
+EndsUnseen how e v w = IsEmpty e × EndsUntouched how v w
 
 -- a script was read, and its run ended so
 abbrev pub RunsScript : Ending → Ended → Option (List ℕ) → Option (List ℕ) → Ports → Ports → Type 0
@@ -75,37 +69,26 @@ RunEnds ending.Unwritten e left left' v w = RunsScript ending.Unwritten e left l
 RunEnds ending.Unopened e left left' v w = RunsScript ending.Unopened e left left' v w
 RunEnds (ending.NotABoard area) e left left' v w = RunsScript (ending.NotABoard area) e left left' v w
 RunEnds (ending.Damaged area at) e left left' v w = RunsScript (ending.Damaged area at) e left left' v w
-RunEnds ending.OutOfMemory e left left' v w = EndsEarly false e v w × LostAtMost left left' limit
-RunEnds ending.Script e left left' v w = EndsUntouched e v w × ReadsWhole left left' (λ bytes. script_of bytes ≡ None)
-RunEnds ending.Read e left left' v w = EndsUntouched e v w × LostAtMost left left' limit
-RunEnds ending.TooLong e left left' v w = EndsUntouched e v w × Lost left left' (limit + 1)
+RunEnds ending.OutOfMemory e left left' v w = EndsUncalled ending.OutOfMemory e v w × LostAtMost left left' limit
+RunEnds ending.Script e left left' v w = EndsUnseen ending.Script e v w × ReadsWhole left left' (λ bytes. script_of bytes ≡ None)
+RunEnds ending.Read e left left' v w = EndsUnseen ending.Read e v w × LostAtMost left left' limit
+RunEnds ending.TooLong e left left' v w = EndsUnseen ending.TooLong e v w × Lost left left' (limit + 1)
 RunEnds ending.Usage e left left' v w = ⊥
 RunEnds ending.Exists e left left' v w = ⊥
 
--- `prepare` ended with a line, and the disk did this
-pub record EndsStill (failed : Bool) (e : Ended) (v w : Ports) : Type 0 where
+-- words that ask for no run ended so: no call was made, and nothing was taken from the source
+pub record EndsWithoutRun (how : Ending) (what : Option Asked) (e : Ended) (left left' : Option (List ℕ)) (v w : Ports) : Type 0 where
   pub empty : IsEmpty e
-  pub cause : HasCause failed v.disk_faults w.disk_faults
-  pub whole : Bool
-  pub prints : Prints whole (line_of e.ending) v w
-
--- how words that ask for no run end
-abbrev pub StillEnds : Ending → Option Asked → Ended → Ports → Ports → Type 0
-StillEnds ending.Usage None e v w = EndsUntouched e v w
-StillEnds ending.Done (Some asked.Prepare) e v w = EndsStill false e v w × Goes v.told w.told Prepares
-StillEnds ending.Exists (Some asked.Prepare) e v w = EndsStill false e v w × Goes v.told w.told FindsBytes
-StillEnds ending.Unopened (Some asked.Prepare) e v w = EndsStill true e v w × Goes v.told w.told Extends
-StillEnds how what e v w = ⊥
+  pub still : StillEnds how what v w
+  pub unread : left' ≡ left
 
 -- how the program ends
 abbrev pub ProgramEnds : Ending → Option Asked → Ended → Option (List ℕ) → Option (List ℕ) → Ports → Ports → Type 0
 ProgramEnds how (Some asked.Run) e left left' v w = RunEnds how e left left' v w
-ProgramEnds how (Some asked.Prepare) e left left' v w = StillEnds how (Some asked.Prepare) e v w × (left' ≡ left)
-ProgramEnds how None e left left' v w = StillEnds how None e v w × (left' ≡ left)
-
--- with this status the program ends before it looks at the disk
-abbrev pub is_before_board : ℕ → Bool
-is_before_board status = (status == 1) || ((status == 2) || ((status == 3) || (status == 8)))
+ProgramEnds how (Some asked.Prepare) e left left' v w = EndsWithoutRun how (Some asked.Prepare) e left left' v w
+ProgramEnds how (Some asked.Records) e left left' v w = EndsWithoutRun how (Some asked.Records) e left left' v w
+ProgramEnds how (Some asked.Check) e left left' v w = EndsWithoutRun how (Some asked.Check) e left left' v w
+ProgramEnds how None e left left' v w = EndsWithoutRun how None e left left' v w
 
 -- the source tells a script that isn't too long, and the disk a board with these rows
 pub record Meets (left : Option (List ℕ)) (told : Option Past) : Type 0 where

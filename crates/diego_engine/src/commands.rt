@@ -1,18 +1,16 @@
-//! What each word does.
-ghost use Rattle.std.specs.Prelude.{◌≡◌, ◌≢◌, true, Some};
+//! What a run does: it reads a script, and plays it.
+ghost use Rattle.std.specs.Prelude.{◌≡◌, true};
 ghost use Rattle.byte_ports.specs.Cause.{HasCause};
-ghost use Rattle.diego_engine.specs.Ending.{status_of};
-ghost use Rattle.diego_engine.specs.Running.{ports_of};
-ghost use Rattle.diego_engine.specs.Top.{ReadsScript, RunEnds, StillEnds, is_before_board, is_read, is_unread};
-ghost use Rattle.diego_engine.specs.declared.words.Asked.TheVariants as wanted;
+ghost use Rattle.program_edge.specs.Ending.{status_of};
+ghost use Rattle.program_edge.specs.Opening.{is_before_board};
+ghost use Rattle.program_edge.specs.Ports.{ports_of};
+ghost use Rattle.diego_engine.specs.Top.{ReadsScript, RunEnds, is_read, is_unread};
 
-use crate::ending::Ending;
-use crate::running::{Ended, ended_early, run_script};
+use crate::running::{Ended, run_script, uncalled};
 use crate::script::{Script, ScriptFault, read_script};
-use crate::words::Asked;
-use bbs_board::{PrepareFault, prepare};
 use byte_ports::{Gate, ReadFault, Sink, Source, read_whole};
 use disk_trait::Disk;
+use program_edge::{Ending, ended_early};
 use std::alloc::Global;
 
 /// The most bytes that a script may have.
@@ -53,31 +51,6 @@ pub fn run<S: Source, K: Sink, D: Disk, G: Gate>(
 {
     match read(alloc, source) {
         Ok(script) => run_script(alloc, &script, sink, disk, gate),
-        Err(ending) => (ended_early(alloc, sink, ending), disk),
-    }
-}
-
-/// Does what waits for nobody.
-pub fn still<K: Sink, D: Disk>(
-    alloc: Global,
-    asked: Option<Asked>,
-    sink: &mut K,
-    disk: &mut D,
-) -> Ended
-    requires { asked ≢ Some wanted.Run }
-    ensures unopened { is_before_board (status_of result.ending) ≡ true → disk.new ≡ disk.old }
-    ensures ends { StillEnds result.ending asked result
-        (ports_of (K.held sink.old) (K.faults sink.old)
-        (D.told disk.old) (D.fault_count disk.old) (D.moment disk.old))
-        (ports_of (K.held sink.new) (K.faults sink.new)
-        (D.told disk.new) (D.fault_count disk.new) (D.moment disk.new)) }
-{
-    match asked {
-        Some(Asked::Prepare) => match prepare(disk) {
-            Ok(()) => ended_early(alloc, sink, Ending::Done),
-            Err(PrepareFault::Disk) => ended_early(alloc, sink, Ending::Unopened),
-            Err(PrepareFault::NotEmpty) => ended_early(alloc, sink, Ending::Exists),
-        },
-        _ => ended_early(alloc, sink, Ending::Usage),
+        Err(ending) => (uncalled(alloc, ended_early(sink, ending)), disk),
     }
 }

@@ -2,12 +2,12 @@
 ghost use Rattle.std.specs.Prelude.{◌≡◌, ◌<◌, ◌^◌, [], ◌∷◌, IfOk};
 ghost use Rattle.diego_engine.specs.Phase.{TellsPhase, events_text, call_counts, run_text, desire_event, is_doubt, command_of};
 
-use crate::answered::Answered;
 use crate::script::Script;
 use bbs_model::{CallFault, Change, Command, Event, Op, Reply, Row};
 use cell_rep::CallEnd;
 use lrp_records::Desired;
 use record_print::{Asked, Summary, answer_text, event_text, summary_text};
+use scenario_lines::Answered;
 use std::alloc::{AllocError, Global};
 
 /// The number of the script's one actor.

@@ -1,23 +1,18 @@
 //! The run of a script: the opening, the call, and its text.
-ghost use Rattle.std.specs.Prelude.{◌≡◌, ◌⊎◌, Bool, true, false, not};
-ghost use Rattle.byte_ports.specs.Cause.{HasCause};
-ghost use Rattle.byte_ports.specs.Content.{HoldsFront};
-ghost use Rattle.std.specs.Io.KnownBytes.{Appends};
+ghost use Rattle.std.specs.Prelude.{◌≡◌, Bool};
 ghost use Rattle.bbs_board.specs.View.{IsFresh};
-ghost use Rattle.diego_engine.specs.Ending.{constant_line, line_of};
-ghost use Rattle.diego_engine.specs.declared.ending.Ending.{Ending as AnEnding};
-ghost use Rattle.diego_engine.specs.declared.ending.Ending.TheVariants as ending;
-ghost use Rattle.diego_engine.specs.Running.{IsEmpty, PrintsTo, CallEnds, ScriptEnds, EndsAs, ending_of, ports_of};
+ghost use Rattle.program_edge.specs.Ports.{PrintsTo, ports_of};
+ghost use Rattle.diego_engine.specs.Running.{IsEmpty, CallEnds, ScriptEnds, ending_of};
 
-use crate::answered::Answered;
 use crate::calling::call;
-use crate::ending::{Ending, constant_line, damaged_line};
 use crate::phase::{ACTOR, Phase};
 use crate::script::Script;
-use bbs_board::{Board, Closed, LoadFault, load};
+use bbs_board::{Board, Closed};
 use bbs_model::Item;
-use byte_ports::{Gate, Sink, write_whole};
-use disk_trait::{Area, Disk};
+use byte_ports::{Gate, Sink};
+use disk_trait::Disk;
+use program_edge::{Ending, ended_early, open, written};
+use scenario_lines::Answered;
 use std::alloc::Global;
 
 /// How a run ended, and what it did.
@@ -29,51 +24,16 @@ pub struct Ended {
     pub answers: Vec<Answered>,
 }
 
-/// Puts a text into the sink, and tells whether it was written whole.
-fn written<K: Sink>(sink: &mut K, text: &[u8]) -> bool
-    ensures cause { HasCause (not result) (K.faults sink.old) (K.faults sink.new) }
-    ensures front { HoldsFront (K.held sink.old) (K.held sink.new) text.now }
-    ensures all { result ≡ true → Appends (K.held sink.old) (K.held sink.new) text.now }
-{
-    write_whole(sink, text).is_ok()
-}
-
-/// Ends before a call was made, with a line. Where writing it fails, the ending stays.
-fn ended_with<K: Sink>(alloc: Global, sink: &mut K, ending: Ending, line: &[u8]) -> Ended
+/// What ended so without a call.
+pub fn uncalled(alloc: Global, ending: Ending) -> Ended
     ensures ending { result.ending ≡ ending }
     ensures empty { IsEmpty result }
-    ensures prints { (whole : Bool) × PrintsTo whole line.now
-        (K.held sink.old) (K.held sink.new) (K.faults sink.old) (K.faults sink.new) }
 {
-    let _whole = written(sink, line);
     Ended {
         ending,
         log: Vec::new(alloc),
         marks: Vec::new(alloc),
         answers: Vec::new(alloc),
-    }
-}
-
-/// Ends before a call was made, with the line of the ending, where that tells no place.
-pub fn ended_early<K: Sink>(alloc: Global, sink: &mut K, ending: Ending) -> Ended
-    ensures ending { result.ending ≡ ending }
-    ensures empty { IsEmpty result }
-    ensures prints { (whole : Bool) × PrintsTo whole (constant_line ending)
-        (K.held sink.old) (K.held sink.new) (K.faults sink.old) (K.faults sink.new) }
-{
-    ended_with(alloc, sink, ending, constant_line(ending))
-}
-
-/// Ends at a defect, with its place. Where there is no memory for that line, it ends for want of it.
-fn ended_at_defect<K: Sink>(alloc: Global, sink: &mut K, area: Area, at: u64) -> Ended
-    ensures ending { (result.ending ≡ ending.Damaged area at) ⊎ (result.ending ≡ ending.OutOfMemory) }
-    ensures empty { IsEmpty result }
-    ensures prints { (whole : Bool) × PrintsTo whole (line_of result.ending)
-        (K.held sink.old) (K.held sink.new) (K.faults sink.old) (K.faults sink.new) }
-{
-    match damaged_line(alloc, area, at) {
-        Ok(line) => ended_with(alloc, sink, Ending::Damaged { area, at }, line.as_bytes()),
-        Err(_) => ended_early(alloc, sink, Ending::OutOfMemory),
     }
 }
 
@@ -134,22 +94,10 @@ fn run_loaded<K: Sink, D: Disk, G: Gate>(
     let Closed { disk, log, marks } = board.close();
     match called {
         Ok(phase) => (printed(sink, phase, log, marks), disk),
-        Err(_) => (ended_early(alloc, sink, Ending::OutOfMemory), disk),
-    }
-}
-
-/// Ends where no board was loaded.
-fn refused<K: Sink>(alloc: Global, sink: &mut K, fault: LoadFault) -> Ended
-    ensures ending { EndsAs fault result.ending }
-    ensures empty { IsEmpty result }
-    ensures prints { (whole : Bool) × PrintsTo whole (line_of result.ending)
-        (K.held sink.old) (K.held sink.new) (K.faults sink.old) (K.faults sink.new) }
-{
-    match fault {
-        LoadFault::Disk => ended_early(alloc, sink, Ending::Unopened),
-        LoadFault::NotABoard { area } => ended_early(alloc, sink, Ending::NotABoard { area }),
-        LoadFault::Damaged { area, at } => ended_at_defect(alloc, sink, area, at),
-        LoadFault::OutOfMemory => ended_early(alloc, sink, Ending::OutOfMemory),
+        Err(_) => (
+            uncalled(alloc, ended_early(sink, Ending::OutOfMemory)),
+            disk,
+        ),
     }
 }
 
@@ -167,8 +115,8 @@ pub fn run_script<K: Sink, D: Disk, G: Gate>(
         (ports_of (K.held sink.new) (K.faults sink.new)
         (D.told result.1) (D.fault_count result.1) (D.moment result.1)) }
 {
-    match load(alloc, disk) {
+    match open(alloc, sink, disk) {
         Ok(board) => run_loaded(alloc, script, board, sink, gate),
-        Err((disk, fault)) => (refused(alloc, sink, fault), disk),
+        Err((ending, disk)) => (uncalled(alloc, ending), disk),
     }
 }

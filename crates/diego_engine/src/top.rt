@@ -10,37 +10,22 @@ ghost use Rattle.disk_trait.specs.Shows.{Shows};
 ghost use Rattle.bbs_journal.specs.Preparing.{FindsBytes};
 ghost use Rattle.bbs_journal.specs.declared.load_fault.LoadFault.{LoadFault as Why};
 ghost use Rattle.diego_engine.specs.Script.{script_of};
-ghost use Rattle.diego_engine.specs.Ending.{status_of};
+ghost use Rattle.program_edge.specs.Ending.{status_of};
+ghost use Rattle.program_edge.specs.Opening.{is_before_board};
+ghost use Rattle.program_edge.specs.Ports.{IsTold, ports_of};
+ghost use Rattle.program_edge.specs.declared.ending.Ending.{Ending as AnEnding};
+ghost use Rattle.still_words.specs.Words.{asked_of};
+ghost use Rattle.still_words.specs.declared.words.Asked.TheVariants as wanted;
 ghost use Rattle.diego_engine.specs.Headline.{Headline};
-ghost use Rattle.diego_engine.specs.Running.{IsTold, ports_of};
-ghost use Rattle.diego_engine.specs.Top.{ReadsWhole, StillEnds, ProgramEnds, Meets, RunsWhole, is_before_board, limit};
-ghost use Rattle.diego_engine.specs.Words.{asked_of};
-ghost use Rattle.diego_engine.specs.declared.ending.Ending.{Ending as AnEnding};
-ghost use Rattle.diego_engine.specs.declared.words.Asked.TheVariants as wanted;
+ghost use Rattle.diego_engine.specs.Top.{ReadsWhole, ProgramEnds, Meets, RunsWhole, limit};
 
-use crate::answered::Answered;
-use crate::commands::{run, still};
-use crate::ending::number_of;
+use crate::commands::run;
 use crate::running::Ended;
-use crate::words::{Asked, read_words};
-use bbs_model::Item;
 use byte_ports::{Gate, Sink, Source};
 use disk_trait::Disk;
+use program_edge::{TopEnd, number_of};
 use std::alloc::Global;
-
-/// How the program ended: its status, what it was given, and what its run did.
-pub struct TopEnd<S, K, D> {
-    pub status: u8,
-    pub source: S,
-    pub sink: K,
-    pub disk: D,
-    /// The items of this run, in the order of the board's log.
-    pub log: Vec<Item>,
-    /// The disk's clock at the end of the call of each item.
-    pub marks: Vec<u64>,
-    /// The calls of the phases that ran, and how each ended.
-    pub answers: Vec<Answered>,
-}
+use still_words::{Asked, read_words, still_top};
 
 fn asks_for_a_run(words: &[String]) -> bool
     ensures { IsTrue result ↔ (asked_of (map (λ w. string_bytes w) words.now) ≡ Some wanted.Run) }
@@ -69,28 +54,6 @@ fn top_end<S, K, D>(ended: Ended, source: S, sink: K, disk: D) -> TopEnd<S, K, D
         marks,
         answers,
     }
-}
-
-/// Does what the words ask for, where they don't ask for a run. It waits for nobody.
-pub fn still_top<S: Source, K: Sink, D: Disk>(
-    alloc: Global,
-    words: &[String],
-    source: S,
-    mut sink: K,
-    mut disk: D,
-) -> TopEnd<S, K, D>
-    requires { asked_of (map (λ w. string_bytes w) words.now) ≢ Some wanted.Run }
-    ensures source { result.source ≡ source }
-    ensures unopened { is_before_board result.status ≡ true → result.disk ≡ disk }
-    ensures ends { (how : AnEnding) × (result.status ≡ status_of how)
-        × StillEnds how (asked_of (map (λ w. string_bytes w) words.now))
-        (record { ending = how; log = result.log; marks = result.marks; answers = result.answers })
-        (ports_of (K.held sink) (K.faults sink) (D.told disk) (D.fault_count disk) (D.moment disk))
-        (ports_of (K.held result.sink) (K.faults result.sink)
-        (D.told result.disk) (D.fault_count result.disk) (D.moment result.disk)) }
-{
-    let ended = still(alloc, read_words(words), &mut sink, &mut disk);
-    top_end(ended, source, sink, disk)
 }
 
 fn whole_top<S: Source, K: Sink, D: Disk, G: Gate>(

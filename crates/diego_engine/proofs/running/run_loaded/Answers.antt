@@ -5,7 +5,8 @@ use Rattle.bbs_model.specs.declared.rows.Rows.{Rows}
 use Rattle.bbs_board.specs.Doubts.{doubts_in, RoseForEach}
 use Rattle.bbs_board.specs.Kept.{Kept}
 use Rattle.bbs_board.specs.View.{rows_of}
-use Rattle.diego_engine.specs.Running.{ports_of, Calls}
+use Rattle.program_edge.specs.Ports.{ports_of}
+use Rattle.diego_engine.specs.Running.{Calls}
 use Rattle.diego_engine.proofs.Called.{ends_call, call_ends}
 use Rattle.diego_engine.proofs.running.run_loaded.Goals as goal
 

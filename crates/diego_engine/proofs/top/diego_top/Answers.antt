@@ -1,6 +1,6 @@
 use Rattle.std.proofs.Common.{sym, ◌∙◌, ap, ℕ, inl, inr}
 use Rattle.std.specs.Prelude.{◌==◌}
-use Rattle.diego_engine.specs.Top.{is_before_board}
+use Rattle.program_edge.specs.Opening.{is_before_board}
 use Rattle.diego_engine.proofs.Headlines.{headline_from, doubts_from}
 use Rattle.diego_engine.proofs.TopLaws.{usage_from, usage_to, script_from, unwritten_from, unstored_from, refused_from, too_long_from, exists_from, untouched_from, done_from, complete_from}
 use Rattle.diego_engine.proofs.top.diego_top.Goals as goal
