@@ -1,5 +1,5 @@
 -- The headline, from each way in which a run ends.
-use Rattle.std.proofs.Common.{◌≡◌, ℕ, ◌≤◌, Bool, List, [], Option, Some, None, refl, sym, subst, arith}
+use Rattle.std.proofs.Common.{◌≡◌, ℕ, ◌≤◌, Bool, true, false, List, [], Option, Some, None, refl, sym, subst, arith}
 use Rattle.disk_trait.specs.Past.{Past}
 use Rattle.disk_trait.specs.Runs.{Extends}
 use Rattle.disk_trait.specs.Held.{Leaves}
@@ -12,10 +12,10 @@ use Rattle.bbs_board.specs.Calls.{StoresBy}
 use Rattle.bbs_board.specs.Doubts.{doubts_in, RoseForEach}
 use Rattle.diego_engine.specs.Headline.{Headline}
 use Rattle.diego_engine.specs.Phase.{command_of}
-use Rattle.program_edge.specs.Opening.{EndsEarly, EndsUntouched}
+use Rattle.program_edge.specs.Opening.{EndsEarly}
 use Rattle.program_edge.specs.Ports.{Ports}
 use Rattle.still_words.proofs.Public.{later_from}
-use Rattle.diego_engine.specs.Running.{IsEmpty, EndsLate, EndsUncalled}
+use Rattle.diego_engine.specs.Running.{IsEmpty, EndsLate}
 use Rattle.diego_engine.specs.Top.{EndsUnseen, RunEnds, ProgramEnds}
 use Rattle.program_edge.specs.declared.ending.Ending.{Ending}
 use Rattle.program_edge.specs.declared.ending.Ending.TheVariants as ending

@@ -1,5 +1,5 @@
 -- A run whose board was loaded, from its start on, and one whose board wasn't.
-use Rattle.std.proofs.Common.{◌≡◌, Bool, true, false, Option, Some, None}
+use Rattle.std.proofs.Common.{◌≡◌, Bool, true, false, Option, Some, None, sym, subst}
 use Rattle.disk_trait.specs.Past.{Past}
 use Rattle.disk_trait.specs.Steps.{Goes}
 use Rattle.bbs_model.specs.declared.rows.Rows.{Rows}
@@ -45,3 +45,9 @@ unopened_ends script e v w (ending.NotABoard area) empty ends = (empty, ends)
 unopened_ends script e v w (ending.Damaged area at) empty ends = (empty, ends)
 unopened_ends script e v w ending.OutOfMemory empty ends = (empty, ends)
 unopened_ends script e v w how empty ends = absurd ends
+
+-- the same, of a run that ended as the opening did
+pub unopened_as : (script : Script) (e : Ended) (v w : Ports) (how : Ending) → e.ending ≡ how → IsEmpty e → EndsUnopened how v w
+    → ScriptEnds e.ending script e v w
+unopened_as script e v w how is empty ends =
+    subst (λ (x : Ending). ScriptEnds x script e v w) (sym is) (unopened_ends script e v w how empty ends)

@@ -8,10 +8,11 @@ mod limits;
 mod runs;
 mod stops;
 
-use crate::{Answered, TopEnd, diego_top_in_memory};
+use crate::{TopEnd, diego_top_in_memory};
 use bbs_model::Item;
 use byte_ports::{Gate, MemorySink, MemorySource, OpenGate};
 use disk_trait::MemoryDisk;
+use scenario_lines::Answered;
 use std::alloc::Global;
 use std::process::Abort;
 use std::test::Fail;

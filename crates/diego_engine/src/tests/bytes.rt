@@ -1,11 +1,11 @@
 //! The first run: what is given, and what becomes of it, byte for byte.
 use super::Given;
-use crate::Answered;
 use bbs_model::{Command, Op};
 use cell_rep::CallEnd;
 use crash_backoff::Moment;
 use diego_names::Name;
 use lrp_records::Desired;
+use scenario_lines::Answered;
 use std::test::Fail;
 
 pub const SCRIPT: &str = r#"{"at":0}

@@ -1,4 +1,4 @@
-use Rattle.std.proofs.Common.{◌≡◌, ap, refl}
+use Rattle.std.proofs.Common.{ap, refl}
 use Rattle.diego_engine.proofs.calling.make.Goals as goal
 
 pub returns-clause-starved : goal.returns-clause-starved

@@ -1,7 +1,4 @@
-use Rattle.std.proofs.Common.{◌≡◌, sym, subst}
-use Rattle.program_edge.specs.declared.ending.Ending.{Ending}
-use Rattle.diego_engine.specs.Running.{ScriptEnds}
-use Rattle.diego_engine.proofs.Loading.{script_ends, unopened_ends}
+use Rattle.diego_engine.proofs.Loading.{script_ends, unopened_as}
 use Rattle.diego_engine.proofs.running.run_script.Goals as goal
 
 pub returns-in-Ok : goal.returns-in-Ok
@@ -10,5 +7,5 @@ returns-in-Ok g c =
 
 pub returns-in-Err : goal.returns-in-Err
 returns-in-Err g c =
-    subst (λ (x : Ending). ScriptEnds x c.args.script.now c.uncalled.result _ _) (sym c.uncalled.ensures.ending)
-    (unopened_ends c.args.script.now c.uncalled.result _ _ c.in-Err.ending c.uncalled.ensures.empty c.in-Err.ensures.ends)
+    unopened_as c.args.script.now c.uncalled.result _ _ c.in-Err.ending c.uncalled.ensures.ending c.uncalled.ensures.empty
+    c.in-Err.ensures.ends
