@@ -4,7 +4,7 @@ mod bytes;
 mod faults;
 mod shown;
 
-use crate::still_top;
+use crate::{Asked, read_words, still_top};
 use byte_ports::{MemorySink, MemorySource, Sink};
 use disk_trait::{Area, Disk, MemoryDisk};
 use program_edge::TopEnd;
@@ -49,6 +49,13 @@ fn ended<K: Sink + Drop>(
 ) -> Result<(u8, K, MemoryDisk), Fail> {
     let words = words(alloc, texts)?;
     let source = MemorySource::new(Vec::new(alloc), Vec::new(alloc));
+    let disk = disk(alloc, given)?;
+    let end = match read_words(&words) {
+        Some(Asked::Run) => return Err(Fail::from("the words ask for a run")),
+        Some(Asked::Prepare) | Some(Asked::Records) | Some(Asked::Check) | None => {
+            still_top(alloc, &words, source, sink, disk)
+        }
+    };
     let TopEnd {
         status,
         source: _,
@@ -57,7 +64,7 @@ fn ended<K: Sink + Drop>(
         log,
         marks,
         answers,
-    } = still_top(alloc, &words, source, sink, disk(alloc, given)?);
+    } = end;
     assert!(rt; log.is_empty());
     assert!(rt; marks.is_empty());
     assert!(rt; answers.is_empty());
