@@ -71,7 +71,7 @@ fn add_lines(
 }
 
 // A round's line, and the answers on both sides of it.
-#[tactic(auto, using(crate::proofs::Told::around_told, crate::proofs::Told::some_before, crate::proofs::Told::some_behind))]
+#[tactic(auto, using(crate::proofs::Told::around_told))]
 fn add_around(
     text: &mut Vec<u8>,
     alloc: Global,
