@@ -1,5 +1,5 @@
 -- What a search by rising numbers finds.
-use Rattle.std.proofs.Common.{◌≡◌, ℕ, zero, suc, ◌<◌, ◌≤◌, ltb, true, false, cond, ◌==◌, Bool, List, [], ◌∷◌, length, get_or, find, Option, Some, refl, sym, ap, ◌∙◌, arith, eq-eqb, ⊎_elim}
+use Rattle.std.proofs.Common.{◌≡◌, ℕ, zero, suc, ◌<◌, ◌≤◌, ltb, true, false, cond, ◌==◌, List, [], ◌∷◌, length, get_or, find, Some, sym, ap, ◌∙◌, arith, eq-eqb, ⊎_elim}
 use Rattle.std.specs.List.{AllPairs}
 use Rattle.std.specs.List.Sorted.{IsNonDecreasingBy, IsPartitionPoint}
 use Rattle.std.proofs.lemmas.List.{get_or_default}

@@ -1,5 +1,5 @@
 -- Which answers are those of a phase.
-use Rattle.std.specs.Prelude.{◌≡◌, ℕ, ◌≤◌, ◌<◌, List, length, All, AllPairs, Contains}
+use Rattle.std.specs.Prelude.{◌≡◌, ◌≤◌, ◌<◌, List, length, All, AllPairs, Contains}
 use Rattle.std.specs.List.Sorted.{IsNonDecreasingBy}
 use Rattle.scenario_lines.specs.declared.actor.Actor.{Actor}
 use Rattle.scenario_lines.specs.declared.answered.Answered.{Answered}

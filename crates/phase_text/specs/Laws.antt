@@ -1,5 +1,5 @@
 -- The order of events is that of the rows of a board, table by table.
-use Rattle.std.specs.Prelude.{◌≡◌, ℕ, ◌<◌}
+use Rattle.std.specs.Prelude.{◌≡◌, ◌<◌}
 use Rattle.std.specs.declared.cmp.Ordering.{Ordering}
 use Rattle.std.specs.declared.cmp.Ordering.TheVariants.{Less}
 use Rattle.bbs_model.specs.Tables.{process_of, task_name_of, cell_name_of}

@@ -1,5 +1,4 @@
-use Rattle.std.proofs.Common.{◌≡◌, ltb, get_or, sym, ap, ◌∙◌, true, false, arith, rules}
-use Rattle.std.specs.List.Sorted.{IsPartitionPoint}
+use Rattle.std.proofs.Common.{◌≡◌, ltb, ap, ◌∙◌, arith, rules}
 use Rattle.std.proofs.lemmas.List.Sorted.{IsPartitionPoint-from_clause, IsPartitionedBy-ltb}
 use Rattle.scenario_lines.specs.declared.script.Line.{Line}
 use Rattle.phase_text.proofs.Finding.{falls_nowhere, found_read, point_is_there}
