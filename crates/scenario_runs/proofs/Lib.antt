@@ -1,0 +1,10 @@
+mod Behind
+mod Prints
+mod Steps
+mod Hearing
+mod Acting
+mod Answering
+mod DoubtCounts
+mod PhaseTold
+mod SoFar
+mod Endings

@@ -1,0 +1,5 @@
+pub mod Actors
+pub mod Kept
+pub mod Courses
+pub mod Plays
+pub mod Tellings

@@ -1,0 +1,211 @@
+//! Whole scenarios on a board in memory, whose texts are written out by hand.
+ghost use Rattle.std.specs.Prelude.{◌≡◌, [], IfOk};
+
+use crate::{Played, play};
+use bbs_board::{Board, Closed, load, prepare};
+use byte_ports::{MemorySink, OpenGate};
+use disk_trait::MemoryDisk;
+use program_edge::Ending;
+use scenario_reader::read_script;
+use std::alloc::Global;
+use std::process::Abort;
+use std::test::Fail;
+
+/// A scenario on an empty board, what fails in it, and what comes of it.
+#[derive(Clone, Copy)]
+struct Case<'a> {
+    script: &'a [&'a str],
+    /// The device calls that fail, from 1. The first 12 prepare and load the board.
+    calls: &'a [u64],
+    /// The texts that the sink doesn't take, from 1.
+    puts: &'a [u64],
+    ending: Ending,
+    text: &'a [&'a str],
+    answers: usize,
+    reports: usize,
+}
+
+const AT: &str = "{\"at\":0}\n";
+
+const JOIN: &str =
+    r#"{"cell":"c1","op":"join","zone":"z1","memory":1024,"disk":4096,"containers":10,"ttl":600}
+"#;
+
+const DESIRE: &str =
+    r#"{"client":"cli","op":"desire","process":"web","domain":"apps","instances":1,"memory":64,"disk":128}
+"#;
+
+/// The cell is the first actor, and has the last line.
+const LEAVE: &str = r#"{"at":1}
+{"client":"cli","op":"undesire","process":"web"}
+{"cell":"c1","op":"settle"}
+"#;
+
+const ROUND: &str = "{\"at\":1}\n{\"op\":\"round\"}\n";
+
+const HAS_JOINED: &str = r#"{"actor":"c1","answer":"ok","call":"join","line":2,"subject":"c1"}
+"#;
+
+const NOT_JOINED: &str = r#"{"actor":"c1","answer":"disk","call":"join","line":2,"subject":"c1"}
+"#;
+
+const DESIRED: &str = r#"{"actor":"cli","answer":"ok","call":"desire","line":3,"subject":"web"}
+{"event":"created","row":{"disk":128,"domain":"apps","instances":1,"memory":64,"port":8080,"process":"web","route":null,"tag":null},"table":"desired"}
+"#;
+
+const CELL: &str =
+    r#"{"event":"created","row":{"cell":"c1","containers":10,"disk":4096,"epoch":0,"evacuating":false,"memory":1024,"tag":null,"until":600,"zone":"z1"},"table":"cell"}
+"#;
+
+const HAS_LEFT: &str = r#"{"actor":"cli","answer":"ok","call":"undesire","line":5,"subject":"web"}
+{"actor":"c1","answer":"none","call":"settle","line":6,"subject":"c1"}
+{"event":"removed","row":{"disk":128,"domain":"apps","instances":1,"memory":64,"port":8080,"process":"web","route":null,"tag":null},"table":"desired"}
+"#;
+
+const PLACED: &str =
+    r#"{"asked":1,"complete":true,"foreign":0,"line":5,"lost":0,"op":"round","own":2,"refused":0,"stopped":0,"unplaced":[]}
+{"event":"created","row":{"cell":null,"count":0,"error":false,"index":0,"instance":null,"presence":"ordinary","process":"web","since":1,"state":"unclaimed"},"table":"actual"}
+{"event":"changed","row":{"cell":"c1","count":0,"error":false,"index":0,"instance":"0.1","presence":"ordinary","process":"web","since":1,"state":"claimed"},"table":"actual"}
+"#;
+
+/// Two phases, in which nothing fails.
+const TWO: Case<'static> = Case {
+    script: &[AT, JOIN, DESIRE, LEAVE],
+    calls: &[],
+    puts: &[],
+    ending: Ending::Done,
+    text: &[
+        HAS_JOINED,
+        DESIRED,
+        CELL,
+        HAS_LEFT,
+        "{\"done\":3,\"doubts\":0,\"next\":3,\"phases\":2}\n",
+    ],
+    answers: 4,
+    reports: 0,
+};
+
+/// What a case left.
+#[derive(Drop)]
+struct Left {
+    played: Played,
+    sink: MemorySink,
+}
+
+fn text_of(alloc: Global, texts: &[&str]) -> Result<Vec<u8>, Fail> {
+    let mut all = Vec::new(alloc);
+    for text in texts {
+        all.extend_from_slice(text.as_bytes())?;
+    }
+    Ok(all)
+}
+
+fn begin(alloc: Global, case: &Case<'_>) -> Result<Board<MemoryDisk>, Fail>
+    ensures { IfOk result (λ board. board.log ≡ []) }
+{
+    let (a, b) = (Vec::new(alloc), Vec::new(alloc));
+    let mut disk = MemoryDisk::new(alloc, a, b, case.calls.to_vec(alloc)?);
+    prepare(&mut disk)?;
+    match load(alloc, disk) {
+        Ok(board) => Ok(board),
+        Err(_) => Err("there is a board")?,
+    }
+}
+
+fn run(alloc: Global, case: &Case<'_>) -> Result<Left, Fail> {
+    let text = text_of(alloc, case.script)?;
+    if text.len() > 10_000 {
+        Err("the scenario is short")?;
+    }
+    let script = read_script(alloc, &text)?;
+    let mut sink = MemorySink::new(alloc, case.puts.to_vec(alloc)?);
+    let mut board = begin(alloc, case)?;
+    let played = play(alloc, &script, &mut board, &mut sink, &OpenGate);
+    let Closed {
+        disk: _,
+        log: _,
+        marks: _,
+    } = board.close();
+    Ok(Left { played, sink })
+}
+
+fn ends(rt: &impl Abort, alloc: Global, case: &Case<'_>) -> Result<(), Fail> {
+    let left = run(alloc, case)?;
+    let text = text_of(alloc, case.text)?;
+    assert_eq!(rt; left.sink.bytes(), text.as_slice());
+    assert_eq!(rt; left.played.ending, case.ending);
+    assert_eq!(rt; left.played.answers.len(), case.answers);
+    assert_eq!(rt; left.played.reports.len(), case.reports);
+    Ok(())
+}
+
+#[test]
+fn each_phase_is_told_and_then_the_summary(rt: HostRuntime) -> Result<(), Fail> {
+    let none = Case {
+        script: &[],
+        text: &["{\"done\":0,\"doubts\":0,\"next\":0,\"phases\":0}\n"],
+        answers: 0,
+        ..TWO
+    };
+    let empty = Case {
+        script: &[AT, AT],
+        text: &["{\"done\":0,\"doubts\":0,\"next\":0,\"phases\":2}\n"],
+        answers: 0,
+        ..TWO
+    };
+    let round = Case {
+        script: &[AT, JOIN, DESIRE, ROUND],
+        text: &[
+            HAS_JOINED,
+            DESIRED,
+            CELL,
+            PLACED,
+            "{\"done\":4,\"doubts\":0,\"next\":4,\"phases\":2}\n",
+        ],
+        answers: 2,
+        reports: 1,
+        ..TWO
+    };
+    for case in [TWO, none, empty, round] {
+        ends(&rt, rt.alloc(), &case)?;
+    }
+    Ok(())
+}
+
+#[test]
+fn no_phase_runs_behind_a_fault(rt: HostRuntime) -> Result<(), Fail> {
+    let doubt = Case {
+        calls: &[13],
+        ending: Ending::Doubt,
+        text: &[
+            NOT_JOINED,
+            DESIRED,
+            "{\"done\":1,\"doubts\":1,\"next\":1,\"phases\":1}\n",
+        ],
+        answers: 2,
+        ..TWO
+    };
+    let first = Case {
+        puts: &[1],
+        ending: Ending::Unwritten,
+        text: &[],
+        answers: 2,
+        ..TWO
+    };
+    let second = Case {
+        puts: &[2],
+        ending: Ending::Unwritten,
+        text: &[HAS_JOINED, DESIRED, CELL],
+        ..TWO
+    };
+    let last = Case {
+        puts: &[3],
+        ending: Ending::Unwritten,
+        text: &[HAS_JOINED, DESIRED, CELL, HAS_LEFT],
+        ..TWO
+    };
+    for case in [doubt, first, second, last] {
+        ends(&rt, rt.alloc(), &case)?;
+    }
+    Ok(())
+}
