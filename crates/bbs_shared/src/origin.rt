@@ -1,0 +1,11 @@
+use bbs_model::Rows;
+
+/// What no call of a board changes. No value of this type is made: it stands in clauses alone.
+pub struct Origin {
+    /// The rows that the board was loaded with.
+    pub base: Rows,
+    /// The disk's clock at the end of the load.
+    pub since: u64,
+    /// The disk's count of faults at the end of the load.
+    pub faults: u64,
+}
