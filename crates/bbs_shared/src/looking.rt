@@ -67,8 +67,11 @@ impl<D: Disk> SharedBoard<D> {
         ensures heard { let w = seen_by pass.new in
             IfOk result (IsHeard w.base w.seen from max) }
     {
-        self.desk
-            .turn(rt, pass, |at: &mut AtDesk<D>| read_events(at, alloc, from, max))
+        self.desk.turn(
+            rt,
+            pass,
+            |at: &mut AtDesk<D>| read_events(at, alloc, from, max),
+        )
     }
 
     /// The length of the log.

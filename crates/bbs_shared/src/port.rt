@@ -53,3 +53,24 @@ impl<'a, R: Wait, D: Disk> Port for SharedPort<'a, R, D> {
         self.board.place(self.rt, self.pass)
     }
 }
+
+impl<D: Disk> SharedBoard<D> {
+    ghost use Rattle.std.specs.Prelude.{◌≡◌};
+
+    /// The pass as a port, for as long as that is there.
+    pub fn port<'a, R: Wait>(
+        &'a self,
+        rt: &'a R,
+        pass: &'a mut BoardPass<D>,
+    ) -> SharedPort<'a, R, D>
+        requires board { pass.old.place.table_id ≡ self.now.desk.table.shared.table_id }
+        ensures same_reference { result.pass.ghost_name ≡ pass.entry.ghost_name }
+        ensures same { result.pass.now ≡ pass.entry.now }
+    {
+        SharedPort {
+            rt,
+            board: self,
+            pass,
+        }
+    }
+}
