@@ -1,12 +1,12 @@
 -- A turn at a board, as its caller sees it.
-use Rattle.std.proofs.Common.{◌≡◌, ℕ, ◌<◌, ◌^◌, List, ◌++◌, length, drop, Option, Some, Result, sym, refl, ap, ◌∙◌, subst}
+use Rattle.std.proofs.Common.{◌≡◌, ℕ, ◌<◌, ◌^◌, List, ◌++◌, length, drop, Result, sym, ap, ◌∙◌, subst}
 use Rattle.std.proofs.Math.Seq.{drop-append_seam, drop-length}
 use Rattle.std.proofs.lemmas.List.{append-nil}
 use denote.Ref.{MutBor}
 use denote.Param.Members.{Once}
 use Rattle.bbs_board.specs.View.{View, rows_of}
 use Rattle.bbs_model.specs.Calls.{Ends, added, by_of}
-use Rattle.bbs_model.specs.PortView.{PortView, after_others, after_own, IsCalled, Looks}
+use Rattle.bbs_model.specs.PortView.{IsCalled, Looks}
 use Rattle.bbs_model.specs.Replay.{replay_log}
 use Rattle.bbs_model.specs.Step.{verdict_of}
 use Rattle.bbs_model.specs.declared.command.Command.{Command}
@@ -20,6 +20,10 @@ use Rattle.ticket_desk.specs.Views.{Begins}
 use Rattle.bbs_shared.specs.Boards.{log_of, origin_of, base_of, IsRead}
 use Rattle.bbs_shared.specs.Passes.{port_of}
 use Rattle.bbs_shared.specs.declared.origin.Origin.{Origin}
+
+-- the command's verdict behind this log comes out as this end
+abbrev EndsAt : Rows → List Item → Command → Result Reply CallFault → Type 0
+EndsAt base log c end = let rows = replay_log base log in Ends (verdict_of rows c) (length log) rows.next end
 
 module _ {D : Type 0} where
   -- a turn at a board that was this one before and that one after
@@ -54,12 +58,10 @@ module _ {D : Type 0} where
       mine_more = ap (λ (xs : List Item). v.mine ++ drop (length before.log) xs) log
           ∙ ap (λ (xs : List Item). v.mine ++ xs) (drop-append_seam before.log (added end by c))
 
-      ended : Ends (verdict_of (rows_of before) c) (length before.log) (rows_of before).next end
-          → Ends (verdict_of (replay_log (base_of v.origin) (v.seen ++ t.saw.0)) c) (length (v.seen ++ t.saw.0))
-          (replay_log (base_of v.origin) (v.seen ++ t.saw.0)).next end
-      ended ends = subst (λ (r : Rows). Ends (verdict_of (replay_log r (v.seen ++ t.saw.0)) c) (length (v.seen ++ t.saw.0)) (replay_log r (v.seen ++ t.saw.0)).next end)
-          (sym t.base)
-          (subst (λ (xs : List Item). Ends (verdict_of (replay_log before.base xs) c) (length xs) (replay_log before.base xs).next end) t.saw.1 ends)
+      ended : EndsAt before.base before.log c end → EndsAt (base_of v.origin) (v.seen ++ t.saw.0) c end
+      ended ends =
+          subst (λ (r : Rows). EndsAt r (v.seen ++ t.saw.0) c end) (sym t.base)
+          (subst (λ (xs : List Item). EndsAt before.base xs c end) t.saw.1 ends)
 
       pub shared_called : Ends (verdict_of (rows_of before) c) (length before.log) (rows_of before).next end → length after.log < 2 ^ 64
           → IsCalled by (port_of v) c end (port_of w)

@@ -1,6 +1,5 @@
 -- What the turn says, carried over to what is seen.
 use Rattle.std.proofs.Common.{◌≡◌, length, rules}
-use Rattle.bbs_board.specs.View.{rows_of}
 use Rattle.bbs_shared.specs.Boards.{IsRead}
 use Rattle.bbs_shared.proofs.Turning.{turn_at, shared_looks, of_seen}
 use Rattle.bbs_shared.proofs.shared_board.SharedBoard.place.Goals as goal
