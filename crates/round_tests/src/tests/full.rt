@@ -1,0 +1,66 @@
+//! Rounds over a board whose life is nearly over.
+use super::boards::{disk_with, told_over};
+use super::*;
+use bbs_model::{BoardRefusal, Command};
+
+// Three transitions are left: a cell, a process and its instance. There is none for its claim.
+const LAST_BUT_THREE: [u8; 3] = [0x0f, 0x42, 0x3d];
+
+const EPOCH: u64 = 999_997;
+
+// What two rounds over it count, and what the second one was refused.
+fn rounds_are(
+    rt: &impl Abort,
+    alloc: Global,
+    first: Turn,
+    rounds: &[Counts],
+    number: u32,
+) -> Result<(), Fail> {
+    let names = &read_names()?;
+    let story = [
+        (0, Cell(0, join(names.z1, 600))),
+        (0, Client(desire(names.web, 1))),
+        (1, first),
+        (2, Round),
+    ];
+    let told = told_over(alloc, disk_with(alloc, &LAST_BUT_THREE, &[])?, &story)?;
+    let Some(report) = &told.end.report else {
+        return Err(Fail::from("there was a round"));
+    };
+    let now = Moment(2);
+    let op = claim(names.web(0), container(EPOCH, number), names.c1);
+    let refused = (Command { now, op }, BoardRefusal::BoardFull);
+    let is_told = (told.rounds(), report.refused.items()) == (rounds, [refused].as_slice());
+    assert!(rt; is_told);
+    Ok(())
+}
+
+fn refused_one(own: u64) -> Counts {
+    Counts {
+        refused: 1,
+        ..asking(1, own)
+    }
+}
+
+#[test]
+fn a_claim_that_is_refused_is_told_and_leaves_no_container(rt: HostRuntime) -> Result<(), Fail> {
+    let alloc = rt.alloc();
+    rounds_are(&rt, alloc, Round, &[refused_one(1), refused_one(0)], 2)
+}
+
+#[test]
+fn a_refusal_that_was_not_heard_is_told_and_leaves_a_container(
+    rt: HostRuntime,
+) -> Result<(), Fail> {
+    let alloc = rt.alloc();
+    let unheard = Counts {
+        lost: 1,
+        ..refused_one(1)
+    };
+    let then = Counts {
+        stopped: 1,
+        ..refused_one(0)
+    };
+    let first = RoundLoses(3, Delivery::ReplyLost);
+    rounds_are(&rt, alloc, first, &[unheard, then], 2)
+}
