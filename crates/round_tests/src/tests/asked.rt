@@ -67,11 +67,14 @@ fn wanted_instances_are_made_and_placed_in_one_round(rt: HostRuntime) -> Result<
 #[test]
 fn what_is_not_wanted_is_removed(rt: HostRuntime) -> Result<(), Fail> {
     let (alloc, names) = (rt.alloc(), &read_names()?);
-    let story = claimed(names);
+    let unplaced = [
+        (0, Client(desire(names.web, 1))),
+        (1, Round),
+        (2, Client(undesire(names.web))),
+    ];
+    round_does(&rt, alloc, &unplaced, 3, &[remove(names.web(0), None)])?;
     let undesired = [(2, Client(undesire(names.web)))];
-    let waits = then(alloc, &story[1..], &undesired)?;
-    round_does(&rt, alloc, &waits, 3, &[remove(names.web(0), None)])?;
-    let placed = then(alloc, &story, &undesired)?;
+    let placed = then(alloc, &claimed(names), &undesired)?;
     let removed = [remove(names.web(0), Some(container(0, 1)))];
     round_does(&rt, alloc, &placed, 3, &removed)
 }
@@ -160,21 +163,20 @@ fn an_evacuating_row_is_dropped_once_its_replacement_runs_on_a_cell_that_is_ther
 }
 
 #[test]
-fn a_task_is_given_up_that_waits_too_long_or_whose_cell_is_gone(
-    rt: HostRuntime,
-) -> Result<(), Fail> {
+fn a_task_is_given_up_whose_cell_is_gone(rt: HostRuntime) -> Result<(), Fail> {
     let (alloc, names) = (rt.alloc(), &read_names()?);
     let story = started(names, 600);
+    let lost = [vanish(names.c1), cancel(names.job)];
     round_does(&rt, alloc, &story, 599, &[])?;
-    round_does(
-        &rt,
-        alloc,
-        &story,
-        600,
-        &[vanish(names.c1), cancel(names.job)],
-    )?;
-    round_does(&rt, alloc, &story[1..2], 1799, &[])?;
-    round_does(&rt, alloc, &story[1..2], 1800, &[cancel(names.job)])
+    round_does(&rt, alloc, &story, 600, &lost)
+}
+
+#[test]
+fn a_task_is_given_up_that_waits_too_long(rt: HostRuntime) -> Result<(), Fail> {
+    let (alloc, names) = (rt.alloc(), &read_names()?);
+    let story = [(0, Client(task(names.job)))];
+    round_does(&rt, alloc, &story, 1799, &[])?;
+    round_does(&rt, alloc, &story, 1800, &[cancel(names.job)])
 }
 
 #[test]

@@ -22,12 +22,13 @@ pub struct BesidePort<'a, D: Disk> {
     pub visit: Command,
 }
 
-// The visitor's call. Whether it does anything shows in the log.
-fn pay_visit<D: Disk>(board: &mut Board<D>, visit: Command)
+// The visitor's call. What it comes to shows in the log.
+fn pay_visit<D: Disk>(board: &mut Board<D>, visit: Command) -> Result<Reply, CallFault>
     ensures { Looks (seen_of 7 board.old) (seen_of 7 board.new) }
 {
-    let _reply = board.call(VISITOR, visit);
+    let end = board.call(VISITOR, visit);
     board.holds();
+    end
 }
 
 // The same, if it is time.
@@ -35,7 +36,7 @@ fn pay_visit_if<D: Disk>(board: &mut Board<D>, is_time: bool, visit: Command)
     ensures { Looks (seen_of 7 board.old) (seen_of 7 board.new) }
 {
     if is_time {
-        pay_visit(board, visit);
+        let _end = pay_visit(board, visit);
     } else {
         board.holds();
     }
