@@ -1,5 +1,5 @@
 -- A call of a board by the first caller, and one by the visitor, as the first caller sees them.
-use Rattle.std.proofs.Common.{◌≡◌, ◌==◌, ◌<◌, ◌^◌, ℕ, List, [], ◌∷◌, ◌++◌, length, Result, Ok, Err, refl, sym, ap, subst, ◌∙◌, append_assoc}
+use Rattle.std.proofs.Common.{◌≡◌, ◌==◌, ◌<◌, ◌^◌, ℕ, List, [], ◌++◌, length, Result, Ok, Err, refl, ap, subst, ◌∙◌, append_assoc}
 use Rattle.std.proofs.lemmas.List.{append-nil}
 use Rattle.std.proofs.lemmas.List.Elements.{filter-append}
 use Rattle.bbs_model.specs.Calls.{Ends, added, is_done, by_of, by_number}
@@ -34,13 +34,17 @@ none_added (Ok (reply.Refused why place)) c = refl
 none_added (Err (fault.Disk place)) c = refl
 none_added (Err fault.OutOfMemory) c = refl
 
+-- what is seen of a board, by its parts
+abbrev sight : Rows → List Item → List Item → PortView
+sight base seen mine = record { base = base; seen = seen; mine = mine }
+
 -- of a log that grew by items of which these are its own the caller sees just that
 seen_more : (base base' : Rows) (log log' items own : List Item) → base' ≡ base → log' ≡ log ++ items → by_number 7 items ≡ own
-    → record { base = base'; seen = log'; mine = by_number 7 log' } ≡ record { base = base; seen = log ++ items; mine = by_number 7 log ++ own }
+    → sight base' log' (by_number 7 log') ≡ sight base (log ++ items) (by_number 7 log ++ own)
 seen_more base base' log log' items own base_is log_is own_is =
-    ap (λ (r : Rows). record { base = r; seen = log'; mine = by_number 7 log' }) base_is
-    ∙ ap (λ (l : List Item). record { base = base; seen = l; mine = by_number 7 l }) log_is
-    ∙ ap (λ (l : List Item). record { base = base; seen = log ++ items; mine = l })
+    ap (λ (r : Rows). sight r log' (by_number 7 log')) base_is
+    ∙ ap (λ (l : List Item). sight base l (by_number 7 l)) log_is
+    ∙ ap (λ (l : List Item). sight base (log ++ items) l)
     (filter-append (λ (i : Item). by_of i == 7) log items ∙ ap (λ (xs : List Item). by_number 7 log ++ xs) own_is)
 
 module _ {D : Type 0} (v w : View D) (c : Command) (end : Result Reply CallFault) (moment : ℕ) where
@@ -48,7 +52,7 @@ module _ {D : Type 0} (v w : View D) (c : Command) (end : Result Reply CallFault
   visit_looks grows few = record {
     others = added end 8 c;
     is = seen_more v.base w.base v.log w.log (added end 8 c) [] grows.base grows.log (none_added end c)
-        ∙ ap (λ (l : List Item). record { base = v.base; seen = v.log ++ added end 8 c; mine = l }) (append-nil (by_number 7 v.log));
+        ∙ ap (λ (l : List Item). sight v.base (v.log ++ added end 8 c) l) (append-nil (by_number 7 v.log));
     few = few;
   }
 
@@ -65,7 +69,7 @@ called_behind v xs c end w h =
     record {
       others = xs ++ h.others;
       ends = subst (λ (l : List Item). Ends (verdict_of (replay_log v.base l) c) (length l) (replay_log v.base l).next end) joined h.ends;
-      is = h.is ∙ ap (λ (l : List Item). record { base = v.base; seen = l ++ added end 7 c; mine = v.mine ++ added end 7 c }) joined;
+      is = h.is ∙ ap (λ (l : List Item). sight v.base (l ++ added end 7 c) (v.mine ++ added end 7 c)) joined;
       few = h.few;
     }
 

@@ -16,7 +16,7 @@ mod turns;
 mod visits;
 
 use bbs_model::Op;
-use boards::{told, told_by_a_board};
+use boards::told;
 use cell_records::JobName;
 use cell_rep::{CellAct, Delivery};
 use crash_backoff::Moment;

@@ -43,7 +43,6 @@ fn pay_visit_if<D: Disk>(board: &mut Board<D>, is_time: bool, visit: Command)
 }
 
 impl<'a, D: Disk> Port for BesidePort<'a, D> {
-    ghost use Rattle.std.specs.Prelude.{Unit, tt};
     ghost use Rattle.sole_port.specs.Went.{seen_of};
 
     ghost view = { λ p. seen_of 7 p.board.now };

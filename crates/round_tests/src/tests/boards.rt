@@ -1,15 +1,10 @@
-//! Stories over a board on a disk in memory, and over the plain board.
-ghost use Rattle.bbs_model.specs.Valid.{IsValid};
-
+//! Stories over a board on a disk in memory. A board is closed whatever came of its story, so that none is ever dropped.
 use super::beside::BesidePort;
 use super::playing::{Played, Told, play, reps};
 use super::turns::Turn;
 use bbs_board::{Board, Closed, load};
-use bbs_laws::first_board_is_valid;
-use bbs_model::{Command, Rows};
-use diego_names::List;
+use bbs_model::{Command, Item};
 use disk_trait::{Disk, MemoryDisk};
-use plain_step::PlainPort;
 use sole_port::SolePort;
 use std::alloc::Global;
 use std::test::Fail;
@@ -41,38 +36,43 @@ pub fn disk_with(
 /// The board of a disk.
 pub fn loaded<D: Disk + Drop>(alloc: Global, disk: D) -> Result<Board<D>, Fail> {
     match load(alloc, disk) {
-        Err(_) => Err(Fail::from("the disk holds a board")),
+        Err((_disk, _fault)) => Err(Fail::from("the disk holds a board")),
         Ok(board) => Ok(board),
     }
 }
 
-// What came of a story, and the log of its board.
-fn told_of<D: Disk + Drop>(board: Board<D>, end: Played) -> Told {
+/// The log of a board, which is closed.
+pub fn closed<D: Disk + Drop>(board: Board<D>) -> Vec<Item> {
     let Closed {
         disk: _disk,
         log,
-        marks: _,
+        marks: _marks,
     } = board.close();
-    Told { end, log }
+    log
 }
 
-/// Plays a story over the board of a disk.
-pub fn told_over<D: Disk + Drop>(
-    alloc: Global,
-    disk: D,
-    story: &[(u32, Turn)],
-) -> Result<Told, Fail> {
-    let mut board = loaded(alloc, disk)?;
+// What came of a story over a board, which is closed.
+fn told_of<D: Disk + Drop>(board: Board<D>, end: Result<Played, Fail>) -> Result<Told, Fail> {
+    let log = closed(board);
+    match end {
+        Err(fail) => Err(fail),
+        Ok(end) => Ok(Told { end, log }),
+    }
+}
+
+// Plays a story over the board of a disk.
+fn told_over<D: Disk + Drop>(alloc: Global, disk: D, story: &[(u32, Turn)]) -> Result<Told, Fail> {
     let mut cells = reps(alloc)?;
+    let mut board = loaded(alloc, disk)?;
     let mut port = SolePort {
         board: &mut board,
         by: CALLER,
     };
-    let end = play(alloc, &mut port, &mut cells, story)?;
-    Ok(told_of(board, end))
+    let end = play(alloc, &mut port, &mut cells, story);
+    told_of(board, end)
 }
 
-/// The same, where another caller does a command right before the caller's call of that number, from 1.
+// The same, where another caller does a command right before the caller's call of that number, from 1.
 fn beside_over<D: Disk + Drop>(
     alloc: Global,
     disk: D,
@@ -80,24 +80,32 @@ fn beside_over<D: Disk + Drop>(
     until: u64,
     visit: Command,
 ) -> Result<Told, Fail> {
-    let mut board = loaded(alloc, disk)?;
     let mut cells = reps(alloc)?;
+    let mut board = loaded(alloc, disk)?;
     let mut port = BesidePort {
         board: &mut board,
         until,
         visit,
     };
-    let end = play(alloc, &mut port, &mut cells, story)?;
-    Ok(told_of(board, end))
+    let end = play(alloc, &mut port, &mut cells, story);
+    told_of(board, end)
+}
+
+/// Plays a story over a board on a disk in memory that has no rows, and has made so many transitions.
+pub fn told_after(
+    alloc: Global,
+    transitions: &[u8; 3],
+    story: &[(u32, Turn)],
+) -> Result<Told, Fail> {
+    told_over(alloc, disk_with(alloc, transitions, &[])?, story)
 }
 
 /// Plays a story over a new board on a disk in memory.
-pub fn told_by_a_board(alloc: Global, story: &[(u32, Turn)]) -> Result<Told, Fail> {
-    told_over(alloc, disk_with(alloc, &[0; 3], &[])?, story)
+pub fn told(alloc: Global, story: &[(u32, Turn)]) -> Result<Told, Fail> {
+    told_after(alloc, &[0; 3], story)
 }
 
-/// Plays a story over a new board on a disk in memory, where another caller does a command right before the
-/// caller's call of that number, from 1.
+/// The same, where another caller does a command right before the caller's call of that number, from 1.
 pub fn told_beside(
     alloc: Global,
     story: &[(u32, Turn)],
@@ -105,27 +113,4 @@ pub fn told_beside(
     visit: Command,
 ) -> Result<Told, Fail> {
     beside_over(alloc, disk_with(alloc, &[0; 3], &[])?, story, until, visit)
-}
-
-/// The board at the beginning of its life.
-fn first_board(alloc: Global) -> Rows
-    ensures { IsValid result }
-{
-    first_board_is_valid();
-    Rows {
-        desired: List::new(alloc),
-        actual: List::new(alloc),
-        tasks: List::new(alloc),
-        cells: List::new(alloc),
-        next: 0,
-    }
-}
-
-/// Plays a story over a new plain board.
-pub fn told(alloc: Global, story: &[(u32, Turn)]) -> Result<Told, Fail> {
-    let mut port = PlainPort::new(alloc, CALLER, first_board(alloc))?;
-    let mut cells = reps(alloc)?;
-    let end = play(alloc, &mut port, &mut cells, story)?;
-    let log = port.log().to_vec(alloc)?;
-    Ok(Told { end, log })
 }

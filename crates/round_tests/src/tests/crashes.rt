@@ -88,7 +88,7 @@ fn a_task_whose_cell_is_lost_has_failed_and_is_not_run_again(rt: HostRuntime) ->
         (600, Round),
         (601, Round),
     ];
-    let told = told_by_a_board(alloc, &story)?;
+    let told = told(alloc, &story)?;
     let states = told.end.rows.tasks.items().iter().map(|task| task.state);
     let states: Vec<TaskState> = states.collect(alloc)?;
     let rounds = [asking(2, 1), asking(1, 2), asking(1, 0)];

@@ -1,11 +1,10 @@
 //! Rounds whose disk fails.
 ghost use Rattle.std.specs.Prelude.{◌<◌};
 
-use super::boards::{CALLER, disk_with, loaded};
+use super::boards::{CALLER, closed, disk_with, loaded};
 use super::playing::{counts_of, play, reps};
 use super::turns::round_over;
 use super::*;
-use bbs_board::Closed;
 use bbs_model::{CallFault, Command, Item, Port};
 use cell_rep::CellRep;
 use disk_trait::Disk;
@@ -28,25 +27,32 @@ fn two_rounds<P: Port>(
     }
 }
 
-// The same over the board of a disk, behind a story, with the board's log.
+// The same, behind a story.
+fn two_rounds_behind<P: Port>(
+    alloc: Global,
+    port: &mut P,
+    cells: &mut [CellRep],
+    story: &[(u32, Turn)],
+) -> Result<(CallFault, Counts), Fail> {
+    play(alloc, port, cells, story)?;
+    two_rounds(alloc, port, cells)
+}
+
+// The same over the board of a disk, with the board's log.
 fn rounds_over<D: Disk + Drop>(
     alloc: Global,
     disk: D,
     story: &[(u32, Turn)],
 ) -> Result<(CallFault, Counts, Vec<Item>), Fail> {
-    let mut board = loaded(alloc, disk)?;
     let mut cells = reps(alloc)?;
+    let mut board = loaded(alloc, disk)?;
     let mut port = SolePort {
         board: &mut board,
         by: CALLER,
     };
-    play(alloc, &mut port, &mut cells, story)?;
-    let (fault, counts) = two_rounds(alloc, &mut port, &mut cells)?;
-    let Closed {
-        disk: _disk,
-        log,
-        marks: _,
-    } = board.close();
+    let end = two_rounds_behind(alloc, &mut port, &mut cells, story);
+    let log = closed(board);
+    let (fault, counts) = end?;
     Ok((fault, counts, log))
 }
 

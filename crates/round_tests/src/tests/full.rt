@@ -1,5 +1,5 @@
 //! Rounds over a board whose life is nearly over.
-use super::boards::{disk_with, told_over};
+use super::boards::told_after;
 use super::*;
 use bbs_model::{BoardRefusal, Command};
 
@@ -23,7 +23,7 @@ fn rounds_are(
         (1, first),
         (2, Round),
     ];
-    let told = told_over(alloc, disk_with(alloc, &LAST_BUT_THREE, &[])?, &story)?;
+    let told = told_after(alloc, &LAST_BUT_THREE, &story)?;
     let Some(report) = &told.end.report else {
         return Err(Fail::from("there was a round"));
     };

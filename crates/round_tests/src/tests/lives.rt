@@ -33,7 +33,7 @@ fn an_instance_moves_and_its_old_row_is_dropped_once_the_new_one_runs(
     rt: HostRuntime,
 ) -> Result<(), Fail> {
     let (alloc, names) = (rt.alloc(), &read_names()?);
-    let told = told_by_a_board(alloc, &moved(names))?;
+    let told = told(alloc, &moved(names))?;
     let rounds = [
         asking(1, 2),
         Counts {
@@ -64,7 +64,7 @@ fn an_instance_without_room_has_an_error_and_keeps_its_old_row(
     rt: HostRuntime,
 ) -> Result<(), Fail> {
     let (alloc, names) = (rt.alloc(), &read_names()?);
-    let told = told_by_a_board(alloc, &moved(names)[..6])?;
+    let told = told(alloc, &moved(names)[..6])?;
     let kept = running(
         names.web(0),
         Presence::Evacuating,
@@ -102,8 +102,8 @@ fn a_cell_that_was_not_heard_keeps_its_work_until_its_lease_ends(
         (10, RoundLoses(1, Delivery::CallLost)),
         (600, Round),
     ];
-    let silent = told_by_a_board(alloc, &story[..5])?;
-    let ended = told_by_a_board(alloc, &story)?;
+    let silent = told(alloc, &story[..5])?;
+    let ended = told(alloc, &story)?;
     let rounds = [
         asking(2, 2),
         Counts {
@@ -135,8 +135,8 @@ fn a_container_whose_claim_was_lost_is_stopped(rt: HostRuntime) -> Result<(), Fa
         (1, Loses(0, lost, Delivery::CallLost)),
         (2, Round),
     ];
-    let before = told_by_a_board(alloc, &story[..2])?;
-    let after = told_by_a_board(alloc, &story)?;
+    let before = told(alloc, &story[..2])?;
+    let after = told(alloc, &story)?;
     let round = Counts {
         stopped: 1,
         ..asking(1, 0)

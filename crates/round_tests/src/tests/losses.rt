@@ -18,7 +18,7 @@ fn lost_once(
         (2, Round),
         (3, Round),
     ];
-    let told = told_by_a_board(alloc, &story)?;
+    let told = told(alloc, &story)?;
     assert_eq!(rt; told.rounds(), rounds, "{number}, {end:?}");
     Ok(())
 }
@@ -106,7 +106,7 @@ fn a_stop_that_was_lost_is_made_in_the_next_round(rt: HostRuntime) -> Result<(),
         ..asking(1, 0)
     };
     for end in [Delivery::CallLost, Delivery::ReplyLost] {
-        let told = told_by_a_board(alloc, &stop_lost(names, end))?;
+        let told = told(alloc, &stop_lost(names, end))?;
         let rounds = [losing_one(0), second, asking(1, 0)];
         assert_eq!(rt; told.rounds(), rounds.as_slice(), "{end:?}");
     }
