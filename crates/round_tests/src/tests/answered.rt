@@ -20,10 +20,9 @@ fn both_do(
     ops: &[Op],
 ) -> Result<(), Fail> {
     let story = running(names);
-    let runs = then(alloc, &story, &[(3, *turn)])?;
-    round_does(rt, alloc, &runs, 4, ops)?;
-    let waits = then(alloc, &story[..3], &[(3, *turn)])?;
-    round_does(rt, alloc, &waits, 4, ops)
+    let more = [(3, *turn)];
+    round_then_does(rt, alloc, &story, &more, 4, ops)?;
+    round_then_does(rt, alloc, &story[..3], &more, 4, ops)
 }
 
 #[test]
@@ -47,20 +46,38 @@ fn a_row_whose_container_ended_has_crashed(rt: HostRuntime) -> Result<(), Fail> 
     both_do(&rt, alloc, names, &unheard, &ops)
 }
 
-#[test]
-fn an_evacuating_row_without_its_container_is_dropped(rt: HostRuntime) -> Result<(), Fail> {
-    let (alloc, names) = (rt.alloc(), &read_names()?);
-    let story = then(alloc, &running(names), &[(3, Evacuate(0))])?;
-    round_does(&rt, alloc, &story, 5, &[place_fail(names.web(0))])?;
+// The same, and the cell is emptied.
+fn emptied(names: &Names) -> [(u32, Turn); 5] {
+    [
+        (0, Cell(0, join(names.z1, 9000))),
+        (0, Client(desire(names.web, 1))),
+        (1, Round),
+        (2, Cell(0, UP)),
+        (3, Evacuate(0)),
+    ]
+}
+
+// A round drops the evacuating row after that turn.
+fn is_dropped_after(
+    rt: &impl Abort,
+    alloc: Global,
+    names: &Names,
+    turn: &Turn,
+) -> Result<(), Fail> {
     let ops = [
         drop_evacuating(names.web(0), container(0, 1)),
         place_fail(names.web(0)),
     ];
-    let gone = then(alloc, &story, &[(4, Gone(0, container(0, 1)))])?;
-    round_does(&rt, alloc, &gone, 5, &ops)?;
+    round_then_does(rt, alloc, &emptied(names), &[(4, *turn)], 5, &ops)
+}
+
+#[test]
+fn an_evacuating_row_without_its_container_is_dropped(rt: HostRuntime) -> Result<(), Fail> {
+    let (alloc, names) = (rt.alloc(), &read_names()?);
+    round_does(&rt, alloc, &emptied(names), 5, &[place_fail(names.web(0))])?;
+    is_dropped_after(&rt, alloc, names, &Gone(0, container(0, 1)))?;
     let unheard = Loses(0, crash(names.web(0)), Delivery::CallLost);
-    let ended = then(alloc, &story, &[(4, unheard)])?;
-    round_does(&rt, alloc, &ended, 5, &ops)
+    is_dropped_after(&rt, alloc, names, &unheard)
 }
 
 // What a round must do after that turn of a task that runs.
@@ -114,13 +131,11 @@ fn nothing_is_asked_of_the_rows_of_a_cell_that_was_not_heard(rt: HostRuntime) ->
         (3, Gone(0, container(0, 1))),
         (4, RoundLoses(1, Delivery::CallLost)),
     ];
-    let silent = told(alloc, &then(alloc, &running(names), &unheard)?)?;
     let counts = Counts {
         lost: 1,
         ..asking(1, 0)
     };
-    let is_told = (silent.rounds(), silent.last(alloc)?.len())
-        == ([asking(1, 2), counts].as_slice(), 0);
-    assert!(rt; is_told);
-    Ok(())
+    let story = running(names);
+    rounds_count(&rt, alloc, &story, &unheard, &[asking(1, 2), counts])?;
+    last_does(&rt, alloc, &story, &unheard, &[])
 }

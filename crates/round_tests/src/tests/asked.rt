@@ -35,20 +35,22 @@ fn started(names: &Names, ttl: u32) -> [(u32, Turn); 4] {
 fn a_cell_vanishes_when_its_lease_ends(rt: HostRuntime) -> Result<(), Fail> {
     let (alloc, names) = (rt.alloc(), &read_names()?);
     let story = [(0, Cell(0, join(names.z1, 600)))];
-    round_does(&rt, alloc, &story, 599, &[])?;
-    round_does(&rt, alloc, &story, 600, &[vanish(names.c1)])
+    first_does(&rt, alloc, &story, &[], 600, &[vanish(names.c1)])
 }
 
-#[test]
-fn wanted_instances_are_made_and_placed_in_one_round(rt: HostRuntime) -> Result<(), Fail> {
-    let (alloc, names) = (rt.alloc(), &read_names()?);
+// What a round does with two wanted instances, where no cell is.
+fn two_fail(rt: &impl Abort, alloc: Global, names: &Names) -> Result<(), Fail> {
     let fails = [
         make(names.web(0)),
         make(names.web(1)),
         place_fail(names.web(0)),
         place_fail(names.web(1)),
     ];
-    round_does(&rt, alloc, &[(0, Client(desire(names.web, 2)))], 1, &fails)?;
+    round_does(rt, alloc, &[(0, Client(desire(names.web, 2)))], 1, &fails)
+}
+
+// And where one is. The round after it does nothing.
+fn two_are_claimed(rt: &impl Abort, alloc: Global, names: &Names) -> Result<(), Fail> {
     let story = [
         (0, Cell(0, join(names.z1, 600))),
         (0, Client(desire(names.web, 2))),
@@ -60,66 +62,93 @@ fn wanted_instances_are_made_and_placed_in_one_round(rt: HostRuntime) -> Result<
         claim(names.web(0), container(0, 1), names.c1),
         claim(names.web(1), container(0, 2), names.c1),
     ];
-    round_does(&rt, alloc, &story[..2], 1, &claims)?;
-    round_does(&rt, alloc, &story, 2, &[])
+    last_does(rt, alloc, &story, &[], &claims)?;
+    round_does(rt, alloc, &story, 2, &[])
+}
+
+#[test]
+fn wanted_instances_are_made_and_placed_in_one_round(rt: HostRuntime) -> Result<(), Fail> {
+    let (alloc, names) = (rt.alloc(), &read_names()?);
+    two_fail(&rt, alloc, names)?;
+    two_are_claimed(&rt, alloc, names)
+}
+
+// An instance that no cell has room for is removed once it isn't wanted.
+fn unplaced_is_removed(rt: &impl Abort, alloc: Global, names: &Names) -> Result<(), Fail> {
+    let story = [
+        (0, Client(desire(names.web, 1))),
+        (1, Round),
+        (2, Client(undesire(names.web))),
+    ];
+    round_does(rt, alloc, &story, 3, &[remove(names.web(0), None)])
 }
 
 #[test]
 fn what_is_not_wanted_is_removed(rt: HostRuntime) -> Result<(), Fail> {
     let (alloc, names) = (rt.alloc(), &read_names()?);
-    let unplaced = [
-        (0, Client(desire(names.web, 1))),
-        (1, Round),
-        (2, Client(undesire(names.web))),
-    ];
-    round_does(&rt, alloc, &unplaced, 3, &[remove(names.web(0), None)])?;
+    unplaced_is_removed(&rt, alloc, names)?;
     let undesired = [(2, Client(undesire(names.web)))];
-    let placed = then(alloc, &claimed(names), &undesired)?;
     let removed = [remove(names.web(0), Some(container(0, 1)))];
-    round_does(&rt, alloc, &placed, 3, &removed)
+    round_then_does(&rt, alloc, &claimed(names), &undesired, 3, &removed)
 }
 
-#[test]
-fn a_row_whose_cell_is_gone_is_unclaimed(rt: HostRuntime) -> Result<(), Fail> {
-    let (alloc, names) = (rt.alloc(), &read_names()?);
+// Once the cell's lease ends, both a row that is CLAIMED and one that is RUNNING.
+fn is_lost(rt: &impl Abort, alloc: Global, names: &Names) -> Result<(), Fail> {
     let story = claimed(names);
     let lost = [
         vanish(names.c1),
         unclaim(names.web(0), container(0, 1)),
         place_fail(names.web(0)),
     ];
-    round_does(&rt, alloc, &story, 599, &[])?;
-    round_does(&rt, alloc, &story, 600, &lost)?;
-    let runs = then(alloc, &story, &[(2, Cell(0, UP))])?;
-    round_does(&rt, alloc, &runs, 599, &[])?;
-    round_does(&rt, alloc, &runs, 600, &lost)?;
-    let anew = then(alloc, &story, &[(2, Cell(0, join(names.z1, 600)))])?;
+    first_does(rt, alloc, &story, &[], 600, &lost)?;
+    first_does(rt, alloc, &story, &[(2, Cell(0, UP))], 600, &lost)
+}
+
+#[test]
+fn a_row_whose_cell_is_gone_is_unclaimed(rt: HostRuntime) -> Result<(), Fail> {
+    let (alloc, names) = (rt.alloc(), &read_names()?);
+    is_lost(&rt, alloc, names)?;
+    let anew = [(2, Cell(0, join(names.z1, 600)))];
     let moved = [
         unclaim(names.web(0), container(0, 1)),
         claim(names.web(0), container(4, 1), names.c1),
     ];
-    round_does(&rt, alloc, &anew, 3, &moved)
+    round_then_does(&rt, alloc, &claimed(names), &anew, 3, &moved)
+}
+
+// The instance crashes four times.
+fn four_crashes(names: &Names) -> [(u32, Turn); 7] {
+    let (crash, run) = (crash(names.web(0)), run(names.web(0)));
+    [
+        (2, Cell(0, crash)),
+        (3, Cell(0, run)),
+        (3, Cell(0, crash)),
+        (4, Cell(0, run)),
+        (4, Cell(0, crash)),
+        (5, Cell(0, run)),
+        (5, Cell(0, crash)),
+    ]
 }
 
 #[test]
 fn a_crashed_row_is_tried_again_when_it_is_due(rt: HostRuntime) -> Result<(), Fail> {
     let (alloc, names) = (rt.alloc(), &read_names()?);
-    let crashes = [
-        (2, Cell(0, crash(names.web(0)))),
-        (3, Cell(0, run(names.web(0)))),
-        (3, Cell(0, crash(names.web(0)))),
-        (4, Cell(0, run(names.web(0)))),
-        (4, Cell(0, crash(names.web(0)))),
-        (5, Cell(0, run(names.web(0)))),
-        (5, Cell(0, crash(names.web(0)))),
-    ];
-    let story = then(alloc, &claimed(names), &crashes)?;
     let again = [
         restart(names.web(0)),
         claim(names.web(0), container(0, 5), names.c1),
     ];
-    round_does(&rt, alloc, &story, 34, &[])?;
-    round_does(&rt, alloc, &story, 35, &again)
+    let crashes = four_crashes(names);
+    first_does(&rt, alloc, &claimed(names), &crashes, 35, &again)
+}
+
+// An evacuating row that isn't wanted any more.
+fn undesired_is_dropped(rt: &impl Abort, alloc: Global, names: &Names) -> Result<(), Fail> {
+    let undesired = [(4, Client(undesire(names.web)))];
+    let dropped = [
+        remove(names.web(0), None),
+        drop_evacuating(names.web(0), container(0, 1)),
+    ];
+    round_then_does(rt, alloc, &emptied(names), &undesired, 5, &dropped)
 }
 
 #[test]
@@ -133,14 +162,18 @@ fn an_evacuating_row_that_is_not_wanted_or_whose_cell_is_gone_is_dropped(
         drop_evacuating(names.web(0), container(0, 1)),
         place_fail(names.web(0)),
     ];
-    round_does(&rt, alloc, &story, 599, &[place_fail(names.web(0))])?;
+    round_does(&rt, alloc, &story, 599, &gone[2..])?;
     round_does(&rt, alloc, &story, 600, &gone)?;
-    let undesired = then(alloc, &story, &[(4, Client(undesire(names.web)))])?;
-    let dropped = [
-        remove(names.web(0), None),
-        drop_evacuating(names.web(0), container(0, 1)),
-    ];
-    round_does(&rt, alloc, &undesired, 5, &dropped)
+    undesired_is_dropped(&rt, alloc, names)
+}
+
+// The replacement is placed, and runs, on a cell with a lease of ten seconds.
+fn replaced(names: &Names) -> [(u32, Turn); 3] {
+    [
+        (4, Cell(1, join(names.z2, 10))),
+        (5, Round),
+        (6, Cell(1, UP)),
+    ]
 }
 
 #[test]
@@ -148,48 +181,54 @@ fn an_evacuating_row_is_dropped_once_its_replacement_runs_on_a_cell_that_is_ther
     rt: HostRuntime,
 ) -> Result<(), Fail> {
     let (alloc, names) = (rt.alloc(), &read_names()?);
-    let placed = [(4, Cell(1, join(names.z2, 10))), (5, Round)];
-    let story = then(alloc, &emptied(names), &placed)?;
-    round_does(&rt, alloc, &story, 6, &[])?;
-    let story = then(alloc, &story, &[(6, Cell(1, UP))])?;
+    let (story, more) = (emptied(names), replaced(names));
+    round_then_does(&rt, alloc, &story, &more[..2], 6, &[])?;
     let dropped = [drop_evacuating(names.web(0), container(0, 1))];
-    round_does(&rt, alloc, &story, 13, &dropped)?;
+    round_then_does(&rt, alloc, &story, &more, 13, &dropped)?;
     let lost = [
         vanish(names.c2),
         unclaim(names.web(0), container(7, 1)),
         place_fail(names.web(0)),
     ];
-    round_does(&rt, alloc, &story, 14, &lost)
+    round_then_does(&rt, alloc, &story, &more, 14, &lost)
 }
 
 #[test]
 fn a_task_is_given_up_whose_cell_is_gone(rt: HostRuntime) -> Result<(), Fail> {
     let (alloc, names) = (rt.alloc(), &read_names()?);
-    let story = started(names, 600);
     let lost = [vanish(names.c1), cancel(names.job)];
-    round_does(&rt, alloc, &story, 599, &[])?;
-    round_does(&rt, alloc, &story, 600, &lost)
+    first_does(&rt, alloc, &started(names, 600), &[], 600, &lost)
 }
 
 #[test]
 fn a_task_is_given_up_that_waits_too_long(rt: HostRuntime) -> Result<(), Fail> {
     let (alloc, names) = (rt.alloc(), &read_names()?);
     let story = [(0, Client(task(names.job)))];
-    round_does(&rt, alloc, &story, 1799, &[])?;
-    round_does(&rt, alloc, &story, 1800, &[cancel(names.job)])
+    first_does(&rt, alloc, &story, &[], 1800, &[cancel(names.job)])
+}
+
+// A task that a cell has finished, and a client then takes its outcome.
+fn outcome(name: Name) -> [(u32, Turn); 2] {
+    [
+        (5, Cell(0, finish(name, false))),
+        (10, Client(Op::ResolveTask { name })),
+    ]
 }
 
 #[test]
 fn an_outcome_that_nobody_takes_is_kicked_and_expires(rt: HostRuntime) -> Result<(), Fail> {
     let (alloc, names) = (rt.alloc(), &read_names()?);
     let name = names.job;
-    let ended = [(5, Cell(0, finish(name, false)))];
-    let story = then(alloc, &started(names, 9000), &ended)?;
-    round_does(&rt, alloc, &story, 124, &[])?;
-    round_does(&rt, alloc, &story, 125, &[Op::ExpireTask { name }])?;
-    let taken = then(alloc, &story, &[(10, Client(Op::ResolveTask { name }))])?;
-    round_does(&rt, alloc, &taken, 39, &[])?;
-    round_does(&rt, alloc, &taken, 40, &[Op::KickTask { name }])
+    let (story, more) = (started(names, 9000), outcome(name));
+    first_does(
+        &rt,
+        alloc,
+        &story,
+        &more[..1],
+        125,
+        &[Op::ExpireTask { name }],
+    )?;
+    first_does(&rt, alloc, &story, &more, 40, &[Op::KickTask { name }])
 }
 
 #[test]

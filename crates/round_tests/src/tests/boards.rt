@@ -1,6 +1,6 @@
 //! Stories over a board on a disk in memory. A board is closed whatever came of its story, so that none is ever dropped.
 use super::beside::BesidePort;
-use super::playing::{Played, Told, play, reps};
+use super::playing::{Played, Told, play};
 use super::turns::Turn;
 use bbs_board::{Board, Closed, load};
 use bbs_model::{Command, Item};
@@ -62,13 +62,12 @@ fn told_of<D: Disk + Drop>(board: Board<D>, end: Result<Played, Fail>) -> Result
 
 // Plays a story over the board of a disk.
 fn told_over<D: Disk + Drop>(alloc: Global, disk: D, story: &[(u32, Turn)]) -> Result<Told, Fail> {
-    let mut cells = reps(alloc)?;
     let mut board = loaded(alloc, disk)?;
     let mut port = SolePort {
         board: &mut board,
         by: CALLER,
     };
-    let end = play(alloc, &mut port, &mut cells, story);
+    let end = play(alloc, &mut port, story);
     told_of(board, end)
 }
 
@@ -80,14 +79,13 @@ fn beside_over<D: Disk + Drop>(
     until: u64,
     visit: Command,
 ) -> Result<Told, Fail> {
-    let mut cells = reps(alloc)?;
     let mut board = loaded(alloc, disk)?;
     let mut port = BesidePort {
         board: &mut board,
         until,
         visit,
     };
-    let end = play(alloc, &mut port, &mut cells, story);
+    let end = play(alloc, &mut port, story);
     told_of(board, end)
 }
 

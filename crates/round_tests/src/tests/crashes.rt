@@ -13,27 +13,33 @@ struct Life {
     now: u32,
 }
 
-fn add<X: Copy>(items: &mut Vec<X>, item: X) -> Result<(), Fail> {
-    Ok(items.push(item)?)
+// It goes on with these turns, whose rounds must count that.
+fn go_on(life: &mut Life, turns: &[(u32, Turn)], rounds: &[Counts]) -> Result<(), Fail> {
+    life.story.extend_from_slice(turns)?;
+    Ok(life.rounds.extend_from_slice(rounds)?)
 }
 
-// The instance comes up and crashes after ten seconds. A round in the second before it is due does nothing, and
-// one when it is due has it claimed again.
+// A round in the second before the instance is due does nothing, and one when it is due has it claimed again.
+fn is_tried(life: &mut Life, due: u32, wait: u32) -> Result<(), Fail> {
+    let rounds = [(due.wrapping_sub(1), Round), (due, Round)];
+    if wait == 0 {
+        go_on(life, &rounds[1..], &[asking(1, 1)])
+    } else {
+        go_on(life, &rounds, &[asking(1, 0), asking(1, 2)])
+    }
+}
+
+// The instance comes up, crashes after ten seconds, and is tried again.
 fn crashes(life: &mut Life, names: &Names, wait: u32) -> Result<(), Fail> {
     let crash_at = life.now.wrapping_add(10);
     let due = crash_at.wrapping_add(wait);
-    add(&mut life.story, (life.now, Cell(0, UP)))?;
-    add(&mut life.story, (crash_at, Cell(0, crash(names.web(0)))))?;
-    if wait == 0 {
-        add(&mut life.rounds, asking(1, 1))?;
-    } else {
-        add(&mut life.story, (due.wrapping_sub(1), Round))?;
-        add(&mut life.rounds, asking(1, 0))?;
-        add(&mut life.rounds, asking(1, 2))?;
-    }
-    add(&mut life.story, (due, Round))?;
+    let turns = [
+        (life.now, Cell(0, UP)),
+        (crash_at, Cell(0, crash(names.web(0)))),
+    ];
     life.now = due;
-    Ok(())
+    go_on(life, &turns, &[])?;
+    is_tried(life, due, wait)
 }
 
 // An instance that is claimed in its second 1, and crashes ten times.
@@ -54,11 +60,7 @@ fn ten_crashes(alloc: Global, names: &Names) -> Result<Life, Fail> {
     Ok(life)
 }
 
-#[test]
-fn an_instance_that_crashes_is_tried_again_when_it_is_due(rt: HostRuntime) -> Result<(), Fail> {
-    let (alloc, names) = (rt.alloc(), &read_names()?);
-    let life = ten_crashes(alloc, names)?;
-    let told = told(alloc, &life.story)?;
+fn life_is_so(rt: &impl Abort, alloc: Global, names: &Names, life: &Life) -> Result<(), Fail> {
     let row = Actual {
         key: names.web(0),
         presence: Presence::Ordinary,
@@ -70,9 +72,25 @@ fn an_instance_that_crashes_is_tried_again_when_it_is_due(rt: HostRuntime) -> Re
         since: Moment(life.now),
         error: false,
     };
-    let is_told = (told.rounds(), told.end.rows.actual.items())
-        == (life.rounds.as_slice(), [row].as_slice());
-    assert!(rt; is_told);
+    rounds_count(rt, alloc, &life.story, &[], &life.rounds)?;
+    rows_are(rt, alloc, &life.story, &[row])
+}
+
+#[test]
+fn an_instance_that_crashes_is_tried_again_when_it_is_due(rt: HostRuntime) -> Result<(), Fail> {
+    let (alloc, names) = (rt.alloc(), &read_names()?);
+    let life = ten_crashes(alloc, names)?;
+    life_is_so(&rt, alloc, names, &life)
+}
+
+// At the end of a story there is one task, which has failed.
+fn task_has_failed(rt: &impl Abort, alloc: Global, story: &[(u32, Turn)]) -> Result<(), Fail> {
+    let told = told(alloc, story)?;
+    let tasks = told.end.rows.tasks.items();
+    assert_eq!(rt; tasks.len(), 1);
+    for task in tasks {
+        assert!(rt; task.state == TaskState::Completed { failed: true });
+    }
     Ok(())
 }
 
@@ -88,16 +106,7 @@ fn a_task_whose_cell_is_lost_has_failed_and_is_not_run_again(rt: HostRuntime) ->
         (600, Round),
         (601, Round),
     ];
-    let told = told(alloc, &story)?;
-    let states = told.end.rows.tasks.items().iter().map(|task| task.state);
-    let states: Vec<TaskState> = states.collect(alloc)?;
     let rounds = [asking(2, 1), asking(1, 2), asking(1, 0)];
-    let failed = true;
-    let is_told = (told.rounds(), states.as_slice())
-        == (
-            rounds.as_slice(),
-            [TaskState::Completed { failed }].as_slice(),
-        );
-    assert!(rt; is_told);
-    Ok(())
+    rounds_count(&rt, alloc, &story, &[], &rounds)?;
+    task_has_failed(&rt, alloc, &story)
 }

@@ -2,58 +2,102 @@
 ghost use Rattle.std.specs.Prelude.{◌<◌};
 
 use super::boards::{CALLER, closed, disk_with, loaded};
-use super::playing::{counts_of, play, reps};
-use super::turns::round_over;
+use super::playing::{counts_of, reps, take_all};
+use super::turns::{round_over, whole_round};
 use super::*;
+use bbs_board::Board;
 use bbs_model::{CallFault, Command, Item, Port};
 use cell_rep::CellRep;
 use disk_trait::Disk;
 use lrp_records::Desired;
 use sole_port::SolePort;
 
-// How a round ends whose disk fails, and what the next one counts.
-fn two_rounds<P: Port>(
+// Nothing is lost.
+const THROUGH: (u64, Delivery) = (1, Delivery::Through);
+
+// Takes the turns of a story, and forgets what came of them.
+fn begin<P: Port>(
     alloc: Global,
     port: &mut P,
     cells: &mut [CellRep],
-) -> Result<(CallFault, Counts), Fail> {
-    let through = (1, Delivery::Through);
-    match round_over(alloc, port, cells, Moment(3), through)? {
-        Ok(_) => Err(Fail::from("the disk fails")),
-        Err(fault) => match round_over(alloc, port, cells, Moment(4), through)? {
-            Err(_) => Err(Fail::from("the disk fails once")),
-            Ok(report) => Ok((fault, counts_of(&report))),
-        },
+    story: &[(u32, Turn)],
+) -> Result<(), Fail> {
+    match take_all(alloc, port, cells, story) {
+        Err(fail) => Err(fail),
+        Ok(_course) => Ok(()),
     }
 }
 
-// The same, behind a story.
-fn two_rounds_behind<P: Port>(
+// How a round ends whose disk fails.
+fn fault_of<P: Port>(
+    alloc: Global,
+    port: &mut P,
+    cells: &mut [CellRep],
+) -> Result<CallFault, Fail> {
+    match round_over(alloc, port, cells, Moment(3), THROUGH)? {
+        Ok(_) => Err(Fail::from("the disk fails")),
+        Err(fault) => Ok(fault),
+    }
+}
+
+// What the next one counts.
+fn next_counts<P: Port>(
+    alloc: Global,
+    port: &mut P,
+    cells: &mut [CellRep],
+) -> Result<Counts, Fail> {
+    let report = whole_round(alloc, port, cells, Moment(4), THROUGH)?;
+    Ok(counts_of(&report))
+}
+
+// Both, behind a story.
+fn two_rounds<P: Port>(
     alloc: Global,
     port: &mut P,
     cells: &mut [CellRep],
     story: &[(u32, Turn)],
 ) -> Result<(CallFault, Counts), Fail> {
-    play(alloc, port, cells, story)?;
-    two_rounds(alloc, port, cells)
+    begin(alloc, port, cells, story)?;
+    let fault = fault_of(alloc, port, cells)?;
+    let counts = next_counts(alloc, port, cells)?;
+    Ok((fault, counts))
 }
 
-// The same over the board of a disk, with the board's log.
+// The same over two cells, of which none has joined.
+fn two_rounds_behind<P: Port>(
+    alloc: Global,
+    port: &mut P,
+    story: &[(u32, Turn)],
+) -> Result<(CallFault, Counts), Fail> {
+    let mut cells = reps(alloc)?;
+    two_rounds(alloc, port, &mut cells, story)
+}
+
+// What came of it over a board, which is closed.
+fn ended<D: Disk + Drop>(
+    board: Board<D>,
+    end: Result<(CallFault, Counts), Fail>,
+) -> Result<(CallFault, Counts, Vec<Item>), Fail> {
+    let log = closed(board);
+    match end {
+        Err(fail) => Err(fail),
+        Ok((fault, counts)) => Ok((fault, counts, log)),
+    }
+}
+
+// The same over the board of a disk.
 fn rounds_over<D: Disk + Drop>(
     alloc: Global,
     disk: D,
     story: &[(u32, Turn)],
 ) -> Result<(CallFault, Counts, Vec<Item>), Fail> {
-    let mut cells = reps(alloc)?;
     let mut board = loaded(alloc, disk)?;
     let mut port = SolePort {
         board: &mut board,
         by: CALLER,
     };
-    let end = two_rounds_behind(alloc, &mut port, &mut cells, story);
-    let log = closed(board);
-    let (fault, counts) = end?;
-    Ok((fault, counts, log))
+    let end = two_rounds_behind(alloc, &mut port, story);
+    ended(board, end)
 }
 
 // A process that no cell can run, since none has its tag.
@@ -93,6 +137,38 @@ fn done_by(names: &Names) -> [Op; 4] {
     ]
 }
 
+fn story_of(names: &Names) -> [(u32, Turn); 5] {
+    [
+        (0, Cell(0, join(names.z1, 600))),
+        (0, Client(desire(names.web, 1))),
+        (1, Round),
+        (2, Client(desire_elsewhere(names.job))),
+        (2, Gone(0, container(0, 1))),
+    ]
+}
+
+// What comes of the two rounds if that device call fails.
+fn rounds_failing(
+    alloc: Global,
+    names: &Names,
+    failing: u64,
+) -> Result<(CallFault, Counts, Vec<Item>), Fail> {
+    let disk = disk_with(alloc, &[0; 3], &[failing])?;
+    rounds_over(alloc, disk, &story_of(names))
+}
+
+// What the next round counts, where the operation at this place was in doubt. A claim that is in doubt leaves a
+// container, which the next round stops.
+fn next_after(at: u64) -> Counts
+    requires { at < 4 }
+{
+    Counts {
+        unplaced: 1,
+        stopped: usize::from(at == 2),
+        ..asking(1, 4 - at)
+    }
+}
+
 // The device call of this number fails, within the round's operation at this place.
 fn fails_within(
     rt: &impl Abort,
@@ -104,27 +180,30 @@ fn fails_within(
 ) -> Result<(), Fail>
     requires { at < 4 }
 {
-    let story = [
-        (0, Cell(0, join(names.z1, 600))),
-        (0, Client(desire(names.web, 1))),
-        (1, Round),
-        (2, Client(desire_elsewhere(names.job))),
-        (2, Gone(0, container(0, 1))),
-    ];
     let place = BEFORE + at;
-    let disk = disk_with(alloc, &[0; 3], &[failing])?;
-    let (fault, counts, log) = rounds_over(alloc, disk, &story)?;
     let now = Moment(3);
     let doubt = Item::Doubt(CALLER, Command { now, op: *op });
-    // A claim that is in doubt leaves a container, which the next round stops.
-    let next = Counts {
-        unplaced: 1,
-        stopped: usize::from(at == 2),
-        ..asking(1, 4 - at)
-    };
-    let is_told = (fault, log.get(place as usize), counts)
-        == (CallFault::Disk { place }, Some(&doubt), next);
-    assert!(rt; is_told, "at {failing}: {counts:?}");
+    let (fault, counts, log) = rounds_failing(alloc, names, failing)?;
+    assert!(rt; fault == CallFault::Disk { place }, "at {failing}");
+    assert!(rt; counts == next_after(at), "at {failing}: {counts:?}");
+    assert!(rt; log.get(place as usize) == Some(&doubt), "at {failing}");
+    Ok(())
+}
+
+// The same for each of an operation's device calls.
+fn fails_within_each(
+    rt: &impl Abort,
+    alloc: Global,
+    names: &Names,
+    at: u64,
+    op: &Op,
+) -> Result<(), Fail>
+    requires { at < 4 }
+{
+    for call in 1..APPEND + 1 {
+        let failing = LOAD + APPEND * (BEFORE + at) + call;
+        fails_within(rt, alloc, names, at, op, failing)?;
+    }
     Ok(())
 }
 
@@ -135,10 +214,7 @@ fn a_round_ends_where_its_disk_fails_and_the_next_one_does_the_rest(
     let (alloc, names) = (rt.alloc(), &read_names()?);
     let ops = done_by(names);
     for at in 0..4u64 {
-        for call in 1..APPEND + 1 {
-            let failing = LOAD + APPEND * (BEFORE + at) + call;
-            fails_within(&rt, alloc, names, at, &ops[at as usize], failing)?;
-        }
+        fails_within_each(&rt, alloc, names, at, &ops[at as usize])?;
     }
     Ok(())
 }

@@ -1,5 +1,6 @@
 //! Rounds over a board whose life is nearly over.
 use super::boards::told_after;
+use super::playing::Told;
 use super::*;
 use bbs_model::{BoardRefusal, Command};
 
@@ -7,6 +8,21 @@ use bbs_model::{BoardRefusal, Command};
 const LAST_BUT_THREE: [u8; 3] = [0x0f, 0x42, 0x3d];
 
 const EPOCH: u64 = 999_997;
+
+fn story_of(names: &Names, first: Turn) -> [(u32, Turn); 4] {
+    [
+        (0, Cell(0, join(names.z1, 600))),
+        (0, Client(desire(names.web, 1))),
+        (1, first),
+        (2, Round),
+    ]
+}
+
+fn is_refused(rt: &impl Abort, told: &Told, refused: (Command, BoardRefusal)) -> Result<(), Fail> {
+    let report = told.report()?;
+    assert!(rt; report.refused.items() == [refused].as_slice());
+    Ok(())
+}
 
 // What two rounds over it count, and what the second one was refused.
 fn rounds_are(
@@ -17,22 +33,11 @@ fn rounds_are(
     number: u32,
 ) -> Result<(), Fail> {
     let names = &read_names()?;
-    let story = [
-        (0, Cell(0, join(names.z1, 600))),
-        (0, Client(desire(names.web, 1))),
-        (1, first),
-        (2, Round),
-    ];
-    let told = told_after(alloc, &LAST_BUT_THREE, &story)?;
-    let Some(report) = &told.end.report else {
-        return Err(Fail::from("there was a round"));
-    };
     let now = Moment(2);
     let op = claim(names.web(0), container(EPOCH, number), names.c1);
-    let refused = (Command { now, op }, BoardRefusal::BoardFull);
-    let is_told = (told.rounds(), report.refused.items()) == (rounds, [refused].as_slice());
-    assert!(rt; is_told);
-    Ok(())
+    let told = told_after(alloc, &LAST_BUT_THREE, &story_of(names, first))?;
+    assert_eq!(rt; told.rounds(), rounds);
+    is_refused(rt, &told, (Command { now, op }, BoardRefusal::BoardFull))
 }
 
 fn refused_one(own: u64) -> Counts {

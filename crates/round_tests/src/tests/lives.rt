@@ -33,7 +33,7 @@ fn an_instance_moves_and_its_old_row_is_dropped_once_the_new_one_runs(
     rt: HostRuntime,
 ) -> Result<(), Fail> {
     let (alloc, names) = (rt.alloc(), &read_names()?);
-    let told = told(alloc, &moved(names))?;
+    let story = moved(names);
     let rounds = [
         asking(1, 2),
         Counts {
@@ -53,9 +53,21 @@ fn an_instance_moves_and_its_old_row_is_dropped_once_the_new_one_runs(
         names.c2,
         7,
     );
-    let is_told = (told.rounds(), told.log.len(), told.end.rows.actual.items())
-        == (rounds.as_slice(), 12, [row].as_slice());
-    assert!(rt; is_told);
+    rounds_count(&rt, alloc, &story, &[], &rounds)?;
+    rows_are(&rt, alloc, &story, &[row])?;
+    log_has(&rt, alloc, &story, 12)
+}
+
+// This instance alone has no room in the last round of a story.
+fn is_unplaced(
+    rt: &impl Abort,
+    alloc: Global,
+    story: &[(u32, Turn)],
+    key: Key,
+) -> Result<(), Fail> {
+    let told = told(alloc, story)?;
+    let report = told.report()?;
+    assert!(rt; report.unplaced.items() == [JobName::Lrp(key)].as_slice());
     Ok(())
 }
 
@@ -64,7 +76,6 @@ fn an_instance_without_room_has_an_error_and_keeps_its_old_row(
     rt: HostRuntime,
 ) -> Result<(), Fail> {
     let (alloc, names) = (rt.alloc(), &read_names()?);
-    let told = told(alloc, &moved(names)[..6])?;
     let kept = running(
         names.web(0),
         Presence::Evacuating,
@@ -79,14 +90,21 @@ fn an_instance_without_room_has_an_error_and_keeps_its_old_row(
         error: true,
         ..kept
     };
-    let Some(report) = &told.end.report else {
-        return Err(Fail::from("there was a round"));
-    };
-    let unplaced = JobName::Lrp(names.web(0));
-    let is_told = (told.end.rows.actual.items(), report.unplaced.items())
-        == ([waits, kept].as_slice(), [unplaced].as_slice());
-    assert!(rt; is_told);
-    Ok(())
+    let story = moved(names);
+    rows_are(&rt, alloc, &story[..6], &[waits, kept])?;
+    is_unplaced(&rt, alloc, &story[..6], names.web(0))
+}
+
+// A cell with work isn't heard in a round, and its lease ends then.
+fn silent(names: &Names) -> [(u32, Turn); 6] {
+    [
+        (0, Cell(0, join(names.z1, 600))),
+        (0, Cell(1, join(names.z2, 3600))),
+        (0, Client(desire(names.web, 1))),
+        (1, Round),
+        (10, RoundLoses(1, Delivery::CallLost)),
+        (600, Round),
+    ]
 }
 
 #[test]
@@ -94,36 +112,19 @@ fn a_cell_that_was_not_heard_keeps_its_work_until_its_lease_ends(
     rt: HostRuntime,
 ) -> Result<(), Fail> {
     let (alloc, names) = (rt.alloc(), &read_names()?);
-    let story = [
-        (0, Cell(0, join(names.z1, 600))),
-        (0, Cell(1, join(names.z2, 3600))),
-        (0, Client(desire(names.web, 1))),
-        (1, Round),
-        (10, RoundLoses(1, Delivery::CallLost)),
-        (600, Round),
-    ];
-    let silent = told(alloc, &story[..5])?;
-    let ended = told(alloc, &story)?;
-    let rounds = [
-        asking(2, 2),
-        Counts {
-            lost: 1,
-            ..asking(2, 0)
-        },
-        asking(1, 3),
-    ];
+    let story = silent(names);
+    let lost = Counts {
+        lost: 1,
+        ..asking(2, 0)
+    };
     let ops = [
         vanish(names.c1),
         unclaim(names.web(0), container(0, 1)),
         claim(names.web(0), container(1, 1), names.c2),
     ];
-    let is_told = (
-        ended.rounds(),
-        silent.last(alloc)?.len(),
-        ended.last(alloc)?.as_slice(),
-    ) == (rounds.as_slice(), 0, ops.as_slice());
-    assert!(rt; is_told);
-    Ok(())
+    rounds_count(&rt, alloc, &story, &[], &[asking(2, 2), lost, asking(1, 3)])?;
+    last_does(&rt, alloc, &story[..5], &[], &[])?;
+    last_does(&rt, alloc, &story, &[], &ops)
 }
 
 #[test]
@@ -135,19 +136,13 @@ fn a_container_whose_claim_was_lost_is_stopped(rt: HostRuntime) -> Result<(), Fa
         (1, Loses(0, lost, Delivery::CallLost)),
         (2, Round),
     ];
-    let before = told(alloc, &story[..2])?;
-    let after = told(alloc, &story)?;
     let round = Counts {
         stopped: 1,
         ..asking(1, 0)
     };
-    let stray = (names.c1, container(0, 1));
-    let is_told = (
-        before.end.strays.items(),
-        after.end.strays.len(),
-        after.rounds(),
-        after.log.len(),
-    ) == ([stray].as_slice(), 0, [round].as_slice(), 1);
-    assert!(rt; is_told);
-    Ok(())
+    let left = [(names.c1, container(0, 1))];
+    strays_are(&rt, alloc, &story[..2], &[], &left)?;
+    strays_are(&rt, alloc, &story, &[], &[])?;
+    rounds_count(&rt, alloc, &story, &[], &[round])?;
+    log_has(&rt, alloc, &story, 1)
 }

@@ -18,9 +18,7 @@ fn lost_once(
         (2, Round),
         (3, Round),
     ];
-    let told = told(alloc, &story)?;
-    assert_eq!(rt; told.rounds(), rounds, "{number}, {end:?}");
-    Ok(())
+    rounds_count(rt, alloc, &story, &[], rounds)
 }
 
 fn losing_one(own: u64) -> Counts {
@@ -105,10 +103,9 @@ fn a_stop_that_was_lost_is_made_in_the_next_round(rt: HostRuntime) -> Result<(),
         stopped: 1,
         ..asking(1, 0)
     };
+    let rounds = [losing_one(0), second, asking(1, 0)];
     for end in [Delivery::CallLost, Delivery::ReplyLost] {
-        let told = told(alloc, &stop_lost(names, end))?;
-        let rounds = [losing_one(0), second, asking(1, 0)];
-        assert_eq!(rt; told.rounds(), rounds.as_slice(), "{end:?}");
+        rounds_count(&rt, alloc, &stop_lost(names, end), &[], &rounds)?;
     }
     Ok(())
 }

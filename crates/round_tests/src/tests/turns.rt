@@ -100,7 +100,7 @@ fn cell_is_emptied<P: Port>(
     are_fine(&out)
 }
 
-/// A round over a wire that gives the delivery of this number this end.
+//// A round over a wire that gives the delivery of this number this end.
 pub fn round_over<P: Port>(
     alloc: Global,
     port: &mut P,
@@ -113,24 +113,80 @@ pub fn round_over<P: Port>(
     Ok(round(alloc, port, cells, &mut wire, now, 1))
 }
 
-// The same, which must end without a fault.
-fn whole_round<P: Port>(
+/// The same, which must end without a fault.
+pub fn whole_round<P: Port>(
     alloc: Global,
     port: &mut P,
     cells: &mut [CellRep],
     now: Moment,
     lost: (u64, Delivery),
-) -> Result<Option<Report>, Fail> {
+) -> Result<Report, Fail> {
     match round_over(alloc, port, cells, now, lost)? {
         Err(fault) => Err(Fail::from(fault)),
-        Ok(report) => Ok(Some(report)),
+        Ok(report) => Ok(report),
     }
 }
 
-fn give_up(rep: &mut CellRep, instance: &Instance) -> Result<(), Fail> {
+// The cell at that place acts.
+fn cell_at_acts<P: Port>(
+    alloc: Global,
+    port: &mut P,
+    cells: &mut [CellRep],
+    at: usize,
+    now: Moment,
+    act: &CellAct,
+    end: Delivery,
+) -> Result<(), Fail> {
+    let rep = rep_at(cells, at)?;
+    cell_acts(alloc, port, rep, now, act, end)
+}
+
+// The cell at that place is emptied.
+fn cell_at_is_emptied<P: Port>(
+    alloc: Global,
+    port: &mut P,
+    cells: &mut [CellRep],
+    at: usize,
+    now: Moment,
+) -> Result<(), Fail> {
+    let rep = rep_at(cells, at)?;
+    cell_is_emptied(alloc, port, rep, now)
+}
+
+fn give_up(cells: &mut [CellRep], at: usize, instance: &Instance) -> Result<(), Fail> {
+    let rep = rep_at(cells, at)?;
     match rep.stop(instance) {
         Err(why) => Err(Fail::from(why)),
         Ok(()) => Ok(()),
+    }
+}
+
+// What a round loses, if the turn is one.
+fn lost_in(turn: &Turn) -> Option<(u64, Delivery)> {
+    match turn {
+        Turn::Round => Some((1, Delivery::Through)),
+        Turn::RoundLoses(number, end) => Some((*number, *end)),
+        _ => None,
+    }
+}
+
+// Takes a turn that is no round.
+fn act<P: Port>(
+    alloc: Global,
+    port: &mut P,
+    cells: &mut [CellRep],
+    now: Moment,
+    turn: &Turn,
+) -> Result<(), Fail> {
+    match turn {
+        Turn::Client(op) => client_calls(port, now, *op),
+        Turn::Cell(at, act) => {
+            cell_at_acts(alloc, port, cells, *at, now, act, Delivery::Through)
+        }
+        Turn::Loses(at, act, end) => cell_at_acts(alloc, port, cells, *at, now, act, *end),
+        Turn::Evacuate(at) => cell_at_is_emptied(alloc, port, cells, *at, now),
+        Turn::Gone(at, instance) => give_up(cells, *at, instance),
+        Turn::Round | Turn::RoundLoses(_, _) => Ok(()),
     }
 }
 
@@ -142,25 +198,14 @@ pub fn take<P: Port>(
     now: Moment,
     turn: &Turn,
 ) -> Result<Option<Report>, Fail> {
-    match turn {
-        Turn::Client(op) => client_calls(port, now, *op)?,
-        Turn::Cell(at, act) => {
-            cell_acts(
-                alloc,
-                port,
-                rep_at(cells, *at)?,
-                now,
-                act,
-                Delivery::Through,
-            )?
-        }
-        Turn::Loses(at, act, end) => cell_acts(alloc, port, rep_at(cells, *at)?, now, act, *end)?,
-        Turn::Evacuate(at) => cell_is_emptied(alloc, port, rep_at(cells, *at)?, now)?,
-        Turn::Gone(at, instance) => give_up(rep_at(cells, *at)?, instance)?,
-        Turn::Round => return whole_round(alloc, port, cells, now, (1, Delivery::Through)),
-        Turn::RoundLoses(number, end) => {
-            return whole_round(alloc, port, cells, now, (*number, *end));
-        }
+    match lost_in(turn) {
+        Some(lost) => match whole_round(alloc, port, cells, now, lost) {
+            Err(fail) => Err(fail),
+            Ok(report) => Ok(Some(report)),
+        },
+        None => match act(alloc, port, cells, now, turn) {
+            Err(fail) => Err(fail),
+            Ok(()) => Ok(None),
+        },
     }
-    Ok(None)
 }

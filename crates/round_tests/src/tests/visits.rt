@@ -1,6 +1,7 @@
 //! Rounds between whose calls another caller moves the board.
 use super::beside::VISITOR;
 use super::boards::{CALLER, told_beside};
+use super::playing::Told;
 use super::*;
 use bbs_model::{BoardRefusal, Command, Item};
 use lrp_records::LrpRefusal;
@@ -30,23 +31,14 @@ fn at_one(op: Op) -> Command {
     Command { now, op }
 }
 
-// The other caller does that right before this call. What the first round then must count, what it is refused,
-// which items it and the other caller do, and what the second round counts.
-fn rounds_are(
+// What the first round must be refused, and which items it and the other caller do.
+fn first_is(
     rt: &impl Abort,
-    alloc: Global,
-    visit: (u64, Op),
-    first: Counts,
+    told: &Told,
     refused: &[(Command, BoardRefusal)],
     items: &[Item],
-    second: Counts,
 ) -> Result<(), Fail> {
-    let story = wanted(&read_names()?);
-    let (until, op) = visit;
-    let told = told_beside(alloc, &story[..4], until, at_one(op))?;
-    let Some(report) = &told.end.report else {
-        return Err(Fail::from("there was a round"));
-    };
+    let report = told.report()?;
     assert_eq!(rt; report.refused.items(), refused);
     assert_eq!(rt;
         (report.start, report.end),
@@ -54,6 +46,34 @@ fn rounds_are(
     );
     assert!(rt; told.log.get(BEFORE as usize..) == Some(items));
     assert_eq!(rt; told.end.strays.len(), 0);
+    Ok(())
+}
+
+// The other caller does that right before this call. What the first round then must be refused, and which items
+// it and the other caller do.
+fn items_are(
+    rt: &impl Abort,
+    alloc: Global,
+    visit: (u64, Op),
+    refused: &[(Command, BoardRefusal)],
+    items: &[Item],
+) -> Result<(), Fail> {
+    let story = wanted(&read_names()?);
+    let (until, op) = visit;
+    let told = told_beside(alloc, &story[..4], until, at_one(op))?;
+    first_is(rt, &told, refused, items)
+}
+
+// And what the first round must count, and the second.
+fn counts_are(
+    rt: &impl Abort,
+    alloc: Global,
+    visit: (u64, Op),
+    first: Counts,
+    second: Counts,
+) -> Result<(), Fail> {
+    let story = wanted(&read_names()?);
+    let (until, op) = visit;
     let told = told_beside(alloc, &story, until, at_one(op))?;
     assert_eq!(rt; told.rounds(), [first, second].as_slice());
     assert!(rt; !first.is_complete() && second.is_complete());
@@ -71,15 +91,8 @@ fn an_instance_that_another_caller_undesires_is_not_made(rt: HostRuntime) -> Res
     let op = undesire(names.web);
     let refused = [(at_one(make(names.web(0))), BoardRefusal::NotWanted)];
     let items = [Item::Done(VISITOR, at_one(op))];
-    rounds_are(
-        &rt,
-        alloc,
-        (MAKES, op),
-        first,
-        &refused,
-        &items,
-        asking(2, 0),
-    )
+    items_are(&rt, alloc, (MAKES, op), &refused, &items)?;
+    counts_are(&rt, alloc, (MAKES, op), first, asking(2, 0))
 }
 
 #[test]
@@ -100,16 +113,9 @@ fn an_instance_that_another_caller_claims_is_not_claimed_beside_it(
         Item::Done(CALLER, at_one(make(names.web(0)))),
         Item::Done(VISITOR, at_one(op)),
     ];
+    items_are(&rt, alloc, (CLAIMS, op), &refused, &items)?;
     // No cell has that container, so that the second round places the instance anew.
-    rounds_are(
-        &rt,
-        alloc,
-        (CLAIMS, op),
-        first,
-        &refused,
-        &items,
-        asking(2, 2),
-    )
+    counts_are(&rt, alloc, (CLAIMS, op), first, asking(2, 2))
 }
 
 #[test]
@@ -130,5 +136,6 @@ fn what_another_caller_desires_meanwhile_is_left_to_the_next_round(
             at_one(claim(names.web(0), container(0, 1), names.c1)),
         ),
     ];
-    rounds_are(&rt, alloc, (CLAIMS, op), first, &[], &items, asking(2, 2))
+    items_are(&rt, alloc, (CLAIMS, op), &[], &items)?;
+    counts_are(&rt, alloc, (CLAIMS, op), first, asking(2, 2))
 }
