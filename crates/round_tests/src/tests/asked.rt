@@ -118,15 +118,14 @@ fn a_row_whose_cell_is_gone_is_unclaimed(rt: HostRuntime) -> Result<(), Fail> {
 
 // The instance crashes four times.
 fn four_crashes(names: &Names) -> [(u32, Turn); 7] {
-    let (crash, run) = (crash(names.web(0)), run(names.web(0)));
     [
-        (2, Cell(0, crash)),
-        (3, Cell(0, run)),
-        (3, Cell(0, crash)),
-        (4, Cell(0, run)),
-        (4, Cell(0, crash)),
-        (5, Cell(0, run)),
-        (5, Cell(0, crash)),
+        (2, Cell(0, crash(names.web(0)))),
+        (3, Cell(0, run(names.web(0)))),
+        (3, Cell(0, crash(names.web(0)))),
+        (4, Cell(0, run(names.web(0)))),
+        (4, Cell(0, crash(names.web(0)))),
+        (5, Cell(0, run(names.web(0)))),
+        (5, Cell(0, crash(names.web(0)))),
     ]
 }
 
@@ -162,7 +161,7 @@ fn an_evacuating_row_that_is_not_wanted_or_whose_cell_is_gone_is_dropped(
         drop_evacuating(names.web(0), container(0, 1)),
         place_fail(names.web(0)),
     ];
-    round_does(&rt, alloc, &story, 599, &gone[2..])?;
+    round_does(&rt, alloc, &story, 599, &[place_fail(names.web(0))])?;
     round_does(&rt, alloc, &story, 600, &gone)?;
     undesired_is_dropped(&rt, alloc, names)
 }

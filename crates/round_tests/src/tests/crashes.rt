@@ -21,11 +21,11 @@ fn go_on(life: &mut Life, turns: &[(u32, Turn)], rounds: &[Counts]) -> Result<()
 
 // A round in the second before the instance is due does nothing, and one when it is due has it claimed again.
 fn is_tried(life: &mut Life, due: u32, wait: u32) -> Result<(), Fail> {
-    let rounds = [(due.wrapping_sub(1), Round), (due, Round)];
     if wait == 0 {
-        go_on(life, &rounds[1..], &[asking(1, 1)])
+        go_on(life, &[(due, Round)], &[asking(1, 1)])
     } else {
-        go_on(life, &rounds, &[asking(1, 0), asking(1, 2)])
+        let turns = [(due.wrapping_sub(1), Round), (due, Round)];
+        go_on(life, &turns, &[asking(1, 0), asking(1, 2)])
     }
 }
 
