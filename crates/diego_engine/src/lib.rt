@@ -1,12 +1,7 @@
 //! All that the program does.
 #![tactic(auto)]
 
-mod calling;
-mod commands;
 mod in_memory;
-mod phase;
-mod running;
-mod script;
 mod top;
 
 pub use in_memory::diego_top_in_memory;

@@ -9,7 +9,6 @@ ghost use Rattle.bbs_board.specs.Opening.{IsRefused};
 ghost use Rattle.disk_trait.specs.Shows.{Shows};
 ghost use Rattle.bbs_journal.specs.Preparing.{FindsBytes};
 ghost use Rattle.bbs_journal.specs.declared.load_fault.LoadFault.{LoadFault as Why};
-ghost use Rattle.diego_engine.specs.Script.{script_of};
 ghost use Rattle.program_edge.specs.Ending.{status_of};
 ghost use Rattle.program_edge.specs.Opening.{is_before_board};
 ghost use Rattle.program_edge.specs.Ports.{IsTold, ports_of};
@@ -19,11 +18,10 @@ ghost use Rattle.still_words.specs.declared.words.Asked.TheVariants as wanted;
 ghost use Rattle.diego_engine.specs.Headline.{Headline};
 ghost use Rattle.diego_engine.specs.Top.{ReadsWhole, ProgramEnds, Meets, RunsWhole, limit};
 
-use crate::commands::run;
-use crate::running::Ended;
 use byte_ports::{Gate, Sink, Source};
 use disk_trait::Disk;
 use program_edge::{TopEnd, number_of};
+use program_run::{Ended, run};
 use std::alloc::Global;
 use still_words::{Asked, read_words, still_top};
 
@@ -37,13 +35,14 @@ fn top_end<S, K, D>(ended: Ended, source: S, sink: K, disk: D) -> TopEnd<S, K, D
     ensures status { result.status ≡ status_of ended.ending }
     ensures ports { (result.source ≡ source) × (result.sink ≡ sink) × (result.disk ≡ disk) }
     ensures lists { (result.log ≡ ended.log) × (result.marks ≡ ended.marks)
-        × (result.answers ≡ ended.answers) }
+        × (result.answers ≡ ended.answers) × (result.reports ≡ ended.reports) }
 {
     let Ended {
         ending,
         log,
         marks,
         answers,
+        reports,
     } = ended;
     TopEnd {
         status: number_of(ending),
@@ -53,6 +52,7 @@ fn top_end<S, K, D>(ended: Ended, source: S, sink: K, disk: D) -> TopEnd<S, K, D
         log,
         marks,
         answers,
+        reports,
     }
 }
 

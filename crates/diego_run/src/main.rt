@@ -53,6 +53,7 @@ fn status<R: Env + Input + Print + Files<File = File> + AllocGlobal>(
         log: _,
         marks: _,
         answers: _,
+        reports: _,
     } = diego_top(rt.alloc(), &words, source, sink, disk, &OpenGate);
     Ok(status)
 }

@@ -11,8 +11,8 @@ use Rattle.bbs_journal.specs.declared.load_fault.LoadFault.TheVariants as fault
 use Rattle.bbs_journal.proofs.Public.{keeps_then}
 use Rattle.bbs_model.specs.declared.rows.Rows.{Rows}
 use Rattle.bbs_board.specs.Opening.{IsRefused, Refuses}
-use Rattle.program_edge.specs.Ending.{line_of}
-use Rattle.program_edge.specs.Opening.{EndsAs, EndsEarly, EndsRefused, EndsUnopened, Opens}
+use Rattle.program_edge.specs.Ending.{EndsAs, line_of}
+use Rattle.program_edge.specs.Opening.{EndsEarly, EndsRefused, EndsUnopened, Opens, ending_for}
 use Rattle.program_edge.specs.Ports.{Ports, IsTold, Prints, PrintsTo}
 use Rattle.program_edge.specs.declared.ending.Ending.{Ending}
 use Rattle.program_edge.specs.declared.ending.Ending.TheVariants as ending
@@ -48,7 +48,7 @@ module _ (v w : Ports) (rests : Goes v.told w.told KeepsContent) (whole : Bool) 
     refused = λ image shows is. refused image (shown_on v.told w.told image rests is shows);
   }
 
-  pub unopened : (why : LoadFault) (how : Ending) → EndsAs why how → Prints whole (line_of how) v w
+  pub unopened : (why : LoadFault) (how : Ending) → EndsAs (ending_for why) how → Prints whole (line_of how) v w
       → HasCause (is_load_disk_fault why) v.disk_faults w.disk_faults → ((image : Image) → Shows w.told image → Refuses why image) → EndsUnopened how v w
   unopened fault.Disk how is prints cause refused =
       subst (λ (x : Ending). EndsUnopened x v w) (sym is) (early true ending.Unopened (subst (λ (x : Ending). Prints whole (line_of x) v w) is prints) cause)

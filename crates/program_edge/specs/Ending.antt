@@ -1,8 +1,10 @@
 -- The ways in which the program ends, each with its status and its line.
-use Rattle.std.specs.Prelude.{ℕ, List, [], ◌∷◌, ◌++◌, codes}
+use Rattle.std.specs.Prelude.{◌≡◌, ◌⊎◌, ℕ, List, [], ◌∷◌, ◌++◌, codes}
 use Rattle.std.specs.Fmt.{decimal}
 use Rattle.disk_trait.specs.declared.area.Area.{Area}
 use Rattle.disk_trait.specs.declared.area.Area.TheVariants.{A, B}
+use Rattle.scenario_reader.specs.declared.fault.ScriptFault.{ScriptFault}
+use Rattle.scenario_reader.specs.declared.fault.ScriptFault.TheVariants.{BadJson, BadShape, BadName, BadOrder, TooMuch, OutOfMemory}
 use Rattle.program_edge.specs.declared.ending.Ending.{Ending}
 use Rattle.program_edge.specs.declared.ending.Ending.TheVariants as ending
 
@@ -10,7 +12,7 @@ use Rattle.program_edge.specs.declared.ending.Ending.TheVariants as ending
 abbrev pub status_of : Ending → ℕ
 status_of ending.Done = 0
 status_of ending.Usage = 1
-status_of ending.Script = 2
+status_of (ending.Script fault) = 2
 status_of ending.Read = 3
 status_of ending.Unwritten = 4
 status_of ending.Unopened = 5
@@ -40,10 +42,24 @@ abbrev pub damaged_line : Area → ℕ → List ℕ
 damaged_line area at =
     codes "{\"area\":\"" ++ (area_word area ++ (codes "\",\"at\":" ++ (decimal at ++ codes ",\"fault\":\"damaged\"}\n")))
 
+-- the line of a fault in a line of a script
+abbrev pub numbered_line : List ℕ → ℕ → List ℕ
+numbered_line word line =
+    codes "{\"fault\":\"" ++ (word ++ (codes "\",\"line\":" ++ (decimal line ++ codes "}\n")))
+
+-- the line that tells why bytes are no script: its first fault, and where that stands; want of memory is no fault of theirs
+abbrev pub script_line : ScriptFault → List ℕ
+script_line (BadJson line) = numbered_line (codes "bad json") line
+script_line (BadShape line) = numbered_line (codes "bad shape") line
+script_line (BadName line) = numbered_line (codes "bad name") line
+script_line (BadOrder line) = numbered_line (codes "bad order") line
+script_line (TooMuch line) = numbered_line (codes "too much") line
+script_line OutOfMemory = []
+
 -- the line that a fault is told by, where it tells no place
 abbrev pub constant_line : Ending → List ℕ
 constant_line ending.Usage = with_newline (codes "{\"fault\":\"usage\"}")
-constant_line ending.Script = with_newline (codes "{\"fault\":\"script\"}")
+constant_line (ending.Script fault) = []
 constant_line ending.Read = with_newline (codes "{\"fault\":\"read\"}")
 constant_line ending.Unopened = with_newline (codes "{\"fault\":\"disk\"}")
 constant_line (ending.NotABoard area) = no_board_line area
@@ -57,5 +73,12 @@ constant_line ending.OutOfMemory = []
 
 -- the line that a fault is told by
 abbrev pub line_of : Ending → List ℕ
+line_of (ending.Script fault) = script_line fault
 line_of (ending.Damaged area at) = damaged_line area at
 line_of how = constant_line how
+
+-- how it ends that ends before a board is opened: a line that tells a place may want memory
+abbrev pub EndsAs : Ending → Ending → Type 0
+EndsAs (ending.Script fault) how = (how ≡ ending.Script fault) ⊎ (how ≡ ending.OutOfMemory)
+EndsAs (ending.Damaged area at) how = (how ≡ ending.Damaged area at) ⊎ (how ≡ ending.OutOfMemory)
+EndsAs other how = how ≡ other

@@ -44,12 +44,12 @@ EndsUnopened (ending.Damaged area at) v w = EndsRefused (fault.Damaged area at) 
 EndsUnopened ending.OutOfMemory v w = EndsEarly false ending.OutOfMemory v w
 EndsUnopened other v w = ⊥
 
--- how it ends whose load came to this fault: a line that tells a place may want memory
-abbrev pub EndsAs : LoadFault → Ending → Type 0
-EndsAs fault.Disk how = how ≡ ending.Unopened
-EndsAs (fault.NotABoard area) how = how ≡ ending.NotABoard area
-EndsAs (fault.Damaged area at) how = (how ≡ ending.Damaged area at) ⊎ (how ≡ ending.OutOfMemory)
-EndsAs fault.OutOfMemory how = how ≡ ending.OutOfMemory
+-- how it ends whose load came to this fault
+abbrev pub ending_for : LoadFault → Ending
+ending_for fault.Disk = ending.Unopened
+ending_for (fault.NotABoard area) = ending.NotABoard area
+ending_for (fault.Damaged area at) = ending.Damaged area at
+ending_for fault.OutOfMemory = ending.OutOfMemory
 
 -- a board with these rows was loaded, which the disk shows; it shows what it showed, no stop leaves anything else,
 -- no fault was counted, and nothing was printed

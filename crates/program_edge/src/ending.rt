@@ -1,9 +1,9 @@
 //! The ways in which the program ends, each with its status and its line.
-ghost use Rattle.std.specs.Prelude.{◌≡◌, IfOk, string_bytes};
-ghost use Rattle.program_edge.specs.Ending.{status_of, constant_line, area_word, no_board_line, damaged_line};
+ghost use Rattle.std.specs.Prelude.{◌≡◌};
+ghost use Rattle.program_edge.specs.Ending.{status_of, constant_line, no_board_line};
 
 use disk_trait::Area;
-use std::alloc::{AllocError, Global};
+use scenario_reader::ScriptFault;
 
 /// How the program ends.
 #[derive(Clone, Copy, Debug, PartialEq, Eq)]
@@ -12,8 +12,8 @@ pub enum Ending {
     Done,
     /// The words aren't in the grammar.
     Usage,
-    /// The source isn't a script. The disk is untouched.
-    Script,
+    /// The source isn't a script, for this fault. The disk is untouched.
+    Script(ScriptFault),
     /// The source failed while it was read.
     Read,
     /// The sink failed while text was printed.
@@ -41,7 +41,7 @@ pub fn number_of(ending: Ending) -> u8
     match ending {
         Ending::Done => 0,
         Ending::Usage => 1,
-        Ending::Script => 2,
+        Ending::Script(_) => 2,
         Ending::Read => 3,
         Ending::Unwritten => 4,
         Ending::Unopened => 5,
@@ -54,16 +54,6 @@ pub fn number_of(ending: Ending) -> u8
     }
 }
 
-/// The word of an area in printed lines.
-fn area_word(area: Area) -> &'static str
-    ensures { result.now ≡ area_word area }
-{
-    match area {
-        Area::A => "a",
-        Area::B => "b",
-    }
-}
-
 fn no_board_line(area: Area) -> &'static [u8]
     ensures { result.now ≡ no_board_line area }
 {
@@ -73,27 +63,19 @@ fn no_board_line(area: Area) -> &'static [u8]
     }
 }
 
-/// The line that tells of a defect at a place of an area.
-pub fn damaged_line(alloc: Global, area: Area, at: u64) -> Result<String, AllocError>
-    ensures { IfOk result (λ s. string_bytes s ≡ damaged_line area at) }
-{
-    let area = area_word(area);
-    format!(in alloc; "{{\"area\":\"{area}\",\"at\":{at},\"fault\":\"damaged\"}}\n")
-}
-
-/// The line that a fault is told by. It is a constant, so that telling the fault wants no memory, but
-/// for the line of a defect, which tells its place.
+/// The line that a fault is told by, where it tells no place. It is a constant, so that telling the
+/// fault wants no memory.
 pub fn constant_line(ending: Ending) -> &'static [u8]
     ensures { result.now ≡ constant_line ending }
 {
     match ending {
         Ending::Usage => b"{\"fault\":\"usage\"}\n",
-        Ending::Script => b"{\"fault\":\"script\"}\n",
         Ending::Read => b"{\"fault\":\"read\"}\n",
         Ending::Unopened => b"{\"fault\":\"disk\"}\n",
         Ending::NotABoard { area } => no_board_line(area),
         Ending::TooLong => b"{\"fault\":\"too long\"}\n",
         Ending::Exists => b"{\"fault\":\"exists\"}\n",
+        Ending::Script(_) => b"",
         Ending::Damaged { area: _, at: _ } => b"",
         Ending::Done | Ending::Unwritten | Ending::Doubt | Ending::OutOfMemory => b"",
     }

@@ -3,10 +3,11 @@
 
 mod ending;
 mod opening;
+mod place_line;
 mod printing;
 mod top_end;
 
 pub use ending::{Ending, number_of};
 pub use opening::open;
-pub use printing::{ended_early, written};
+pub use printing::{ended_before, ended_early, written};
 pub use top_end::TopEnd;

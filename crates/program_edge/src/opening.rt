@@ -1,44 +1,25 @@
 //! The opening of the board, and how the program ends where there is none.
-ghost use Rattle.std.specs.Prelude.{◌≡◌, ◌⊎◌, Bool, IfOk, IfErr};
+ghost use Rattle.std.specs.Prelude.{◌≡◌, IfOk, IfErr};
 ghost use Rattle.bbs_board.specs.View.{IsFresh};
-ghost use Rattle.program_edge.specs.Ending.{line_of};
-ghost use Rattle.program_edge.specs.Opening.{Opens, EndsUnopened, EndsAs};
-ghost use Rattle.program_edge.specs.Ports.{PrintsTo, ports_of};
-ghost use Rattle.program_edge.specs.declared.ending.Ending.TheVariants as ending;
+ghost use Rattle.program_edge.specs.Opening.{Opens, EndsUnopened, ending_for};
+ghost use Rattle.program_edge.specs.Ports.{ports_of};
 
-use crate::ending::{Ending, damaged_line};
-use crate::printing::{ended_early, written};
+use crate::ending::Ending;
+use crate::printing::ended_before;
 use bbs_board::{Board, LoadFault, load};
 use byte_ports::Sink;
-use disk_trait::{Area, Disk};
+use disk_trait::Disk;
 use std::alloc::Global;
 
-/// Ends at a defect, with its place. Where there is no memory for that line, it ends for want of it.
-fn ended_at_defect<K: Sink>(alloc: Global, sink: &mut K, area: Area, at: u64) -> Ending
-    ensures ending { (result ≡ ending.Damaged area at) ⊎ (result ≡ ending.OutOfMemory) }
-    ensures prints { (whole : Bool) × PrintsTo whole (line_of result)
-        (K.held sink.old) (K.held sink.new) (K.faults sink.old) (K.faults sink.new) }
-{
-    match damaged_line(alloc, area, at) {
-        Ok(line) => {
-            let _whole = written(sink, line.as_bytes());
-            Ending::Damaged { area, at }
-        }
-        Err(_) => ended_early(sink, Ending::OutOfMemory),
-    }
-}
-
-/// Prints why no board was loaded.
-fn refused<K: Sink>(alloc: Global, sink: &mut K, fault: LoadFault) -> Ending
-    ensures ending { EndsAs fault result }
-    ensures prints { (whole : Bool) × PrintsTo whole (line_of result)
-        (K.held sink.old) (K.held sink.new) (K.faults sink.old) (K.faults sink.new) }
+/// How it ends whose board could not be loaded.
+fn ending_for(fault: LoadFault) -> Ending
+    ensures { result ≡ ending_for fault }
 {
     match fault {
-        LoadFault::Disk => ended_early(sink, Ending::Unopened),
-        LoadFault::NotABoard { area } => ended_early(sink, Ending::NotABoard { area }),
-        LoadFault::Damaged { area, at } => ended_at_defect(alloc, sink, area, at),
-        LoadFault::OutOfMemory => ended_early(sink, Ending::OutOfMemory),
+        LoadFault::Disk => Ending::Unopened,
+        LoadFault::NotABoard { area } => Ending::NotABoard { area },
+        LoadFault::Damaged { area, at } => Ending::Damaged { area, at },
+        LoadFault::OutOfMemory => Ending::OutOfMemory,
     }
 }
 
@@ -61,6 +42,6 @@ pub fn open<K: Sink, D: Disk>(alloc: Global, sink: &mut K, disk: D) -> Result<Bo
 {
     match load(alloc, disk) {
         Ok(board) => Ok(board),
-        Err((disk, fault)) => Err((refused(alloc, sink, fault), disk)),
+        Err((disk, fault)) => Err((ended_before(alloc, sink, ending_for(fault)), disk)),
     }
 }

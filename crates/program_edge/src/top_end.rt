@@ -1,4 +1,5 @@
 use bbs_model::Item;
+use convergence::Report;
 use scenario_lines::Answered;
 
 /// How the program ended: its status, what it was given, and what its run did.
@@ -13,4 +14,6 @@ pub struct TopEnd<S, K, D> {
     pub marks: Vec<u64>,
     /// The calls of the phases that ran, and how each ended.
     pub answers: Vec<Answered>,
+    /// The reports of their rounds, in the order of the phases.
+    pub reports: Vec<Report>,
 }

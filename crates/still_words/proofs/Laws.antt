@@ -26,21 +26,21 @@ module _ (v w : Ports) where
 
   prepare_opens : (how : Ending) → is_before_board (status_of how) ≡ true → PrepareEnds how v w → ⊥
   prepare_opens ending.Usage n h = absurd h
-  prepare_opens ending.Script n h = absurd h
+  prepare_opens (ending.Script why) n h = absurd h
   prepare_opens ending.Read n h = absurd h
   prepare_opens ending.TooLong n h = absurd h
   prepare_opens how n h = cc
 
   records_open : (how : Ending) → is_before_board (status_of how) ≡ true → RecordsEnds how v w → ⊥
   records_open ending.Usage n h = absurd h
-  records_open ending.Script n h = absurd h
+  records_open (ending.Script why) n h = absurd h
   records_open ending.Read n h = absurd h
   records_open ending.TooLong n h = absurd h
   records_open how n h = cc
 
   check_opens : (how : Ending) → is_before_board (status_of how) ≡ true → CheckEnds how v w → ⊥
   check_opens ending.Usage n h = absurd h
-  check_opens ending.Script n h = absurd h
+  check_opens (ending.Script why) n h = absurd h
   check_opens ending.Read n h = absurd h
   check_opens ending.TooLong n h = absurd h
   check_opens how n h = cc
@@ -210,6 +210,6 @@ module _ (v w : Ports) where
   complete_from (ending.Damaged area at) what h m told sink disk = absurd (refusal_met (ending.Damaged area at) what refl h m told)
   complete_from ending.Exists what h m told sink disk = absurd (bytes_met what h m told)
   complete_from ending.Usage what h m told sink disk = absurd (grammar_met ending.Usage what refl h m)
-  complete_from ending.Script what h m told sink disk = absurd (grammar_met ending.Script what refl h m)
+  complete_from (ending.Script why) what h m told sink disk = absurd (grammar_met (ending.Script why) what refl h m)
   complete_from ending.Read what h m told sink disk = absurd (grammar_met ending.Read what refl h m)
   complete_from ending.TooLong what h m told sink disk = absurd (grammar_met ending.TooLong what refl h m)

@@ -61,7 +61,7 @@ pub fn still_top<S: Source, K: Sink, D: Disk>(
     requires { asked_of (map (λ w. string_bytes w) words.now) ≢ Some wanted.Run }
     ensures source { result.source ≡ source }
     ensures lists { (result.log.items ≡ []) × (result.marks.items ≡ [])
-        × (result.answers.items ≡ []) }
+        × (result.answers.items ≡ []) × (result.reports.items ≡ []) }
     ensures unopened { is_before_board result.status ≡ true → result.disk ≡ disk }
 
     ensures ends { (how : AnEnding) × (result.status ≡ status_of how)
@@ -95,5 +95,6 @@ pub fn still_top<S: Source, K: Sink, D: Disk>(
         log: Vec::new(alloc),
         marks: Vec::new(alloc),
         answers: Vec::new(alloc),
+        reports: Vec::new(alloc),
     }
 }

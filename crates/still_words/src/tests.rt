@@ -64,10 +64,12 @@ fn ended<K: Sink + Drop>(
         log,
         marks,
         answers,
+        reports,
     } = end;
     assert!(rt; log.is_empty());
     assert!(rt; marks.is_empty());
     assert!(rt; answers.is_empty());
+    assert!(rt; reports.is_empty());
     Ok((status, sink, disk))
 }
 

@@ -14,5 +14,5 @@ returns-in-Ok-clause-opens g c = record {
 
 pub returns-in-Err-clause-ends : goal.returns-in-Err-clause-ends
 returns-in-Err-clause-ends g c =
-    let prints = c.refused.ensures.prints in
-    unopened _ _ c.in-Err.ensures.err prints.0 c.in-Err.fault c.refused.result c.refused.ensures.ending prints.1 c.in-Err.ensures.cause c.in-Err.ensures.refused
+    let prints = c.ended_before.ensures.prints in
+    unopened _ _ c.in-Err.ensures.err prints.0 c.in-Err.fault c.ended_before.result c.ended_before.ensures.ending prints.1 c.in-Err.ensures.cause c.in-Err.ensures.refused

@@ -1,0 +1,50 @@
+-- What a run reads: the whole of its source, which is a scenario or has a first fault.
+use Rattle.std.specs.Prelude.{◌≡◌, ℕ, ◌+◌, ◌≤◌, Bool, true, false, List, length, Option, Result, Ok, Err}
+use Rattle.std.specs.Io.KnownBytes.{Consumes, IsAtEnd}
+use Rattle.byte_ports.specs.Content.{Lost, LostAtMost}
+use Rattle.program_edge.specs.declared.ending.Ending.{Ending}
+use Rattle.program_edge.specs.declared.ending.Ending.TheVariants as ending
+use Rattle.scenario_lines.specs.declared.script.Script.{Script}
+use Rattle.scenario_reader.specs.Accepted.{script_of}
+use Rattle.scenario_reader.specs.declared.fault.ScriptFault.{ScriptFault}
+use Rattle.scenario_reader.specs.declared.fault.ScriptFault.TheVariants.{BadJson, BadShape, BadName, BadOrder, TooMuch, OutOfMemory}
+
+-- the most bytes that a scenario may have
+abbrev pub limit : ℕ
+limit = 16777216
+
+-- the source was read whole, and the scenario that its bytes are, or their first fault, is this
+pub record ReadsAs (said : Result Script ScriptFault) (left left' : Option (List ℕ)) : Type 0 where
+  pub bytes : List ℕ
+  pub consumes : Consumes left left' bytes
+  pub end : IsAtEnd left'
+  pub few : length bytes ≤ limit
+  pub says : script_of bytes ≡ said
+
+-- how a run ends whose bytes have this fault: want of memory is none of theirs
+abbrev pub ending_for : ScriptFault → Ending
+ending_for (BadJson line) = ending.Script (BadJson line)
+ending_for (BadShape line) = ending.Script (BadShape line)
+ending_for (BadName line) = ending.Script (BadName line)
+ending_for (BadOrder line) = ending.Script (BadOrder line)
+ending_for (TooMuch line) = ending.Script (TooMuch line)
+ending_for OutOfMemory = ending.OutOfMemory
+
+-- what was read of a source, by the answer
+abbrev pub ReadsScript : Result Script Ending → Option (List ℕ) → Option (List ℕ) → Type 0
+ReadsScript (Ok script) left left' = ReadsAs (Ok script) left left'
+ReadsScript (Err (ending.Script fault)) left left' = ReadsAs (Err fault) left left'
+ReadsScript (Err ending.Read) left left' = LostAtMost left left' limit
+ReadsScript (Err ending.OutOfMemory) left left' = LostAtMost left left' limit
+ReadsScript (Err ending.TooLong) left left' = Lost left left' (limit + 1)
+ReadsScript (Err other) left left' = ⊥
+
+-- the source failed
+abbrev pub is_read : Ending → Bool
+is_read ending.Read = true
+is_read other = false
+
+-- the same, of what was read
+abbrev pub is_unread : Result Script Ending → Bool
+is_unread (Ok script) = false
+is_unread (Err how) = is_read how
