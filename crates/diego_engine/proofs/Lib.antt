@@ -1,9 +1,4 @@
-pub mod Among
-pub mod Called
-pub mod Cutting
 pub mod Headlines
-pub mod JsonText
-pub mod Loading
 pub mod SinceEntry
 pub mod Spoken
 pub mod TopLaws

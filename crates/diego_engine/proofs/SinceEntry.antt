@@ -1,21 +1,17 @@
 -- What is kept since the entry, by runs that only look, and by runs that load a board and then call it.
-use Rattle.std.proofs.Common.{◌≡◌, ℕ, ◌≤◌, Bool, List, [], ◌∷◌, Option, Some, refl, sym, subst, arith, inl, inr}
+use Rattle.std.proofs.Common.{◌≡◌, ℕ, ◌≤◌, List, [], ◌∷◌, Option, Some, refl, sym, subst, arith, inl, inr}
 use Rattle.std.proofs.lemmas.Bool.Decides.{leb_tells}
 use Rattle.std.specs.Option.{ForSome}
 use Rattle.disk_trait.specs.Held.{Held, Leaves}
 use Rattle.disk_trait.specs.Past.{Past, Image, now, content}
 use Rattle.disk_trait.specs.Runs.{Extends}
 use Rattle.disk_trait.specs.Steps.{Goes}
-use Rattle.disk_trait.proofs.Public.{was_held, extends_same, goes_back}
+use Rattle.disk_trait.proofs.Public.{was_held, goes_back}
 use Rattle.disk_trait.specs.declared.area.Area.{Area}
 use Rattle.disk_trait.specs.Shows.{Shows, KeepsContent, Secures}
 use Rattle.bbs_model.specs.Replay.{IsReached, IsLawful}
-use Rattle.bbs_model.specs.declared.command.Command.{Command}
 use Rattle.bbs_model.specs.declared.item.Item.{Item}
 use Rattle.bbs_model.specs.declared.rows.Rows.{Rows}
-use Rattle.bbs_model.specs.declared.verdict.Verdict.{Verdict}
-use Rattle.bbs_model.specs.declared.verdict.Verdict.TheVariants as verdict
-use Rattle.bbs_board.specs.Calls.{StoresBy}
 use Rattle.bbs_board.specs.Doubts.{doubts_in, RoseForEach}
 use Rattle.bbs_board.specs.Kept.{IsFound, RiseBetween, Kept}
 use Rattle.bbs_board.specs.Opening.{IsBoard}
@@ -32,12 +28,6 @@ rising_from less low high (mark ∷ marks) le rising = (omega (arith, le, rising
 reached_first : (rows : Rows) (log : List Item) → IsReached rows log 0 rows
 reached_first rows [] = inl (record { place = 0; low = omega arith; high = omega arith; rows_are = refl })
 reached_first rows (item ∷ log) = inl (record { place = 0; low = omega arith; high = omega arith; rows_are = refl })
-
--- a call that stores a command, or leaves all as it was, forgets nothing
-pub stores_extend : (v : Verdict) (stored : Bool) (rows : Rows) (command : Command) (p q : Past) → StoresBy v stored rows command p q → Extends p q
-stores_extend verdict.Ok stored rows command p q stores = stores.extends
-stores_extend verdict.Same stored rows command p q stores = subst (Extends p) (sym stores) (extends_same p)
-stores_extend (verdict.Refused why) stored rows command p q stores = subst (Extends p) (sym stores) (extends_same p)
 
 module _ (rows : Rows) (p : Past) (holds : HoldsOnly rows p) where
   -- what a stop may leave at entry is the board

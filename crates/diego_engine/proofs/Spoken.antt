@@ -1,51 +1,59 @@
 -- Over a disk that tells its past at the end, the ways in which the program ends ask nothing of the end.
-use Rattle.std.proofs.Common.{ℕ, Bool, true, false, List, Option, Some, None}
-use Rattle.diego_engine.specs.InMemory.{EndsLateInMemory as SpokenLate, EndsInMemory as SpokenEnds, RunEndsInMemory as SpokenRun, RunsWholeInMemory as SpokenWhole}
+use Rattle.std.proofs.Common.{ℕ, List, Option, Some, None, inl, inr}
+use Rattle.disk_trait.specs.Memory.{calls_of, faults_of}
 use Rattle.program_edge.specs.Ports.{Ports, IsTold}
-use Rattle.diego_engine.specs.Running.{EndsLate}
-use Rattle.diego_engine.specs.Top.{ProgramEnds, RunEnds, RunsWhole}
 use Rattle.program_edge.specs.declared.ending.Ending.{Ending}
 use Rattle.program_edge.specs.declared.ending.Ending.TheVariants as ending
-use Rattle.diego_engine.specs.declared.running.Ended.{Ended}
-use Rattle.diego_engine.specs.declared.script.Script.{Script}
+use Rattle.program_run.specs.Runs.{EndsLate, RunEnds, RunsScript, ScriptEnds}
+use Rattle.program_run.specs.declared.ended.Ended.{Ended}
+use Rattle.scenario_lines.specs.declared.script.Script.{Script}
 use Rattle.still_words.specs.declared.words.Asked.{Asked}
 use Rattle.still_words.specs.declared.words.Asked.TheVariants as asked
+use Rattle.diego_engine.specs.InMemory.{EndsLateInMemory as SpokenLate, ScriptEndsInMemory as SpokenScript, RunsScriptInMemory as SpokenRun}
+use Rattle.diego_engine.specs.InMemory.{EndsInMemory as SpokenEnds, RunEndsInMemory as SpokenEnd, RunsWholeInMemory as SpokenWhole, memory_told}
+use Rattle.diego_engine.specs.Top.{ProgramEnds, RunsWhole}
+use Rattle.diego_engine.proofs.Headlines.{opened}
 
 module _ (e : Ended) (v w : Ports) (told : IsTold w.told) where
-  late : (script : Script) (whole failed : Bool) → EndsLate script whole failed e v w → SpokenLate script whole failed e v w
-  late script whole failed ends = record {
+  late : (script : Script) (how : Ending) → EndsLate memory_told faults_of calls_of script how e v w → SpokenLate script how e v w
+  late script how ends = record {
     rows = ends.rows;
     between = ends.between;
-    opens = λ image shows. ends.opens image shows told;
-    secures = ends.secures;
-    same_sink = ends.same_sink;
-    no_fault = ends.no_fault;
-    call = ends.call;
+    found = λ image shows. opened memory_told faults_of calls_of e v w script how ends image shows told;
+    opens = ends.opens;
+    plays = ends.plays;
   }
 
+  script_ends : (script : Script) (how : Ending) → ScriptEnds memory_told faults_of calls_of script how e v w → SpokenScript script how e v w
+  script_ends script ending.Done ends = late script ending.Done ends
+  script_ends script ending.Doubt ends = late script ending.Doubt ends
+  script_ends script ending.Unwritten ends = late script ending.Unwritten ends
+  script_ends script ending.OutOfMemory (inl ends) = inl (late script ending.OutOfMemory ends)
+  script_ends script ending.OutOfMemory (inr ends) = inr ends
+  script_ends script (ending.NotABoard area) (empty, ends) =
+      record { empty = empty; early = ends.early; refused = λ image shows. ends.refused image shows told }
+  script_ends script (ending.Damaged area at) (empty, ends) =
+      record { empty = empty; early = ends.early; refused = λ image shows. ends.refused image shows told }
+  script_ends script how ends = ends
+
   module _ (left left' : Option (List ℕ)) where
-    run : (how : Ending) → RunEnds how e left left' v w → SpokenRun how e left left' v w
-    run ending.Done (script, reads, ends) = (script, reads, late script true false ends)
-    run ending.Doubt (script, reads, ends) = (script, reads, late script true true ends)
-    run ending.Unwritten (script, reads, (failed, ends)) = (script, reads, (failed, late script false failed ends))
-    run ending.Unopened ends = ends
-    run (ending.NotABoard area) (script, reads, (empty, ends)) =
-        (script, reads, record { empty = empty; early = ends.early; refused = λ image shows. ends.refused image shows told })
-    run (ending.Damaged area at) (script, reads, (empty, ends)) =
-        (script, reads, record { empty = empty; early = ends.early; refused = λ image shows. ends.refused image shows told })
-    run ending.OutOfMemory ends = ends
-    run ending.Script ends = ends
+    runs : (how : Ending) → RunsScript memory_told faults_of calls_of how e left left' v w → SpokenRun how e left left' v w
+    runs how r = record { script = r.script; reads = r.reads; sound = r.sound; ends = script_ends r.script how r.ends }
+
+    run : (how : Ending) → RunEnds memory_told faults_of calls_of how e left left' v w → SpokenEnd how e left left' v w
+    run (ending.Script why) ends = ends
     run ending.Read ends = ends
     run ending.TooLong ends = ends
-    run ending.Usage never = absurd never
-    run ending.Exists never = absurd never
+    run ending.OutOfMemory (inl r) = inl (runs ending.OutOfMemory r)
+    run ending.OutOfMemory (inr ends) = inr ends
+    run how r = runs how r
 
-    pub spoken : (how : Ending) (what : Option Asked) → ProgramEnds how what e left left' v w → SpokenEnds how what e left left' v w
+    pub spoken : (how : Ending) (what : Option Asked) → ProgramEnds memory_told faults_of calls_of how what e left left' v w → SpokenEnds how what e left left' v w
     spoken how None ends = ends
     spoken how (Some asked.Prepare) ends = ends
     spoken how (Some asked.Records) ends = ends
     spoken how (Some asked.Check) ends = ends
     spoken how (Some asked.Run) ends = run how ends
 
-    pub spoken_whole : RunsWhole e left left' v w → SpokenWhole e left left' v w
-    spoken_whole (script, reads, ends) = (script, reads, late script true false ends)
+    pub spoken_whole : RunsWhole memory_told faults_of calls_of e left left' v w → SpokenWhole e left left' v w
+    spoken_whole r = runs ending.Done r

@@ -1,9 +1,3 @@
 pub mod Headline
 pub mod InMemory
-pub mod LineKinds
-pub mod Lines
-pub mod Member
-pub mod Phase
-pub mod Running
-pub mod Script
 pub mod Top

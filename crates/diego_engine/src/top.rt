@@ -1,5 +1,5 @@
 //! The whole of what the program does.
-ghost use Rattle.std.specs.Prelude.{◌≡◌, ◌≢◌, ◌⊎◌, ◌+◌, ◌==◌, ◌↔◌, true, None, Some, IsTrue, List, ℕ, map, string_bytes};
+ghost use Rattle.std.specs.Prelude.{◌≡◌, ◌≢◌, ◌⊎◌, ◌+◌, ◌==◌, ◌↔◌, true, None, Some, Err, Bool, IsTrue, List, ℕ, map, string_bytes};
 ghost use Rattle.byte_ports.specs.Cause.{HasCause, Rose};
 ghost use Rattle.byte_ports.specs.Content.{Lost};
 ghost use Rattle.disk_trait.specs.Past.{Image};
@@ -9,14 +9,16 @@ ghost use Rattle.bbs_board.specs.Opening.{IsRefused};
 ghost use Rattle.disk_trait.specs.Shows.{Shows};
 ghost use Rattle.bbs_journal.specs.Preparing.{FindsBytes};
 ghost use Rattle.bbs_journal.specs.declared.load_fault.LoadFault.{LoadFault as Why};
-ghost use Rattle.program_edge.specs.Ending.{status_of};
+ghost use Rattle.program_edge.specs.Ending.{script_line, status_of};
 ghost use Rattle.program_edge.specs.Opening.{is_before_board};
-ghost use Rattle.program_edge.specs.Ports.{IsTold, ports_of};
+ghost use Rattle.program_edge.specs.Ports.{IsTold, PrintsTo, ports_of};
 ghost use Rattle.program_edge.specs.declared.ending.Ending.{Ending as AnEnding};
 ghost use Rattle.still_words.specs.Words.{asked_of};
 ghost use Rattle.still_words.specs.declared.words.Asked.TheVariants as wanted;
 ghost use Rattle.diego_engine.specs.Headline.{Headline};
-ghost use Rattle.diego_engine.specs.Top.{ReadsWhole, ProgramEnds, Meets, RunsWhole, limit};
+ghost use Rattle.diego_engine.specs.Top.{ProgramEnds, Meets, RunsWhole};
+ghost use Rattle.program_run.specs.Reading.{ReadsAs, TellsAs, limit};
+ghost use Rattle.scenario_reader.specs.declared.fault.ScriptFault.{ScriptFault as AFault};
 
 use byte_ports::{Gate, Sink, Source};
 use disk_trait::Disk;
@@ -65,8 +67,10 @@ fn whole_top<S: Source, K: Sink, D: Disk, G: Gate>(
     gate: &G,
 ) -> TopEnd<S, K, D>
     ensures ends { (how : AnEnding) × (result.status ≡ status_of how)
-        × ProgramEnds how (asked_of (map (λ w. string_bytes w) words.now))
-        (record { ending = how; log = result.log; marks = result.marks; answers = result.answers })
+        × ProgramEnds D.told D.fault_count D.moment how
+        (asked_of (map (λ w. string_bytes w) words.now))
+        (record { ending = how; log = result.log; marks = result.marks;
+        answers = result.answers; reports = result.reports })
         (S.left source) (S.left result.source)
         (ports_of (K.held sink) (K.faults sink) (D.told disk) (D.fault_count disk) (D.moment disk))
         (ports_of (K.held result.sink) (K.faults result.sink)
@@ -104,8 +108,10 @@ pub fn diego_top<S: Source, K: Sink, D: Disk, G: Gate>(
         (D.fault_count disk) (D.fault_count result.disk) }
 
     ensures ends { (how : AnEnding) × (result.status ≡ status_of how)
-        × ProgramEnds how (asked_of (map (λ w. string_bytes w) words.now))
-        (record { ending = how; log = result.log; marks = result.marks; answers = result.answers })
+        × ProgramEnds D.told D.fault_count D.moment how
+        (asked_of (map (λ w. string_bytes w) words.now))
+        (record { ending = how; log = result.log; marks = result.marks;
+        answers = result.answers; reports = result.reports })
         (S.left source) (S.left result.source)
         (ports_of (K.held sink) (K.faults sink) (D.told disk) (D.fault_count disk) (D.moment disk))
         (ports_of (K.held result.sink) (K.faults result.sink)
@@ -113,8 +119,14 @@ pub fn diego_top<S: Source, K: Sink, D: Disk, G: Gate>(
 
     // Each status exactly where, or only where, this holds.
     ensures usage { (result.status ≡ 1) ↔ (asked_of (map (λ w. string_bytes w) words.now) ≡ None) }
-    ensures script { result.status ≡ 2
-        → ReadsWhole (S.left source) (S.left result.source) (λ bytes. script_of bytes ≡ None) }
+    ensures script { result.status ≡ 2 → (fault : AFault)
+        × ReadsAs (Err fault) (S.left source) (S.left result.source)
+        × (whole : Bool) × PrintsTo whole (script_line fault)
+        (K.held sink) (K.held result.sink) (K.faults sink) (K.faults result.sink) }
+    ensures no_script { (fault : AFault) → asked_of (map (λ w. string_bytes w) words.now) ≡ Some wanted.Run
+        → TellsAs (Err fault) (S.left source)
+        → (Rose (S.faults source) (S.faults result.source) → ⊥)
+        → (result.status ≡ 2) ⊎ (result.status ≡ 7) }
     ensures read { HasCause (result.status == 3) (S.faults source) (S.faults result.source) }
     ensures unwritten { result.status ≡ 4 → Rose (K.faults sink) (K.faults result.sink) }
     ensures unstored { result.status ≡ 5 → Rose (D.fault_count disk) (D.fault_count result.disk) }
@@ -132,18 +144,19 @@ pub fn diego_top<S: Source, K: Sink, D: Disk, G: Gate>(
         → result.source ≡ source }
     ensures unopened { is_before_board result.status ≡ true → result.disk ≡ disk }
 
-    // A run that ends with 0 read a script, opened a board, and made the call: its answer is the step's
-    // verdict at that board, and the log, the disk and the text say the same.
+    // A run that ends with 0 read a scenario, opened a board, and ran every phase on it: the answers, the
+    // reports, the log and the disk are those of these phases, and the whole text of them was written.
     ensures done { result.status ≡ 0
         → asked_of (map (λ w. string_bytes w) words.now) ≡ Some wanted.Run
-        → (how : AnEnding) × RunsWhole
-        (record { ending = how; log = result.log; marks = result.marks; answers = result.answers })
+        → (how : AnEnding) × RunsWhole D.told D.fault_count D.moment
+        (record { ending = how; log = result.log; marks = result.marks;
+        answers = result.answers; reports = result.reports })
         (S.left source) (S.left result.source)
         (ports_of (K.held sink) (K.faults sink) (D.told disk) (D.fault_count disk) (D.moment disk))
         (ports_of (K.held result.sink) (K.faults result.sink)
         (D.told result.disk) (D.fault_count result.disk) (D.moment result.disk)) }
 
-    // With a script and a board, and without a fault, all is done unless memory runs out.
+    // With a scenario and a board, and without a fault, all is done unless memory runs out.
     ensures complete { asked_of (map (λ w. string_bytes w) words.now) ≡ Some wanted.Run
         → Meets (S.left source) (D.told disk)
         → IsTold (D.told result.disk)

@@ -1,1 +1,3 @@
-
+mod Goings
+mod Playing
+mod Endings

@@ -1,5 +1,5 @@
 -- What a run reads: the whole of its source, which is a scenario or has a first fault.
-use Rattle.std.specs.Prelude.{◌≡◌, ℕ, ◌+◌, ◌≤◌, Bool, true, false, List, length, Option, Result, Ok, Err}
+use Rattle.std.specs.Prelude.{◌≡◌, ℕ, ◌+◌, ◌≤◌, Bool, true, false, List, length, Option, Some, Result, Ok, Err}
 use Rattle.std.specs.Io.KnownBytes.{Consumes, IsAtEnd}
 use Rattle.byte_ports.specs.Content.{Lost, LostAtMost}
 use Rattle.program_edge.specs.declared.ending.Ending.{Ending}
@@ -18,6 +18,13 @@ pub record ReadsAs (said : Result Script ScriptFault) (left left' : Option (List
   pub bytes : List ℕ
   pub consumes : Consumes left left' bytes
   pub end : IsAtEnd left'
+  pub few : length bytes ≤ limit
+  pub says : script_of bytes ≡ said
+
+-- the source tells bytes that aren't too many, and the scenario that they are, or their first fault, is this
+pub record TellsAs (said : Result Script ScriptFault) (left : Option (List ℕ)) : Type 0 where
+  pub bytes : List ℕ
+  pub left_is : left ≡ Some bytes
   pub few : length bytes ≤ limit
   pub says : script_of bytes ≡ said
 

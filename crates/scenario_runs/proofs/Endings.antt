@@ -135,7 +135,7 @@ module _ {D : Type 0} (told : D → Option Past) (script : Script) (v w : View D
     plays ending.Unwritten ends last = part_plays ends last
     plays ending.OutOfMemory ends last = cut_plays ends last
     plays ending.Usage ends last = absurd ends.stops
-    plays ending.Script ends last = absurd ends.stops
+    plays (ending.Script why) ends last = absurd ends.stops
     plays ending.Read ends last = absurd ends.stops
     plays ending.Unopened ends last = absurd ends.stops
     plays (ending.NotABoard area) ends last = absurd ends.stops

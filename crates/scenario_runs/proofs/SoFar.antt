@@ -157,7 +157,7 @@ module _ {D : Type 0} (told : D → Option Past) (script : Script) (v : View D) 
     phases_end ending.Unwritten other ends = part_ends ends
     phases_end ending.OutOfMemory other ends = untold_ends ends
     phases_end ending.Usage other ends = absurd ends
-    phases_end ending.Script other ends = absurd ends
+    phases_end (ending.Script why) other ends = absurd ends
     phases_end ending.Read other ends = absurd ends
     phases_end ending.Unopened other ends = absurd ends
     phases_end (ending.NotABoard area) other ends = absurd ends

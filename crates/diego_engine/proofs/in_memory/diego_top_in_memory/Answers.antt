@@ -12,3 +12,6 @@ returns-clause-complete g c is meets source sink disk = c.diego_top.ensures.comp
 
 pub returns-clause-refused : goal.returns-clause-refused
 returns-clause-refused g c n = let (why, refused) = c.diego_top.ensures.refused n in (why, λ image shows. refused image shows tt)
+
+pub returns-clause-no_script : goal.returns-clause-no_script
+returns-clause-no_script g c fault is tells source = c.diego_top.ensures.no_script fault is tells source

@@ -2,50 +2,59 @@ use Rattle.std.proofs.Common.{sym, ◌∙◌, ap, ℕ, inl, inr}
 use Rattle.std.specs.Prelude.{◌==◌}
 use Rattle.program_edge.specs.Opening.{is_before_board}
 use Rattle.diego_engine.proofs.Headlines.{headline_from, doubts_from}
-use Rattle.diego_engine.proofs.TopLaws.{usage_from, usage_to, script_from, unwritten_from, unstored_from, refused_from, too_long_from, exists_from, untouched_from, done_from, complete_from}
+use Rattle.diego_engine.proofs.TopLaws.{usage_from, usage_to, script_from, unwritten_from, unstored_from, refused_from, too_long_from, exists_from, untouched_from, done_from, complete_from, no_script_from}
 use Rattle.diego_engine.proofs.top.diego_top.Goals as goal
 
 pub returns-clause-headline : goal.returns-clause-headline
-returns-clause-headline g c is = let (how, status, ends) = c.whole_top.ensures.ends in headline_from _ _ _ _ _ how _ is ends
+returns-clause-headline g c is = let (how, status, ends) = c.whole_top.ensures.ends in headline_from g.D.Disk.told g.D.Disk.fault_count g.D.Disk.moment _ _ _ _ _ how _ is ends
 
 pub returns-clause-doubts : goal.returns-clause-doubts
-returns-clause-doubts g c = let (how, status, ends) = c.whole_top.ensures.ends in doubts_from _ _ _ _ _ how _ ends
+returns-clause-doubts g c = let (how, status, ends) = c.whole_top.ensures.ends in doubts_from g.D.Disk.told g.D.Disk.fault_count g.D.Disk.moment _ _ _ _ _ how _ ends
 
 pub returns-clause-usage : goal.returns-clause-usage
 returns-clause-usage g c =
     let (how, status, ends) = c.whole_top.ensures.ends in
-    (λ n. usage_from _ _ _ _ _ how _ (sym status ∙ n) ends, λ is. status ∙ usage_to _ _ _ _ _ how _ is ends)
+    (λ n. usage_from g.D.Disk.told g.D.Disk.fault_count g.D.Disk.moment _ _ _ _ _ how _ (sym status ∙ n) ends, λ is. status ∙ usage_to g.D.Disk.told g.D.Disk.fault_count g.D.Disk.moment _ _ _ _ _ how _ is ends)
 
 pub returns-clause-script : goal.returns-clause-script
-returns-clause-script g c n = let (how, status, ends) = c.whole_top.ensures.ends in script_from _ _ _ _ _ how _ (sym status ∙ n) ends
+returns-clause-script g c n = let (how, status, ends) = c.whole_top.ensures.ends in script_from g.D.Disk.told g.D.Disk.fault_count g.D.Disk.moment _ _ _ _ _ how _ (sym status ∙ n) ends
 
 pub returns-clause-unwritten : goal.returns-clause-unwritten
-returns-clause-unwritten g c n = let (how, status, ends) = c.whole_top.ensures.ends in unwritten_from _ _ _ _ _ how _ (sym status ∙ n) ends
+returns-clause-unwritten g c n = let (how, status, ends) = c.whole_top.ensures.ends in unwritten_from g.D.Disk.told g.D.Disk.fault_count g.D.Disk.moment _ _ _ _ _ how _ (sym status ∙ n) ends
 
 pub returns-clause-unstored : goal.returns-clause-unstored
-returns-clause-unstored g c n = let (how, status, ends) = c.whole_top.ensures.ends in unstored_from _ _ _ _ _ how _ (sym status ∙ n) ends
+returns-clause-unstored g c n = let (how, status, ends) = c.whole_top.ensures.ends in unstored_from g.D.Disk.told g.D.Disk.fault_count g.D.Disk.moment _ _ _ _ _ how _ (sym status ∙ n) ends
 
 pub returns-clause-refused : goal.returns-clause-refused
-returns-clause-refused g c n = let (how, status, ends) = c.whole_top.ensures.ends in refused_from _ _ _ _ _ how _ (sym status ∙ n) ends
+returns-clause-refused g c n = let (how, status, ends) = c.whole_top.ensures.ends in refused_from g.D.Disk.told g.D.Disk.fault_count g.D.Disk.moment _ _ _ _ _ how _ (sym status ∙ n) ends
 
 pub returns-clause-too_long : goal.returns-clause-too_long
-returns-clause-too_long g c n = let (how, status, ends) = c.whole_top.ensures.ends in too_long_from _ _ _ _ _ how _ (sym status ∙ n) ends
+returns-clause-too_long g c n = let (how, status, ends) = c.whole_top.ensures.ends in too_long_from g.D.Disk.told g.D.Disk.fault_count g.D.Disk.moment _ _ _ _ _ how _ (sym status ∙ n) ends
 
 pub returns-clause-exists : goal.returns-clause-exists
-returns-clause-exists g c n = let (how, status, ends) = c.whole_top.ensures.ends in exists_from _ _ _ _ _ how _ (sym status ∙ n) ends
+returns-clause-exists g c n = let (how, status, ends) = c.whole_top.ensures.ends in exists_from g.D.Disk.told g.D.Disk.fault_count g.D.Disk.moment _ _ _ _ _ how _ (sym status ∙ n) ends
 
 pub returns-clause-untouched : goal.returns-clause-untouched
 returns-clause-untouched g c n =
     let (how, status, ends) = c.whole_top.ensures.ends in
-    untouched_from _ _ _ _ _ how _ (ap is_before_board (sym status) ∙ n) ends
+    untouched_from g.D.Disk.told g.D.Disk.fault_count g.D.Disk.moment _ _ _ _ _ how _ (ap is_before_board (sym status) ∙ n) ends
 
 pub returns-clause-complete : goal.returns-clause-complete
 returns-clause-complete g c is meets told source sink disk =
     let (how, status, ends) = c.whole_top.ensures.ends in
-    elim (complete_from _ _ _ _ _ how _ is ends meets told (λ n. source (c.whole_top.ensures.read.rose (ap (λ (m : ℕ). m == 3) (status ∙ n)))) sink disk) [
+    elim (complete_from g.D.Disk.told g.D.Disk.fault_count g.D.Disk.moment _ _ _ _ _ how _ is ends meets told (λ n. source (c.whole_top.ensures.read.rose (ap (λ (m : ℕ). m == 3) (status ∙ n)))) sink disk) [
       | inl n ↦ inl (status ∙ n)
       | inr n ↦ inr (status ∙ n)
     ]
 
 pub returns-clause-done : goal.returns-clause-done
-returns-clause-done g c n is = let (how, status, ends) = c.whole_top.ensures.ends in (how, done_from _ _ _ _ _ how _ (sym status ∙ n) is ends)
+returns-clause-done g c n is = let (how, status, ends) = c.whole_top.ensures.ends in (how, done_from g.D.Disk.told g.D.Disk.fault_count g.D.Disk.moment _ _ _ _ _ how _ (sym status ∙ n) is ends)
+
+pub returns-clause-no_script : goal.returns-clause-no_script
+returns-clause-no_script g c fault is tells source =
+    let (how, status, ends) = c.whole_top.ensures.ends in
+    elim (no_script_from g.D.Disk.told g.D.Disk.fault_count g.D.Disk.moment _ _ _ _ _ how _ fault is ends tells
+    (λ n. source (c.whole_top.ensures.read.rose (ap (λ (m : ℕ). m == 3) (status ∙ n))))) [
+      | inl n ↦ inl (status ∙ n)
+      | inr n ↦ inr (status ∙ n)
+    ]

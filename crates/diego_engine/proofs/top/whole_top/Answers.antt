@@ -8,5 +8,5 @@ returns-clause-ends g c =
     let is_run : asked_of (map (λ w. string_bytes w) c.args.words.now) ≡ Some Run = search rules in (
       c.run-ended.result.0.ending,
       c.top_end.ensures.status,
-      rw (is_run, c.top_end.ensures.lists.0, c.top_end.ensures.lists.1, c.top_end.ensures.lists.2, c.top_end.ensures.ports.0, c.top_end.ensures.ports.1, c.top_end.ensures.ports.2) c.run-ended.ensures.ends,
+      rw (is_run, c.top_end.ensures.lists.0, c.top_end.ensures.lists.1, c.top_end.ensures.lists.2, c.top_end.ensures.lists.3, c.top_end.ensures.ports.0, c.top_end.ensures.ports.1, c.top_end.ensures.ports.2) c.run-ended.ensures.ends,
     )
