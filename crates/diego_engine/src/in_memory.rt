@@ -37,8 +37,13 @@ pub fn diego_top_in_memory<S: Source, K: Sink, G: Gate>(
 ) -> TopEnd<S, K, MemoryDisk>
     ensures ends { (how : AnEnding) × (result.status ≡ status_of how)
         × EndsInMemory how (asked_of (map (λ w. string_bytes w) words.now))
-        (record { ending = how; log = result.log; marks = result.marks;
-        answers = result.answers; reports = result.reports })
+        (record {
+          ending = how;
+          log = result.log;
+          marks = result.marks;
+          answers = result.answers;
+          reports = result.reports;
+        })
         (S.left source) (S.left result.source)
         (ports_of (K.held sink) (K.faults sink)
         (Some (memory_past disk)) (faults_of disk) (calls_of disk))
@@ -73,8 +78,13 @@ pub fn diego_top_in_memory<S: Source, K: Sink, G: Gate>(
     ensures done { result.status ≡ 0
         → asked_of (map (λ w. string_bytes w) words.now) ≡ Some wanted.Run
         → (how : AnEnding) × RunsWholeInMemory
-        (record { ending = how; log = result.log; marks = result.marks;
-        answers = result.answers; reports = result.reports })
+        (record {
+          ending = how;
+          log = result.log;
+          marks = result.marks;
+          answers = result.answers;
+          reports = result.reports;
+        })
         (S.left source) (S.left result.source)
         (ports_of (K.held sink) (K.faults sink)
         (Some (memory_past disk)) (faults_of disk) (calls_of disk))

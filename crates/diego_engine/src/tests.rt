@@ -5,12 +5,14 @@ mod devices;
 mod endings;
 mod gates;
 mod limits;
+mod rounds;
 mod runs;
 mod stops;
 
 use crate::{TopEnd, diego_top_in_memory};
 use bbs_model::Item;
 use byte_ports::{Gate, MemorySink, MemorySource, OpenGate};
+use convergence::Report;
 use disk_trait::MemoryDisk;
 use scenario_lines::Answered;
 use std::alloc::Global;
@@ -37,6 +39,7 @@ struct Left {
     log: Vec<Item>,
     marks: Vec<u64>,
     answers: Vec<Answered>,
+    reports: Vec<Report>,
 }
 
 fn words(alloc: Global, texts: &[&str]) -> Result<Vec<String>, Fail> {
@@ -68,6 +71,7 @@ fn left_at<G: Gate>(
         log,
         marks,
         answers,
+        reports,
     } = diego_top_in_memory(alloc, &words, source, sink, disk, gate);
     Ok(Left {
         status,
@@ -76,6 +80,7 @@ fn left_at<G: Gate>(
         log,
         marks,
         answers,
+        reports,
     })
 }
 
@@ -103,4 +108,5 @@ fn tells_nothing(rt: &impl Abort, left: &Left) {
     assert!(rt; left.log.is_empty());
     assert!(rt; left.marks.is_empty());
     assert!(rt; left.answers.is_empty());
+    assert!(rt; left.reports.is_empty());
 }

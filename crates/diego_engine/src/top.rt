@@ -69,8 +69,13 @@ fn whole_top<S: Source, K: Sink, D: Disk, G: Gate>(
     ensures ends { (how : AnEnding) × (result.status ≡ status_of how)
         × ProgramEnds D.told D.fault_count D.moment how
         (asked_of (map (λ w. string_bytes w) words.now))
-        (record { ending = how; log = result.log; marks = result.marks;
-        answers = result.answers; reports = result.reports })
+        (record {
+          ending = how;
+          log = result.log;
+          marks = result.marks;
+          answers = result.answers;
+          reports = result.reports;
+        })
         (S.left source) (S.left result.source)
         (ports_of (K.held sink) (K.faults sink) (D.told disk) (D.fault_count disk) (D.moment disk))
         (ports_of (K.held result.sink) (K.faults result.sink)
@@ -110,8 +115,13 @@ pub fn diego_top<S: Source, K: Sink, D: Disk, G: Gate>(
     ensures ends { (how : AnEnding) × (result.status ≡ status_of how)
         × ProgramEnds D.told D.fault_count D.moment how
         (asked_of (map (λ w. string_bytes w) words.now))
-        (record { ending = how; log = result.log; marks = result.marks;
-        answers = result.answers; reports = result.reports })
+        (record {
+          ending = how;
+          log = result.log;
+          marks = result.marks;
+          answers = result.answers;
+          reports = result.reports;
+        })
         (S.left source) (S.left result.source)
         (ports_of (K.held sink) (K.faults sink) (D.told disk) (D.fault_count disk) (D.moment disk))
         (ports_of (K.held result.sink) (K.faults result.sink)
@@ -149,8 +159,13 @@ pub fn diego_top<S: Source, K: Sink, D: Disk, G: Gate>(
     ensures done { result.status ≡ 0
         → asked_of (map (λ w. string_bytes w) words.now) ≡ Some wanted.Run
         → (how : AnEnding) × RunsWhole D.told D.fault_count D.moment
-        (record { ending = how; log = result.log; marks = result.marks;
-        answers = result.answers; reports = result.reports })
+        (record {
+          ending = how;
+          log = result.log;
+          marks = result.marks;
+          answers = result.answers;
+          reports = result.reports;
+        })
         (S.left source) (S.left result.source)
         (ports_of (K.held sink) (K.faults sink) (D.told disk) (D.fault_count disk) (D.moment disk))
         (ports_of (K.held result.sink) (K.faults result.sink)

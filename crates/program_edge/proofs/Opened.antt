@@ -1,5 +1,5 @@
 -- What a load comes to, in the words of the opening.
-use Rattle.std.proofs.Common.{◌≡◌, ◌∙◌, Bool, true, false, Option, Some, None, List, ℕ, sym, subst, inl, inr}
+use Rattle.std.proofs.Common.{◌∙◌, Bool, true, false, Option, Some, None, List, ℕ, sym, subst, inl, inr}
 use Rattle.byte_ports.specs.Cause.{HasCause}
 use Rattle.disk_trait.specs.Past.{Past, Image}
 use Rattle.disk_trait.specs.Shows.{Shows, KeepsContent, Secures}

@@ -1,5 +1,5 @@
 -- How the opening of the board ends, and what ends before it or without it.
-use Rattle.std.specs.Prelude.{◌≡◌, ◌⊎◌, ℕ, ◌==◌, ◌||◌, Bool, true, false, Some}
+use Rattle.std.specs.Prelude.{◌≡◌, ℕ, ◌==◌, ◌||◌, Bool, true, false, Some}
 use Rattle.byte_ports.specs.Cause.{HasCause}
 use Rattle.disk_trait.specs.Past.{Past, Image}
 use Rattle.disk_trait.specs.Shows.{Shows, KeepsContent, Secures}

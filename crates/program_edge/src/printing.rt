@@ -5,7 +5,7 @@ ghost use Rattle.byte_ports.specs.Cause.{HasCause};
 ghost use Rattle.byte_ports.specs.Content.{HoldsFront};
 ghost use Rattle.program_edge.specs.Ending.{EndsAs, constant_line, line_of};
 ghost use Rattle.program_edge.specs.Ports.{PrintsTo};
-ghost use Rattle.program_edge.specs.declared.ending.Ending.TheVariants as ending;
+ghost use Rattle.program_edge.specs.declared.ending.Ending.TheVariants.{OutOfMemory as NoMemory};
 
 use crate::ending::{Ending, constant_line};
 use crate::place_line::{damaged_line, script_line};
@@ -33,13 +33,9 @@ pub fn ended_early<K: Sink>(sink: &mut K, ending: Ending) -> Ending
 
 /// Prints the line of an ending that tells a place, and ends so. Where there was no memory for it, it
 /// ends for want of that.
-fn ended_at_place<K: Sink>(
-    sink: &mut K,
-    ending: Ending,
-    line: Result<String, AllocError>,
-) -> Ending
+fn ended_at_place<K: Sink>(sink: &mut K, ending: Ending, line: Result<String, AllocError>) -> Ending
     requires { IfOk line (λ s. string_bytes s ≡ line_of ending) }
-    ensures ending { (result ≡ ending) ⊎ (result ≡ ending.OutOfMemory) }
+    ensures ending { (result ≡ ending) ⊎ (result ≡ NoMemory) }
     ensures prints { (whole : Bool) × PrintsTo whole (line_of result)
         (K.held sink.old) (K.held sink.new) (K.faults sink.old) (K.faults sink.new) }
 {

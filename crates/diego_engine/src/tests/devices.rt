@@ -129,6 +129,7 @@ fn a_sink_that_fails_in_mid_text_holds_its_front(rt: HostRuntime) -> Result<(), 
             log: _,
             marks: _,
             answers: _,
+            reports: _,
         } = diego_top(alloc, &words, source, sink, disk, &OpenGate);
         assert_eq!(rt; ended, status);
         assert_eq!(rt; Some(narrow.bytes.as_slice()), TEXT.as_bytes().get(..space));

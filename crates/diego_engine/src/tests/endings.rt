@@ -10,6 +10,14 @@ const NO_BOARD: &str = "{\"area\":\"a\",\"at\":0,\"fault\":\"not a board\"}\n";
 
 const NO_BOARD_IN_B: &str = "{\"area\":\"b\",\"at\":0,\"fault\":\"not a board\"}\n";
 
+const BAD_JSON: &str = "{\"fault\":\"bad json\",\"line\":3}\n";
+
+const BAD_SHAPE: &str = "{\"fault\":\"bad shape\",\"line\":1}\n";
+
+const BAD_NAME: &str = "{\"fault\":\"bad name\",\"line\":1}\n";
+
+const BAD_ORDER: &str = "{\"fault\":\"bad order\",\"line\":2}\n";
+
 #[test]
 fn words_that_are_not_in_the_grammar_are_told_how_it_is_used(rt: HostRuntime) -> Result<(), Fail> {
     let cases: [&[&str]; 6] = [
@@ -32,16 +40,13 @@ fn words_that_are_not_in_the_grammar_are_told_how_it_is_used(rt: HostRuntime) ->
 #[test]
 fn a_source_that_fails_or_is_no_script_touches_no_disk(rt: HostRuntime) -> Result<(), Fail> {
     let source = first_run().source;
-    let cases: [(&[u8], &[u64], u8, &str); 4] = [
+    let cases: [(&[u8], &[u64], u8, &str); 6] = [
         (source, &[1], 3, "{\"fault\":\"read\"}\n"),
         (source, &[2], 3, "{\"fault\":\"read\"}\n"),
-        (b"", &[], 2, "{\"fault\":\"script\"}\n"),
-        (
-            b"{\"at\":0}\n{\"at\":1}\n",
-            &[],
-            2,
-            "{\"fault\":\"script\"}\n",
-        ),
+        (b"{\"at\":0}\n\n{", &[], 2, BAD_JSON),
+        (b"{}", &[], 2, BAD_SHAPE),
+        (b"{\"cell\":\"\",\"op\":\"die\"}", &[], 2, BAD_NAME),
+        (b"{\"at\":1}\n{\"at\":0}\n", &[], 2, BAD_ORDER),
     ];
     for (source, takes, status, text) in cases {
         let given = Given {

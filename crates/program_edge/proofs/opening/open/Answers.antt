@@ -1,4 +1,6 @@
-use Rattle.std.proofs.Common.{refl}
+use Rattle.std.proofs.Common.{refl, subst}
+use Rattle.program_edge.specs.Ending.{EndsAs}
+use Rattle.program_edge.specs.declared.ending.Ending.{Ending}
 use Rattle.program_edge.proofs.Opened.{secured_shows, unopened}
 use Rattle.program_edge.proofs.opening.open.Goals as goal
 
@@ -15,4 +17,4 @@ returns-in-Ok-clause-opens g c = record {
 pub returns-in-Err-clause-ends : goal.returns-in-Err-clause-ends
 returns-in-Err-clause-ends g c =
     let prints = c.ended_before.ensures.prints in
-    unopened _ _ c.in-Err.ensures.err prints.0 c.in-Err.fault c.ended_before.result c.ended_before.ensures.ending prints.1 c.in-Err.ensures.cause c.in-Err.ensures.refused
+    unopened _ _ c.in-Err.ensures.err prints.0 c.in-Err.fault c.ended_before.result (subst (λ (x : Ending). EndsAs x c.ended_before.result) c.ending_for.ensures c.ended_before.ensures.ending) prints.1 c.in-Err.ensures.cause c.in-Err.ensures.refused
