@@ -1,0 +1,75 @@
+//! A scenario with cells, a client and a round, and what is shown of the board that it leaves.
+use super::bytes::first_run;
+use super::{Given, Left, ends, left_by, run};
+use disk_trait::{Area, Disk};
+use std::alloc::Global;
+use std::test::Fail;
+
+/// Two cells join, three instances are wanted, and a round places them.
+const PLACES: &str = r#"{"at":0}
+{"cell":"c1","op":"join","zone":"z1","memory":1024,"disk":4096,"containers":10,"ttl":600}
+{"at":0}
+{"cell":"c2","op":"join","zone":"z2","memory":1024,"disk":4096,"containers":10,"ttl":600}
+{"at":0}
+{"client":"cli","op":"desire","process":"web","domain":"apps","instances":3,"memory":64,"disk":128}
+{"at":1}
+{"op":"round"}
+"#;
+
+/// Two ties go to the first cell by name; the instance between them goes to the empty zone.
+const PLACED: &str = r#"{"actor":"c1","answer":"ok","call":"join","line":2,"subject":"c1"}
+{"event":"created","row":{"cell":"c1","containers":10,"disk":4096,"epoch":0,"evacuating":false,"memory":1024,"tag":null,"until":600,"zone":"z1"},"table":"cell"}
+{"actor":"c2","answer":"ok","call":"join","line":4,"subject":"c2"}
+{"event":"created","row":{"cell":"c2","containers":10,"disk":4096,"epoch":1,"evacuating":false,"memory":1024,"tag":null,"until":600,"zone":"z2"},"table":"cell"}
+{"actor":"cli","answer":"ok","call":"desire","line":6,"subject":"web"}
+{"event":"created","row":{"disk":128,"domain":"apps","instances":3,"memory":64,"port":8080,"process":"web","route":null,"tag":null},"table":"desired"}
+{"asked":2,"complete":true,"foreign":0,"line":8,"lost":0,"op":"round","own":6,"refused":0,"stopped":0,"unplaced":[]}
+{"event":"created","row":{"cell":null,"count":0,"error":false,"index":0,"instance":null,"presence":"ordinary","process":"web","since":1,"state":"unclaimed"},"table":"actual"}
+{"event":"changed","row":{"cell":"c1","count":0,"error":false,"index":0,"instance":"0.1","presence":"ordinary","process":"web","since":1,"state":"claimed"},"table":"actual"}
+{"event":"created","row":{"cell":null,"count":0,"error":false,"index":1,"instance":null,"presence":"ordinary","process":"web","since":1,"state":"unclaimed"},"table":"actual"}
+{"event":"changed","row":{"cell":"c2","count":0,"error":false,"index":1,"instance":"1.1","presence":"ordinary","process":"web","since":1,"state":"claimed"},"table":"actual"}
+{"event":"created","row":{"cell":null,"count":0,"error":false,"index":2,"instance":null,"presence":"ordinary","process":"web","since":1,"state":"unclaimed"},"table":"actual"}
+{"event":"changed","row":{"cell":"c1","count":0,"error":false,"index":2,"instance":"0.2","presence":"ordinary","process":"web","since":1,"state":"claimed"},"table":"actual"}
+{"done":9,"doubts":0,"next":9,"phases":4}
+"#;
+
+const KEPT: &str = "{\"area\":\"a\",\"frames\":9,\"generation\":1,\"next\":9}\n";
+
+const ROWS: &str =
+    r#"{"row":{"disk":128,"domain":"apps","instances":3,"memory":64,"port":8080,"process":"web","route":null,"tag":null},"table":"desired"}
+{"row":{"cell":"c1","count":0,"error":false,"index":0,"instance":"0.1","presence":"ordinary","process":"web","since":1,"state":"claimed"},"table":"actual"}
+{"row":{"cell":"c2","count":0,"error":false,"index":1,"instance":"1.1","presence":"ordinary","process":"web","since":1,"state":"claimed"},"table":"actual"}
+{"row":{"cell":"c1","count":0,"error":false,"index":2,"instance":"0.2","presence":"ordinary","process":"web","since":1,"state":"claimed"},"table":"actual"}
+{"row":{"cell":"c1","containers":10,"disk":4096,"epoch":0,"evacuating":false,"memory":1024,"tag":null,"until":600,"zone":"z1"},"table":"cell"}
+{"row":{"cell":"c2","containers":10,"disk":4096,"epoch":1,"evacuating":false,"memory":1024,"tag":null,"until":600,"zone":"z2"},"table":"cell"}
+"#;
+
+/// What a word shows of the board that a run left.
+fn shown(alloc: Global, left: &Left, word: &str) -> Result<Left, Fail> {
+    let a = left.disk.bytes(Area::A).to_vec(alloc)?;
+    let b = left.disk.bytes(Area::B).to_vec(alloc)?;
+    let given = Given {
+        a: &a,
+        b: &b,
+        ..first_run()
+    };
+    left_by(alloc, &["diego_run", word], &given)
+}
+
+#[test]
+fn a_round_places_what_is_wanted_on_two_cells(rt: HostRuntime) -> Result<(), Fail> {
+    let given = Given {
+        source: PLACES.as_bytes(),
+        ..first_run()
+    };
+    let left = run(rt.alloc(), &given)?;
+    ends(&rt, &left, 0, PLACED);
+    assert_eq!(rt; left.log.len(), 9);
+    assert_eq!(rt; left.answers.len(), 3);
+    assert_eq!(rt; left.reports.len(), 1);
+    let check = shown(rt.alloc(), &left, "check")?;
+    ends(&rt, &check, 0, KEPT);
+    let rows = shown(rt.alloc(), &left, "records")?;
+    ends(&rt, &rows, 0, ROWS);
+    Ok(())
+}
