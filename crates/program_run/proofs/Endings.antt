@@ -1,5 +1,5 @@
 -- How a run ends, by what was read, what was opened and what was played.
-use Rattle.std.proofs.Common.{◌≡◌, ℕ, Bool, true, false, List, Option, Err, refl, sym, ap, subst, inl, inr, arith}
+use Rattle.std.proofs.Common.{◌≡◌, ℕ, Bool, true, false, List, Option, Err, refl, sym, ap, subst, inl, inr, ◌∙◌, arith}
 use Rattle.byte_ports.specs.Cause.{HasCause}
 use Rattle.byte_ports.specs.Content.{LostAtMost}
 use Rattle.disk_trait.proofs.Public.{extends_same, goes_same}
@@ -9,14 +9,14 @@ use Rattle.disk_trait.specs.Shows.{KeepsContent}
 use Rattle.disk_trait.specs.Steps.{Goes}
 use Rattle.bbs_model.specs.declared.rows.Rows.{Rows}
 use Rattle.program_edge.specs.Ending.{EndsAs, line_of, status_of}
-use Rattle.program_edge.specs.Opening.{EndsEarly, EndsUnopened, EndsUntouched, Opens, is_before_board}
+use Rattle.program_edge.specs.Opening.{EndsUnopened, Opens, is_before_board}
 use Rattle.program_edge.specs.Ports.{Ports, Prints}
 use Rattle.program_edge.specs.declared.ending.Ending.{Ending}
 use Rattle.program_edge.specs.declared.ending.Ending.TheVariants as ending
 use Rattle.scenario_lines.specs.declared.script.Script.{Script}
 use Rattle.scenario_reader.specs.declared.fault.ScriptFault.{ScriptFault}
 use Rattle.program_run.specs.Reading.{ReadsAs, ReadsScript, is_read, limit}
-use Rattle.program_run.specs.Runs.{EndsIdle, EndsLate, EndsUnseen, IsEmpty, PlaysOn, RunEnds, RunsScript, ScriptEnds}
+use Rattle.program_run.specs.Runs.{EndsUnseen, IsEmpty, PlaysOn, RunEnds, RunsScript, ScriptEnds}
 use Rattle.program_run.specs.declared.ended.Ended.{Ended}
 
 module _ {D : Type 0} (told : D → Option Past) (faults moment : D → ℕ) where
@@ -102,8 +102,7 @@ module _ {D : Type 0} (told : D → Option Past) (faults moment : D → ℕ) whe
       as_prints : (how other : Ending) → other ≡ how → Prints whole (line_of other) v w → Prints whole (line_of how) v w
       as_prints how other is prints = subst (λ (x : Ending). Prints whole (line_of x) v w) is prints
 
-      -- the source gave no scenario
-      pub unread_ends : (what how : Ending) → ReadsScript (Err what) left left' → EndsAs what how → IsEmpty e → Prints whole (line_of how) v w
+      unread_ends : (what how : Ending) → ReadsScript (Err what) left left' → EndsAs what how → IsEmpty e → Prints whole (line_of how) v w
           → RunEnds told faults moment how e left left' v w
       unread_ends (ending.Script why) how reads (inl is) empty prints =
           as_ends (ending.Script why) how is (unseen (ending.Script why) empty (as_prints (ending.Script why) how is prints), reads)
@@ -117,10 +116,25 @@ module _ {D : Type 0} (told : D → Option Past) (faults moment : D → ℕ) whe
           as_ends ending.OutOfMemory how is (wants empty (as_prints ending.OutOfMemory how is prints) reads)
       unread_ends what how never is empty prints = absurd never
 
+      -- the source gave no scenario
+      pub unread : (what how : Ending) → e.ending ≡ how → ReadsScript (Err what) left left' → EndsAs what how → IsEmpty e → Prints whole (line_of how) v w
+          → RunEnds told faults moment e.ending e left left' v w
+      unread what how is reads ends empty prints = as_ends how e.ending is (unread_ends what how reads ends empty prints)
+
 -- the source failed where reading it says so
-pub same_read : (what how : Ending) → EndsAs what how → is_read what ≡ is_read how
+same_read : (what how : Ending) → EndsAs what how → is_read what ≡ is_read how
 same_read (ending.Script why) how (inl is) = ap is_read (sym is)
 same_read (ending.Script why) how (inr is) = ap is_read (sym is)
 same_read (ending.Damaged area at) how (inl is) = ap is_read (sym is)
 same_read (ending.Damaged area at) how (inr is) = ap is_read (sym is)
 same_read what how is = ap is_read (sym is)
+
+cause_as : (a b : Bool) (n m : ℕ) → a ≡ b → HasCause a n m → HasCause b n m
+cause_as a b n m is cause = subst (λ (x : Bool). HasCause x n m) is cause
+
+pub read_cause : (how : Ending) (n m : ℕ) → is_read how ≡ false → HasCause false n m → HasCause (is_read how) n m
+read_cause how n m none cause = cause_as false (is_read how) n m (sym none) cause
+
+pub unread_cause : (what how other : Ending) (n m : ℕ) → other ≡ how → EndsAs what how → HasCause (is_read what) n m → HasCause (is_read other) n m
+unread_cause what how other n m is ends cause =
+    cause_as (is_read what) (is_read other) n m (same_read what how ends ∙ ap is_read (sym is)) cause

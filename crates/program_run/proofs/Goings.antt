@@ -1,5 +1,5 @@
 -- A board on which a scenario was played has gone on from where it was.
-use Rattle.std.proofs.Common.{ℕ, List, [], ◌∷◌, ◌++◌, Option, sym, ap, subst, inl, inr}
+use Rattle.std.proofs.Common.{ℕ, List, [], ◌∷◌, ◌++◌, Option, sym, subst, inl, inr}
 use Rattle.disk_trait.specs.Past.{Past}
 use Rattle.bbs_board.specs.View.{View}
 use Rattle.bbs_model.specs.declared.item.Item.{Item}
@@ -13,7 +13,7 @@ use Rattle.scenario_lines.specs.declared.answered.Answered.{Answered}
 use Rattle.scenario_lines.specs.declared.script.Phase.{Phase}
 use Rattle.scenario_lines.specs.declared.script.Script.{Script}
 use Rattle.scenario_runs.specs.Courses.{beginning, Course, PlaysPhase}
-use Rattle.scenario_runs.specs.Plays.{EndsAt, IsCutIn, IsUntold, Plays, PlaysCut, PlaysPart}
+use Rattle.scenario_runs.specs.Plays.{EndsAt, IsUntold, Plays, PlaysCut, PlaysPart}
 
 module _ {D : Type 0} (told : D → Option Past) (script : Script) where
   abbrev pub GoesFrom : View D → View D → Type 0

@@ -1,5 +1,5 @@
 -- How a run ends, by what the source gave, and what the sink and the disk did.
-use Rattle.std.specs.Prelude.{◌≡◌, ◌⊎◌, ◌×◌, ℕ, ◌+◌, List, [], Option, Ok, Err}
+use Rattle.std.specs.Prelude.{◌≡◌, ◌⊎◌, ℕ, ◌+◌, List, [], Option, Ok, Err}
 use Rattle.std.specs.Option.{ForSome}
 use Rattle.byte_ports.specs.Content.{Lost, LostAtMost}
 use Rattle.disk_trait.specs.Past.{Past}

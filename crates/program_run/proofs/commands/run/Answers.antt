@@ -1,9 +1,5 @@
-use Rattle.std.proofs.Common.{◌≡◌, false, Bool, refl, sym, subst, ◌∙◌}
-use Rattle.byte_ports.specs.Cause.{HasCause}
-use Rattle.program_edge.specs.declared.ending.Ending.{Ending}
-use Rattle.program_run.specs.Reading.{is_read}
-use Rattle.program_run.specs.Runs.{RunEnds}
-use Rattle.program_run.proofs.Endings.{not_before, not_read, same_read, script_runs, unread_ends}
+use Rattle.std.proofs.Common.{refl}
+use Rattle.program_run.proofs.Endings.{not_before, not_read, read_cause, script_runs, unread, unread_cause}
 use Rattle.program_run.proofs.commands.run.Goals as goal
 
 pub returns-in-Ok-clause-ends : goal.returns-in-Ok-clause-ends
@@ -13,9 +9,9 @@ returns-in-Ok-clause-ends g c =
 
 pub returns-in-Ok-clause-cause : goal.returns-in-Ok-clause-cause
 returns-in-Ok-clause-cause g c =
-    let none : is_read c.run_script.result.0.ending ≡ false =
-    not_read g.D.Disk.told g.D.Disk.fault_count g.D.Disk.moment c.in-Ok.script c.run_script.result.0 _ _ c.run_script.result.0.ending c.run_script.ensures in
-    subst (λ (b : Bool). HasCause b _ _) (sym none) c.in-Ok.ensures.cause
+    read_cause c.run_script.result.0.ending _ _
+    (not_read g.D.Disk.told g.D.Disk.fault_count g.D.Disk.moment c.in-Ok.script c.run_script.result.0 _ _ c.run_script.result.0.ending c.run_script.ensures)
+    c.in-Ok.ensures.cause
 
 pub returns-in-Ok-clause-unopened : goal.returns-in-Ok-clause-unopened
 returns-in-Ok-clause-unopened g c before =
@@ -24,11 +20,9 @@ returns-in-Ok-clause-unopened g c before =
 pub returns-in-Err-clause-ends : goal.returns-in-Err-clause-ends
 returns-in-Err-clause-ends g c =
     let prints = c.ended_before.ensures.prints in
-    subst (λ (x : Ending). RunEnds g.D.Disk.told g.D.Disk.fault_count g.D.Disk.moment x c.idle.result _ _ _ _) (sym c.idle.ensures.ending)
-    (unread_ends g.D.Disk.told g.D.Disk.fault_count g.D.Disk.moment c.idle.result _ _ _ _ refl refl prints.0 c.in-Err.ending c.ended_before.result
-    c.in-Err.ensures.reads c.ended_before.ensures.ending c.idle.ensures.empty prints.1)
+    unread g.D.Disk.told g.D.Disk.fault_count g.D.Disk.moment c.idle.result _ _ _ _ refl refl prints.0 c.in-Err.ending c.ended_before.result
+    c.idle.ensures.ending c.in-Err.ensures.reads c.ended_before.ensures.ending c.idle.ensures.empty prints.1
 
 pub returns-in-Err-clause-cause : goal.returns-in-Err-clause-cause
 returns-in-Err-clause-cause g c =
-    subst (λ (x : Ending). HasCause (is_read x) _ _) (sym c.idle.ensures.ending)
-    (subst (λ (b : Bool). HasCause b _ _) (same_read c.in-Err.ending c.ended_before.result c.ended_before.ensures.ending) c.in-Err.ensures.cause)
+    unread_cause c.in-Err.ending c.ended_before.result c.idle.result.ending _ _ c.idle.ensures.ending c.ended_before.ensures.ending c.in-Err.ensures.cause
