@@ -1,5 +1,5 @@
 -- The headline, from each way in which the program ends.
-use Rattle.std.proofs.Common.{◌≡◌, ℕ, ◌≤◌, true, false, List, [], Option, Some, None, refl, sym, subst, arith, inl, inr}
+use Rattle.std.proofs.Common.{◌≡◌, ℕ, ◌≤◌, List, [], Option, Some, None, refl, sym, subst, arith, inl, inr}
 use Rattle.disk_trait.specs.Past.{Past, Image}
 use Rattle.disk_trait.specs.Held.{Leaves}
 use Rattle.disk_trait.specs.Steps.{Goes}
@@ -10,11 +10,11 @@ use Rattle.bbs_model.specs.declared.item.Item.{Item}
 use Rattle.bbs_board.specs.Doubts.{doubts_in, RoseForEach}
 use Rattle.bbs_board.specs.Opening.{IsBoard}
 use Rattle.diego_engine.specs.Headline.{Headline}
-use Rattle.program_edge.specs.Opening.{EndsEarly, EndsUnopened}
+use Rattle.program_edge.specs.Opening.{EndsUnopened}
 use Rattle.program_edge.specs.Ports.{Ports, IsTold}
 use Rattle.program_edge.specs.declared.ending.Ending.{Ending}
 use Rattle.program_edge.specs.declared.ending.Ending.TheVariants as ending
-use Rattle.program_run.specs.Runs.{EndsIdle, EndsLate, EndsUnseen, IsEmpty, RunEnds, RunsScript, ScriptEnds}
+use Rattle.program_run.specs.Runs.{EndsIdle, EndsLate, EndsUnseen, IsEmpty, RunEnds, ScriptEnds}
 use Rattle.program_run.specs.declared.ended.Ended.{Ended}
 use Rattle.scenario_lines.specs.declared.script.Script.{Script}
 use Rattle.still_words.proofs.Public.{later_from}

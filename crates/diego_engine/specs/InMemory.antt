@@ -1,6 +1,6 @@
 -- How the program ends over a disk that never falls silent: as over any disk, but that what is opened, or refused, is
 -- what the disk held at entry, with no premise on its end.
-use Rattle.std.specs.Prelude.{◌≡◌, ◌⊎◌, ℕ, ◌+◌, List, Option, Some, None, Ok, Err}
+use Rattle.std.specs.Prelude.{◌⊎◌, ℕ, ◌+◌, false, List, Option, Some, None, Ok, Err}
 use Rattle.byte_ports.specs.Content.{Lost, LostAtMost}
 use Rattle.disk_trait.specs.Memory.{memory_past, calls_of, faults_of}
 use Rattle.disk_trait.specs.Past.{Past, Image}
