@@ -1,0 +1,6 @@
+pub mod Answers
+pub mod Actors
+pub mod Phases
+pub mod Cuts
+pub mod Headline
+pub mod Laws

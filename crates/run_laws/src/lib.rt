@@ -1,0 +1,6 @@
+//! What the run of a scenario means: what its answers and its reports say of the log.
+#![tactic(auto)]
+
+mod laws;
+
+pub use laws::played_runs_are_faithful;
