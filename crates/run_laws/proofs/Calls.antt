@@ -1,13 +1,13 @@
 -- What calls say of each log that goes on from what was seen behind them.
-use Rattle.std.proofs.Common.{◌≡◌, ℕ, ◌+◌, ◌≤◌, List, [], ◌∷◌, ◌++◌, length, map, take, Option, Some, None, Result, Ok, Err, refl, sym, ap, subst, ◌∙◌, append_assoc, length-append, arith, inl, inr}
+use Rattle.std.proofs.Common.{◌≡◌, ℕ, ◌+◌, ◌≤◌, List, [], ◌∷◌, ◌++◌, length, Option, Some, None, Result, Ok, Err, refl, sym, ap, subst, ◌∙◌, append_assoc, length-append, arith, inl, inr}
 use Rattle.std.specs.Prelude.{All}
 use Rattle.std.specs.List.{flat_map, slice_get}
 use Rattle.std.proofs.lemmas.Grind.{flat_map-append}
 use Rattle.std.proofs.lemmas.List.{append-nil}
 use Rattle.std.proofs.lemmas.List.Elements.{All-append, All-cons, All-nil}
 use Rattle.bbs_model.specs.Calls.{added, Ends}
-use Rattle.bbs_model.specs.PortView.{after_others, after_own, IsCalled, PortView, rows_seen}
-use Rattle.bbs_model.specs.Replay.{replay_log, rows_at}
+use Rattle.bbs_model.specs.PortView.{IsCalled, PortView}
+use Rattle.bbs_model.specs.Replay.{replay_log}
 use Rattle.bbs_model.specs.Step.{verdict_of}
 use Rattle.bbs_model.specs.declared.command.Command.{Command}
 use Rattle.bbs_model.specs.declared.item.Item.{Item}

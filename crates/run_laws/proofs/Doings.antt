@@ -1,11 +1,10 @@
 -- What an actor did over a port: which calls it made, and what they say.
-use Rattle.std.proofs.Common.{◌≡◌, ℕ, Bool, true, false, List, [], ◌∷◌, ◌++◌, map, Option, Some, None, refl, sym, ap, subst, ◌∙◌, ◌⊎◌, inl, inr}
+use Rattle.std.proofs.Common.{◌≡◌, ℕ, Bool, true, false, List, [], ◌∷◌, ◌++◌, map, Option, None, refl, sym, ap, subst, ◌∙◌, ◌⊎◌, inl, inr}
 use Rattle.std.specs.Prelude.{MatchBool}
-use Rattle.std.proofs.lemmas.List.{map-append}
 use Rattle.bbs_model.specs.PortView.{PortView}
 use Rattle.bbs_model.specs.Work.{at}
 use Rattle.cell_rep.specs.Acts.{begun, drain_todo, plan}
-use Rattle.cell_rep.specs.Follows.{Acts, after_todo, EndsOf, Follows, IsAnswer, moved_all, moved_by, Stage, stage}
+use Rattle.cell_rep.specs.Follows.{Acts, after_todo, EndsOf, Follows, IsAnswer, moved_by, Stage, stage}
 use Rattle.cell_rep.specs.Wires.{WireEnds}
 use Rattle.cell_rep.specs.declared.call_end.CallEnd.TheVariants as end
 use Rattle.cell_rep.specs.declared.call_end.Called.{Called}
@@ -15,17 +14,17 @@ use Rattle.cell_rep.specs.declared.rep.CellRep.{CellRep}
 use Rattle.cell_rep.specs.declared.todo.Todo.{Todo}
 use Rattle.cell_rep.specs.declared.todo.Todo.TheVariants.{Call, Idle, Local}
 use Rattle.crash_backoff.specs.declared.moment.Moment.{Moment}
-use Rattle.evacuation.specs.Evacuation.{Evacuates, HasDrained as DrainMade, is_agreed, StopsBetween}
+use Rattle.evacuation.specs.Evacuation.{Evacuates, HasDrained as DrainMade, is_agreed}
 use Rattle.scenario_lines.specs.declared.act.Act.{Act}
 use Rattle.scenario_lines.specs.declared.act.Act.TheVariants as act
 use Rattle.scenario_lines.specs.declared.act.Loss.{Loss}
 use Rattle.scenario_lines.specs.declared.answered.Answered.{Answered}
 use Rattle.actor_runs.specs.Marks.{ends_under}
-use Rattle.actor_runs.specs.Runs.{HasActed, HasAsked, HasRun, IsCutEmptying, IsCutRun}
+use Rattle.actor_runs.specs.Runs.{HasActed, HasRun, IsCutRun}
 use Rattle.actor_runs.specs.Turns.{answered, IsCutAt, IsCutShort, TakesTurns, Turn}
 use Rattle.actor_runs.specs.declared.actor_state.ActorState.{ActorState}
 use Rattle.actor_runs.specs.declared.actor_state.ActorState.TheVariants as actor
-use Rattle.run_laws.specs.Actors.{DoesFirst, DoesNoneWhole, DoesOnce, DoesTurns, DrainsAlone, ends_behind, FitsWire, HasCalled, HasDone, HasDrained, HasEmptied}
+use Rattle.run_laws.specs.Actors.{DoesFirst, DoesNoneWhole, DoesOnce, DoesTurns, DrainsAlone, FitsWire, HasDone, HasEmptied}
 use Rattle.run_laws.proofs.Calls.{Says, says_delivered, says_none, says_nothing, says_then}
 
 -- what was done over a port was done

@@ -1,3 +1,9 @@
 mod Logs
 mod Calls
 mod Doings
+mod Names
+mod Rounds
+mod Agreeing
+mod PhasesAgree
+mod Said
+mod Faithful

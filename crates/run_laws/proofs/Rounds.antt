@@ -1,0 +1,162 @@
+-- A round, by the log of the phase at its end and each longer one.
+use Rattle.std.proofs.Common.{◌≡◌, ℕ, List, [], ◌++◌, length, drop, Option, Some, None, refl, sym, ap, subst, ◌∙◌, append_assoc, arith, inl, inr}
+use Rattle.std.specs.List.{Contains}
+use Rattle.std.proofs.lemmas.List.{append_cancel_left, drop_at}
+use Rattle.std.proofs.lemmas.List.Elements.{Contains-append_left}
+use Rattle.bbs_model.specs.Calls.{by_number}
+use Rattle.bbs_model.specs.PortView.{IsLater, PortView, rows_seen}
+use Rattle.bbs_model.specs.Replay.{command_in, replay_log, rows_at}
+use Rattle.bbs_model.specs.declared.item.Item.{Item}
+use Rattle.bbs_model.specs.declared.item.Item.TheVariants.{Doubt}
+use Rattle.bbs_model.specs.declared.rows.Rows.{Rows}
+use Rattle.cell_rep.specs.declared.rep.CellRep.{CellRep}
+use Rattle.converge_laws.specs.Converged.{IsConverged}
+use Rattle.convergence.specs.declared.report.Report.{Report}
+use Rattle.converge_round.specs.Askings.{StandApart}
+use Rattle.converge_round.specs.Items.{HasItems, IsAskedBetween, IsOfTable}
+use Rattle.converge_round.specs.Reps.{names_of}
+use Rattle.converge_round.specs.Rounds.{standing}
+use Rattle.converge_round.specs.Sendings.{wire_at}
+use Rattle.crash_backoff.specs.declared.moment.Moment.{Moment}
+use Rattle.round_laws.specs.Accounts.{HasAccount, RoundsHaveAccounts}
+use Rattle.round_laws.specs.Complete.{CompleteRoundsConverge}
+use Rattle.scenario_lines.specs.declared.script.RoundLine.{RoundLine}
+use Rattle.actor_runs.specs.declared.actor_state.ActorState.{ActorState}
+use Rattle.phase_runs.specs.Actors.{Begins, SeesPhase}
+use Rattle.phase_runs.specs.Phases.{IsRoundCut, IsToldBy, RoundRan}
+use Rattle.phase_runs.specs.Reps.{reps_of}
+use Rattle.phase_runs.specs.RoundMarks.{round_ends}
+use Rattle.phase_runs.specs.Rounds.{RoundOf}
+use Rattle.run_laws.specs.Cuts.{RoundAsksIf}
+use Rattle.run_laws.specs.Phases.{between, IsAskedFor, IsReported, ReportAgrees, RoundAgreesIf, RoundAsks, SeesBetween}
+use Rattle.run_laws.proofs.Logs.{begins_taken, begins_then, begins_within, fresh_between}
+
+module _ (base : Rows) (before fresh log : List Item) (goes : Begins (before ++ fresh) log) where
+  abbrev from : ℕ
+  from = length before
+
+  abbrev upto : ℕ
+  upto = length (before ++ fresh)
+
+  -- the items there are those that came
+  pub its_items : (by : ℕ) → by_number by (between from upto log) ≡ by_number by fresh
+  its_items by = ap (by_number by) (fresh_between before fresh log goes)
+
+  module _ (by : ℕ) (v w : PortView) (sees : SeesPhase base before fresh by v w) (later : IsLater v w) where
+    last_begins : Begins w.seen log
+    last_begins = begins_then w.seen (before ++ fresh) log sees.upto goes
+
+    pub sees_between : SeesBetween base log from upto by v w
+    sees_between = record {
+      base_is = sees.base_is;
+      first = sym (begins_taken v.seen log (begins_then v.seen w.seen log later.seen last_begins));
+      low = begins_within before v.seen sees.from;
+      last = sym (begins_taken w.seen log last_begins);
+      high = begins_within w.seen (before ++ fresh) sees.upto;
+      own = sees.own ∙ ap (λ (xs : List Item). v.mine ++ xs) (sym (its_items by));
+    }
+
+    -- the rows that were seen last are those of their place
+    pub rows_last : rows_seen w ≡ rows_at base log (length w.seen)
+    rows_last =
+        ap (λ (r : Rows). replay_log r w.seen) (later.base ∙ sees.base_is)
+        ∙ ap (replay_log base) (sym (begins_taken w.seen log last_begins))
+
+    its_mine : by_number by (between from upto log) ≡ later.mine.0
+    its_mine = its_items by ∙ append_cancel_left v.mine (by_number by fresh) later.mine.0 (sym sees.own ∙ later.mine.1)
+
+  module _ (now : Moment) (v w : PortView) (sees : SeesPhase base before fresh 0 v w) (items : HasItems 0 now v w) where
+    asked_for : (i : Item) → IsAskedBetween 0 (IsOfTable items.got items.roomy now) v w i
+        → IsAskedFor base log now items.got items.roomy from upto i
+    asked_for i e = record {
+      place = length e.read.seen;
+      low = omega (arith, begins_within before v.seen sees.from, begins_within v.seen e.read.seen e.before.seen);
+      behind = subst (λ (xs : List Item). Contains xs i) (sym stretch) (Contains-append_left e.after.seen.0 sees.upto.0 i e.behind);
+      asked = subst (λ (r : Rows). IsOfTable items.got items.roomy now r (command_in i)) rows e.asked;
+    }
+      where
+        whole : before ++ fresh ≡ e.read.seen ++ (e.after.seen.0 ++ sees.upto.0)
+        whole = sees.upto.1 ∙ ap (λ (xs : List Item). xs ++ sees.upto.0) e.after.seen.1 ∙ append_assoc e.read.seen e.after.seen.0 sees.upto.0
+
+        stretch : between (length e.read.seen) upto log ≡ e.after.seen.0 ++ sees.upto.0
+        stretch = ap (drop (length e.read.seen)) (begins_taken (before ++ fresh) log goes ∙ whole)
+            ∙ drop_at e.read.seen (e.after.seen.0 ++ sees.upto.0) (length e.read.seen) refl
+
+        reads : Begins e.read.seen log
+        reads = begins_then e.read.seen (before ++ fresh) log (e.after.seen.0 ++ sees.upto.0, whole) goes
+
+        rows : rows_seen e.read ≡ rows_at base log (length e.read.seen)
+        rows = ap (λ (r : Rows). replay_log r e.read.seen) (e.before.base ∙ sees.base_is)
+            ∙ ap (replay_log base) (sym (begins_taken e.read.seen log reads))
+
+    -- each item of a round was asked for
+    pub round_asks : RoundAsks base log now from upto
+    round_asks = record {
+      got = items.got;
+      roomy = items.roomy;
+      each = λ i inside.
+          asked_for i (items.asked.each i (subst (λ (xs : List Item). Contains xs i) (its_mine 0 v w sees items.asked.later) inside));
+    }
+
+  -- so it is without items
+  none_asks : (now : Moment) → by_number 0 fresh ≡ [] → RoundAsks base log now from upto
+  none_asks now none = record {
+    got = [];
+    roomy = [];
+    each = λ i inside. absurd (nobody i (subst (λ (xs : List Item). Contains xs i) (its_items 0 ∙ none) inside));
+  }
+    where
+      nobody : (i : Item) → Contains [] i → ⊥
+      nobody i inside = omega (arith, inside.1)
+
+  -- a round that was cut off, if the phase has one
+  pub round_cut : (round : Option RoundLine) (now : Moment) → IsRoundCut round base before fresh now → RoundAsksIf round base log now from upto
+  round_cut None now none = its_items 0 ∙ none
+  round_cut (Some line) now (inl none) = none_asks now none
+  round_cut (Some line) now (inr cut) = round_asks now cut.first cut.last cut.sees cut.items
+
+  -- a round that was held and told may be one that was cut off
+  pub round_as_cut : (round : Option RoundLine) (now : Moment) (mids news : List ActorState) (report : Option Report)
+      → RoundRan round base before fresh now mids news report → RoundAsksIf round base log now from upto
+  round_as_cut None now mids news report ran = its_items 0 ∙ ran.0
+  round_as_cut (Some line) now mids news report ran = round_asks now ran.first ran.last ran.sees ran.items
+
+  module _ (converges : CompleteRoundsConverge) (accounts : RoundsHaveAccounts) (now : Moment) (line : RoundLine) (reps reps' : List CellRep)
+      (apart : StandApart (names_of reps)) (v w : PortView) (sees : SeesPhase base before fresh 0 v w) (later : IsLater v w) where
+    report_agrees : (r : Report) → RoundOf now line reps reps' v w r → ReportAgrees base log now line from upto reps reps' r
+    report_agrees r h = record {
+      line_is = h.round.reports.line_is;
+      low = omega (arith, begins_within before v.seen sees.from, account.counts.start);
+      high = omega (arith, begins_within w.seen (before ++ fresh) sees.upto, h.round.reports.end_is);
+      first = v;
+      last = w;
+      sees = sees_between 0 v w sees later;
+      ends = h.ends;
+      losses = h.losses;
+      round = h.round;
+      account = account;
+      stores = h.round.reports.stores;
+      complete = λ is.
+          subst (λ (x : Rows). IsConverged x r.stores now) (rows_last 0 v w sees later ∙ ap (rows_at base log) (sym h.round.reports.end_is))
+          (converges 0 now line.line (standing v reps (wire_at (Some (round_ends line)) 0)) (standing w reps' (wire_at h.ends h.losses)) r h.round apart is);
+    }
+      where
+        account : HasAccount 0 now (standing v reps (wire_at (Some (round_ends line)) 0)) (standing w reps' (wire_at h.ends h.losses)) r
+        account = accounts 0 now line.line (standing v reps (wire_at (Some (round_ends line)) 0)) (standing w reps' (wire_at h.ends h.losses)) r h.round
+
+    reported : (report : Option Report) → IsToldBy now line reps reps' v w fresh report → IsReported base log now line from upto reps reps' report
+    reported None is = (is.0, subst (λ (xs : List Item). Contains xs (Doubt 0 is.0)) (sym (fresh_between before fresh log goes)) is.1)
+    reported (Some r) is = report_agrees r is
+
+  -- a round that was held, if the phase has one
+  pub round_agrees : (converges : CompleteRoundsConverge) (accounts : RoundsHaveAccounts) (round : Option RoundLine) (now : Moment) (mids news : List ActorState)
+      (report : Option Report) → StandApart (names_of (reps_of mids)) → RoundRan round base before fresh now mids news report
+      → RoundAgreesIf round base log now from upto mids news report
+  round_agrees converges accounts None now mids news report apart ran = (its_items 0 ∙ ran.0, ran.1.0, ran.1.1)
+  round_agrees converges accounts (Some line) now mids news report apart ran = record {
+    asks = round_asks now ran.first ran.last ran.sees ran.items;
+    reps = ran.reps;
+    news_are = ran.news_are;
+    kept = ran.kept;
+    reported = reported converges accounts now line (reps_of mids) ran.reps apart ran.first ran.last ran.sees ran.items.asked.later report ran.told;
+  }
