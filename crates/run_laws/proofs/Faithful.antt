@@ -1,5 +1,5 @@
 -- A scenario that was played is faithful, in each of its ends.
-use Rattle.std.proofs.Common.{◌≡◌, ◌⊎◌, ℕ, List, [], ◌∷◌, ◌++◌, length, Option, refl, sym, ap, subst, ◌∙◌, append_assoc, arith, inl, inr}
+use Rattle.std.proofs.Common.{◌≡◌, ◌⊎◌, ℕ, false, List, [], ◌∷◌, ◌++◌, length, Option, refl, sym, ap, subst, ◌∙◌, append_assoc, arith, inl, inr}
 use Rattle.std.specs.List.{Contains}
 use Rattle.std.proofs.lemmas.List.{append-nil}
 use Rattle.std.proofs.lemmas.List.Elements.{All-contains, All-nil, Contains-append_left}
@@ -20,16 +20,17 @@ use Rattle.scenario_lines.specs.declared.answered.Answered.{Answered}
 use Rattle.scenario_lines.specs.declared.script.Phase.{Phase}
 use Rattle.scenario_lines.specs.declared.script.Script.{Script}
 use Rattle.scenario_reader.specs.Facts.{IsScript}
+use Rattle.actor_runs.specs.Runs.{is_starved_end}
 use Rattle.phase_runs.specs.Actors.{Begins}
 use Rattle.scenario_runs.specs.Courses.{beginning, Course, PlaysPhase}
 use Rattle.scenario_runs.specs.Plays.{IsCutIn, IsUntold, Plays, PlaysCut, PlaysPart, PlaysUnsummed, PlaysWhole, RanFirst}
 use Rattle.run_laws.specs.Answers.{IsTrueOf}
-use Rattle.run_laws.specs.Headline.{EndsAt, IsFaithful, outset}
+use Rattle.run_laws.specs.Headline.{RunEndsAt, IsFaithful, outset}
 use Rattle.run_laws.specs.Laws.{PlayedRunsAreFaithful}
 use Rattle.run_laws.specs.Phases.{PhaseAgrees}
 use Rattle.run_laws.proofs.Names.{names_apart}
-use Rattle.run_laws.proofs.PhasesAgree.{Agreed, is_cut, mark_of, phases_agree}
-use Rattle.run_laws.proofs.Said.{reports_converge, served_where_legal, true_phases}
+use Rattle.run_laws.proofs.PhasesAgree.{Agreed, is_cut, point_of, phases_agree}
+use Rattle.run_laws.proofs.Said.{fed_phases, reports_converge, served_where_legal, true_phases}
 
 -- one step more behind others
 each_last : {X S : Type 0} (Step : X → S → S → Type 0) (xs : List X) (x : X) (s m t : S) → Each Step xs s m → Step x m t → Each Step (xs ++ x ∷ []) s t
@@ -52,15 +53,19 @@ module _ {D : Type 0} (told : D → Option Past) (once : TasksCompleteOnce) (con
   -- the first phases ran, and the log goes on from theirs
   faithful : (how : Ending) (answers : List Answered) (reports : List Report) (log : List Item) (ran rest : List Phase) (s : Course D)
       → RanFirst told script v ran rest s → IsLawful v.base log → answers ≡ s.answers → reports ≡ s.reports → Begins s.board.log log
-      → EndsAt how v.base log rest (mark_of s) → IsFaithful script how answers reports v.base log
+      → RunEndsAt how v.base log rest (point_of s) → IsFaithful script how answers reports v.base log
   faithful how answers reports log ran rest s first lawful answers_are reports_are goes ends = record {
     replies = λ a inside. its_true a inside;
     refused = λ a inside. served_where_legal v.base log a (its_true a inside);
+    fed = λ a inside.
+        All-contains (λ (x : Answered). is_starved_end x.end ≡ false) s.answers a
+        (fed_phases v.base log ran (outset script) (point_of s) each (All-nil (λ (x : Answered). is_starved_end x.end ≡ false)))
+        (subst (λ (xs : List Answered). Contains xs a) answers_are inside);
     order = record {
       ended = ran;
       rest = rest;
       split = first.split;
-      last = mark_of s;
+      last = point_of s;
       each = each;
       answers_are = answers_are;
       reports_are = reports_are;
@@ -68,18 +73,18 @@ module _ {D : Type 0} (told : D → Option Past) (once : TasksCompleteOnce) (con
     };
     once = λ birth. once v.base log birth valid lawful;
     rounds = λ r inside.
-        reports_converge v.base log script ran (outset script) (mark_of s) among each (λ q none complete. absurd (omega (arith, none.1))) r
+        reports_converge v.base log script ran (outset script) (point_of s) among each (λ q none complete. absurd (omega (arith, none.1))) r
         (subst (λ (xs : List Report). Contains xs r) reports_are inside);
   }
     where
-      each : Each (PhaseAgrees v.base log) ran (outset script) (mark_of s)
+      each : Each (PhaseAgrees v.base log) ran (outset script) (point_of s)
       each =
-          subst (λ (n : ℕ). Each (PhaseAgrees v.base log) ran (record (outset script) { place = n }) (mark_of s)) (ap length fresh)
+          subst (λ (n : ℕ). Each (PhaseAgrees v.base log) ran (record (outset script) { place = n }) (point_of s)) (ap length fresh)
           ((agreed ran rest s first).each log goes)
 
       its_true : (a : Answered) → Contains answers a → IsTrueOf v.base log a
       its_true a inside =
-          All-contains (IsTrueOf v.base log) s.answers a (true_phases v.base log ran (outset script) (mark_of s) each (All-nil (IsTrueOf v.base log)))
+          All-contains (IsTrueOf v.base log) s.answers a (true_phases v.base log ran (outset script) (point_of s) each (All-nil (IsTrueOf v.base log)))
           (subst (λ (xs : List Answered). Contains xs a) answers_are inside)
 
       among : (p : Phase) → Contains ran p → Contains script.phases p
@@ -88,7 +93,7 @@ module _ {D : Type 0} (told : D → Option Past) (once : TasksCompleteOnce) (con
   module _ (answers : List Answered) (reports : List Report) (w : View D) (lawful : IsLawful v.base w.log) where
     -- the board is as the last phase left it
     at_last : (how : Ending) (ran rest : List Phase) (s : Course D) → RanFirst told script v ran rest s → answers ≡ s.answers → reports ≡ s.reports
-        → w ≡ s.board → (length s.board.log ≡ length w.log → EndsAt how v.base w.log rest (mark_of s)) → IsFaithful script how answers reports v.base w.log
+        → w ≡ s.board → (length s.board.log ≡ length w.log → RunEndsAt how v.base w.log rest (point_of s)) → IsFaithful script how answers reports v.base w.log
     at_last how ran rest s first answers_are reports_are board ends =
         faithful how answers reports w.log ran rest s first lawful answers_are reports_are
         (begins_as s.board.log w.log (ap (λ (x : View D). x.log) board)) (ends (ap (λ (x : View D). length x.log) (sym board)))

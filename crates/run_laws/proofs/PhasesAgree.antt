@@ -20,22 +20,22 @@ use Rattle.phase_runs.specs.Phases.{IsRoundCut, PhaseCut, PhaseRan, RoundRan}
 use Rattle.scenario_runs.specs.Courses.{Course, PlaysPhase}
 use Rattle.scenario_runs.specs.Plays.{IsUntold}
 use Rattle.run_laws.specs.Cuts.{PhaseIsCut}
-use Rattle.run_laws.specs.Phases.{Mark, PhaseAgrees}
+use Rattle.run_laws.specs.Phases.{Point, PhaseAgrees}
 use Rattle.run_laws.proofs.Agreeing.{actor_agrees, actor_as_cut, actor_cut}
 use Rattle.run_laws.proofs.Logs.{begins_same, begins_taken, begins_then, begins_within}
 use Rattle.run_laws.proofs.Names.{cell_names, names_same}
 use Rattle.run_laws.proofs.Rounds.{its_items, round_agrees, round_as_cut, round_cut}
 
 -- where a course stands, by the length of its log
-abbrev pub mark_of : {D : Type 0} → Course D → Mark
-mark_of s = record { actors = s.actors; place = length s.board.log; answers = s.answers; reports = s.reports }
+abbrev pub point_of : {D : Type 0} → Course D → Point
+point_of s = record { actors = s.actors; place = length s.board.log; answers = s.answers; reports = s.reports }
 
 module _ {D : Type 0} (told : D → Option Past) (base : Rows) where
   module _ (converges : CompleteRoundsConverge) (accounts : RoundsHaveAccounts) (script : Script) where
     -- one phase that was played
     agrees_upto : (phase : Phase) (s t : Course D) (p : PlaysPhase told script phase s t) (log : List Item) → s.board.base ≡ base
         → StandApart (cell_names s.actors) → Begins (s.board.log ++ p.ran.fresh) log
-        → PhaseAgrees base log phase (mark_of s) (record (mark_of t) { place = length (s.board.log ++ p.ran.fresh) })
+        → PhaseAgrees base log phase (point_of s) (record (point_of t) { place = length (s.board.log ++ p.ran.fresh) })
     agrees_upto phase s t p log base_is apart goes = record {
       calm = ap doubts_in (begins_taken s.board.log log first) ∙ p.calm;
       rises = begins_within s.board.log (s.board.log ++ p.ran.fresh) (p.ran.fresh, refl);
@@ -61,9 +61,9 @@ module _ {D : Type 0} (told : D → Option Past) (base : Rows) where
         first = begins_then s.board.log (s.board.log ++ p.ran.fresh) log (p.ran.fresh, refl) goes
 
     phase_agrees : (phase : Phase) (s t : Course D) (p : PlaysPhase told script phase s t) (log : List Item) → s.board.base ≡ base
-        → StandApart (cell_names s.actors) → Begins t.board.log log → PhaseAgrees base log phase (mark_of s) (mark_of t)
+        → StandApart (cell_names s.actors) → Begins t.board.log log → PhaseAgrees base log phase (point_of s) (point_of t)
     phase_agrees phase s t p log base_is apart goes =
-        subst (λ (xs : List Item). PhaseAgrees base log phase (mark_of s) (record (mark_of t) { place = length xs })) (sym p.ran.goes.grows)
+        subst (λ (xs : List Item). PhaseAgrees base log phase (point_of s) (record (point_of t) { place = length xs })) (sym p.ran.goes.grows)
         (agrees_upto phase s t p log base_is apart (subst (λ (xs : List Item). Begins xs log) p.ran.goes.grows goes))
 
     -- all that were played, one after another
@@ -71,7 +71,7 @@ module _ {D : Type 0} (told : D → Option Past) (base : Rows) where
       pub base_is : t.board.base ≡ base
       pub grows : Begins s.board.log t.board.log
       pub apart : StandApart (cell_names t.actors)
-      pub each : (log : List Item) → Begins t.board.log log → Each (PhaseAgrees base log) phases (mark_of s) (mark_of t)
+      pub each : (log : List Item) → Begins t.board.log log → Each (PhaseAgrees base log) phases (point_of s) (point_of t)
 
     pub phases_agree : (phases : List Phase) (s t : Course D) → Each (PlaysPhase told script) phases s t → s.board.base ≡ base
         → StandApart (cell_names s.actors) → Agreed phases s t
@@ -89,7 +89,7 @@ module _ {D : Type 0} (told : D → Option Past) (base : Rows) where
           grows = begins_then s.board.log m.board.log t.board.log (plays.ran.fresh, plays.ran.goes.grows) rest.grows;
           apart = rest.apart;
           each = λ log goes. (
-            mark_of m,
+            point_of m,
             phase_agrees phase s m plays log base_is apart (begins_then m.board.log t.board.log log rest.grows goes),
             rest.each log goes,
           );
@@ -100,7 +100,7 @@ module _ {D : Type 0} (told : D → Option Past) (base : Rows) where
     calm_there : (fresh : List Item) → doubts_in (take (length s.board.log) (s.board.log ++ fresh)) ≡ 0
     calm_there fresh = ap doubts_in (begins_taken s.board.log (s.board.log ++ fresh) (fresh, refl)) ∙ calm
 
-    was_cut : (w : View D) (cut : PhaseCut told phase s.actors s.board w) → PhaseIsCut base (s.board.log ++ cut.fresh) phase (mark_of s)
+    was_cut : (w : View D) (cut : PhaseCut told phase s.actors s.board w) → PhaseIsCut base (s.board.log ++ cut.fresh) phase (point_of s)
     was_cut w cut = record {
       calm = calm_there cut.fresh;
       actors = λ k a old.
@@ -116,7 +116,7 @@ module _ {D : Type 0} (told : D → Option Past) (base : Rows) where
     }
 
     was_untold : (w : View D) (news : List ActorState) (parts : List (List Answered)) (report : Option Report)
-        (ran : PhaseRan told phase s.actors news parts report s.board w) → PhaseIsCut base (s.board.log ++ ran.fresh) phase (mark_of s)
+        (ran : PhaseRan told phase s.actors news parts report s.board w) → PhaseIsCut base (s.board.log ++ ran.fresh) phase (point_of s)
     was_untold w news parts report ran = record {
       calm = calm_there ran.fresh;
       actors = λ k a old.
@@ -134,7 +134,7 @@ module _ {D : Type 0} (told : D → Option Past) (base : Rows) where
     }
 
     -- so is one of which nothing was told
-    pub is_cut : (w : View D) → IsUntold told phase s.actors s.board w → PhaseIsCut base w.log phase (mark_of s)
-    is_cut w (inl cut) = subst (λ (xs : List Item). PhaseIsCut base xs phase (mark_of s)) (sym cut.goes.grows) (was_cut w cut)
+    pub is_cut : (w : View D) → IsUntold told phase s.actors s.board w → PhaseIsCut base w.log phase (point_of s)
+    is_cut w (inl cut) = subst (λ (xs : List Item). PhaseIsCut base xs phase (point_of s)) (sym cut.goes.grows) (was_cut w cut)
     is_cut w (inr (news, parts, report, ran)) =
-        subst (λ (xs : List Item). PhaseIsCut base xs phase (mark_of s)) (sym ran.goes.grows) (was_untold w news parts report ran)
+        subst (λ (xs : List Item). PhaseIsCut base xs phase (point_of s)) (sym ran.goes.grows) (was_untold w news parts report ran)

@@ -1,5 +1,5 @@
 -- A round, by the log of the phase at its end and each longer one.
-use Rattle.std.proofs.Common.{◌≡◌, ℕ, List, [], ◌++◌, length, drop, Option, Some, None, refl, sym, ap, subst, ◌∙◌, append_assoc, arith, inl, inr}
+use Rattle.std.proofs.Common.{◌≡◌, ℕ, List, [], ◌∷◌, ◌++◌, length, drop, Option, Some, None, refl, sym, ap, subst, ◌∙◌, append_assoc, arith, inl, inr}
 use Rattle.std.specs.List.{Contains}
 use Rattle.std.proofs.lemmas.List.{append_cancel_left, drop_at}
 use Rattle.std.proofs.lemmas.List.Elements.{Contains-append_left}
@@ -14,7 +14,7 @@ use Rattle.converge_laws.specs.Converged.{IsConverged}
 use Rattle.convergence.specs.declared.report.Report.{Report}
 use Rattle.converge_round.specs.Askings.{StandApart}
 use Rattle.converge_round.specs.Items.{HasItems, IsAskedBetween, IsOfTable}
-use Rattle.converge_round.specs.Reps.{names_of}
+use Rattle.converge_round.specs.Reps.{KeepReps, names_of}
 use Rattle.converge_round.specs.Rounds.{standing}
 use Rattle.converge_round.specs.Sendings.{wire_at}
 use Rattle.crash_backoff.specs.declared.moment.Moment.{Moment}
@@ -22,14 +22,23 @@ use Rattle.round_laws.specs.Accounts.{HasAccount, RoundsHaveAccounts}
 use Rattle.round_laws.specs.Complete.{CompleteRoundsConverge}
 use Rattle.scenario_lines.specs.declared.script.RoundLine.{RoundLine}
 use Rattle.actor_runs.specs.declared.actor_state.ActorState.{ActorState}
+use Rattle.actor_runs.specs.declared.actor_state.ActorState.TheVariants.{Client, Cell}
 use Rattle.phase_runs.specs.Actors.{Begins, SeesPhase}
 use Rattle.phase_runs.specs.Phases.{IsRoundCut, IsToldBy, RoundRan}
-use Rattle.phase_runs.specs.Reps.{reps_of}
+use Rattle.phase_runs.specs.Reps.{reps_of, with_reps}
 use Rattle.phase_runs.specs.RoundMarks.{round_ends}
 use Rattle.phase_runs.specs.Rounds.{RoundOf}
 use Rattle.run_laws.specs.Cuts.{RoundAsksIf}
 use Rattle.run_laws.specs.Phases.{between, IsAskedFor, IsReported, ReportAgrees, RoundAgreesIf, RoundAsks, SeesBetween}
 use Rattle.run_laws.proofs.Logs.{begins_taken, begins_then, begins_within, fresh_between}
+
+-- the reps of actors with these reps
+reps_put : (xs : List ActorState) (rs : List CellRep) → KeepReps (reps_of xs) rs → reps_of (with_reps xs rs) ≡ rs
+reps_put [] [] kept = refl
+reps_put [] (r ∷ rs) kept = absurd kept
+reps_put (Client name ∷ xs) rs kept = reps_put xs rs kept
+reps_put (Cell rep ∷ xs) [] kept = absurd kept
+reps_put (Cell rep ∷ xs) (r ∷ rs) kept = ap (λ (l : List CellRep). r ∷ l) (reps_put xs rs kept.1)
 
 module _ (base : Rows) (before fresh log : List Item) (goes : Begins (before ++ fresh) log) where
   abbrev from : ℕ
@@ -121,9 +130,10 @@ module _ (base : Rows) (before fresh log : List Item) (goes : Begins (before ++ 
   round_as_cut None now mids news report ran = its_items 0 ∙ ran.0
   round_as_cut (Some line) now mids news report ran = round_asks now ran.first ran.last ran.sees ran.items
 
-  module _ (converges : CompleteRoundsConverge) (accounts : RoundsHaveAccounts) (now : Moment) (line : RoundLine) (reps reps' : List CellRep)
-      (apart : StandApart (names_of reps)) (v w : PortView) (sees : SeesPhase base before fresh 0 v w) (later : IsLater v w) where
-    report_agrees : (r : Report) → RoundOf now line reps reps' v w r → ReportAgrees base log now line from upto reps reps' r
+  module _ (converges : CompleteRoundsConverge) (accounts : RoundsHaveAccounts) (now : Moment) (line : RoundLine) (olds news : List ActorState)
+      (apart : StandApart (names_of (reps_of olds))) (v w : PortView) (sees : SeesPhase base before fresh 0 v w) (later : IsLater v w) where
+    report_agrees : (r : Report) → RoundOf now line (reps_of olds) (reps_of news) v w r
+        → ReportAgrees base log now line from upto olds news r
     report_agrees r h = record {
       line_is = h.round.reports.line_is;
       low = omega (arith, begins_within before v.seen sees.from, account.counts.start);
@@ -138,13 +148,14 @@ module _ (base : Rows) (before fresh log : List Item) (goes : Begins (before ++ 
       stores = h.round.reports.stores;
       complete = λ is.
           subst (λ (x : Rows). IsConverged x r.stores now) (rows_last 0 v w sees later ∙ ap (rows_at base log) (sym h.round.reports.end_is))
-          (converges 0 now line.line (standing v reps (wire_at (Some (round_ends line)) 0)) (standing w reps' (wire_at h.ends h.losses)) r h.round apart is);
+          (converges 0 now line.line (standing v (reps_of olds) (wire_at (Some (round_ends line)) 0)) (standing w (reps_of news) (wire_at h.ends h.losses)) r h.round apart is);
     }
       where
-        account : HasAccount 0 now (standing v reps (wire_at (Some (round_ends line)) 0)) (standing w reps' (wire_at h.ends h.losses)) r
-        account = accounts 0 now line.line (standing v reps (wire_at (Some (round_ends line)) 0)) (standing w reps' (wire_at h.ends h.losses)) r h.round
+        account : HasAccount 0 now (standing v (reps_of olds) (wire_at (Some (round_ends line)) 0)) (standing w (reps_of news) (wire_at h.ends h.losses)) r
+        account = accounts 0 now line.line (standing v (reps_of olds) (wire_at (Some (round_ends line)) 0)) (standing w (reps_of news) (wire_at h.ends h.losses)) r h.round
 
-    reported : (report : Option Report) → IsToldBy now line reps reps' v w fresh report → IsReported base log now line from upto reps reps' report
+    reported : (report : Option Report) → IsToldBy now line (reps_of olds) (reps_of news) v w fresh report
+        → IsReported base log now line from upto olds news report
     reported None is = (is.0, subst (λ (xs : List Item). Contains xs (Doubt 0 is.0)) (sym (fresh_between before fresh log goes)) is.1)
     reported (Some r) is = report_agrees r is
 
@@ -155,8 +166,12 @@ module _ (base : Rows) (before fresh log : List Item) (goes : Begins (before ++ 
   round_agrees converges accounts None now mids news report apart ran = (its_items 0 ∙ ran.0, ran.1.0, ran.1.1)
   round_agrees converges accounts (Some line) now mids news report apart ran = record {
     asks = round_asks now ran.first ran.last ran.sees ran.items;
-    reps = ran.reps;
-    news_are = ran.news_are;
-    kept = ran.kept;
-    reported = reported converges accounts now line (reps_of mids) ran.reps apart ran.first ran.last ran.sees ran.items.asked.later report ran.told;
+    news_are = ran.news_are ∙ ap (with_reps mids) (sym is);
+    kept = subst (KeepReps (reps_of mids)) (sym is) ran.kept;
+    reported =
+        reported converges accounts now line mids news apart ran.first ran.last ran.sees ran.items.asked.later report
+        (subst (λ (rs : List CellRep). IsToldBy now line (reps_of mids) rs ran.first ran.last fresh report) (sym is) ran.told);
   }
+    where
+      is : reps_of news ≡ ran.reps
+      is = ap reps_of ran.news_are ∙ reps_put mids ran.reps ran.kept

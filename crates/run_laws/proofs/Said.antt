@@ -1,5 +1,6 @@
 -- What all answers and all reports of phases say.
-use Rattle.std.proofs.Common.{◌≡◌, ℕ, suc, ◌<◌, Bool, true, false, cond, List, [], ◌∷◌, length, get_or, Option, Some, None, Result, Ok, Err, refl, sym, subst, arith, ⊎_elim}
+use Rattle.std.proofs.Common.{◌≡◌, ℕ, suc, ◌<◌, Bool, true, false, ◌||◌, cond, List, [], ◌∷◌, length, get_or, Option, Some, None, Result, Ok, Err, refl, sym, subst, arith, ⊎_elim}
+use Rattle.std.proofs.lemmas.Bool.{false≢true}
 use Rattle.std.specs.Prelude.{All}
 use Rattle.std.specs.List.{Contains, flat_map, slice_get}
 use Rattle.std.specs.Option.{option_to_list}
@@ -20,11 +21,13 @@ use Rattle.scenario_lines.specs.declared.answered.Answered.{Answered}
 use Rattle.scenario_lines.specs.declared.script.Phase.{Phase}
 use Rattle.scenario_lines.specs.declared.script.RoundLine.{RoundLine}
 use Rattle.scenario_lines.specs.declared.script.Script.{Script}
+use Rattle.actor_runs.specs.Runs.{is_starved_end}
+use Rattle.actor_runs.specs.Turns.{is_any_unfed}
 use Rattle.actor_runs.specs.declared.actor_state.ActorState.{ActorState}
 use Rattle.phase_text.specs.Sorting.{by_line, is_earlier_line, joined, sorted_by, with_placed}
 use Rattle.run_laws.specs.Answers.{answer_in, IsServedIf, IsServedWhereLegal, IsTrueOf, TellsIf}
 use Rattle.run_laws.specs.Headline.{HasConverged}
-use Rattle.run_laws.specs.Phases.{Mark, PhaseAgrees, RoundAgreesIf}
+use Rattle.run_laws.specs.Phases.{ActorAgrees, Point, PhaseAgrees, RoundAgreesIf}
 
 module _ {X : Type 0} (P : X → Type 0) (before : X → X → Bool) where
   all_placed : (x : X) (ys : List X) → P x → All P ys → All P (with_placed before x ys)
@@ -50,26 +53,46 @@ some_actor [] k within = absurd (omega (arith, within))
 some_actor (x ∷ xs) k within = x
 
 module _ (base : Rows) (log : List Item) where
-  -- a phase's answers are true
-  true_phase : (phase : Phase) (s t : Mark) → PhaseAgrees base log phase s t → All (IsTrueOf base log) s.answers → All (IsTrueOf base log) t.answers
-  true_phase phase s t agrees all =
-      subst (All (IsTrueOf base log)) (sym agrees.answers)
-      (All-append (IsTrueOf base log) s.answers (by_line agrees.parts) all
-      (all_sorted (IsTrueOf base log) is_earlier_line (joined agrees.parts)
-      (all_joined (IsTrueOf base log) is_earlier_line agrees.parts part_true)))
-    where
-      part_true : (k : ℕ) (p : List Answered) → slice_get agrees.parts k ≡ Some p → All (IsTrueOf base log) p
-      part_true k p is =
-          let within : k < length s.actors = omega (arith, slice_get_within agrees.parts k p is, agrees.count_is) in
-          let a : ActorState = some_actor s.actors k within in
-          (agrees.actors k (get_or s.actors k a) (get_or agrees.mids k a) p (slice_get-get_or s.actors k a within)
-          (slice_get-get_or agrees.mids k a (omega (arith, within, agrees.same.length_is))) is).replies
+  -- what holds of each answer of a phase, if it holds of each of those before it
+  module _ (P : Answered → Type 0)
+      (each_part : (phase : Phase) (from upto by : ℕ) (a a' : ActorState) (answers : List Answered)
+      → ActorAgrees base log phase from upto by a a' answers → All P answers) where
+    all_phase : (phase : Phase) (s t : Point) → PhaseAgrees base log phase s t → All P s.answers → All P t.answers
+    all_phase phase s t agrees all =
+        subst (All P) (sym agrees.answers)
+        (All-append P s.answers (by_line agrees.parts) all
+        (all_sorted P is_earlier_line (joined agrees.parts) (all_joined P is_earlier_line agrees.parts of_part)))
+      where
+        of_part : (k : ℕ) (p : List Answered) → slice_get agrees.parts k ≡ Some p → All P p
+        of_part k p is =
+            let within : k < length s.actors = omega (arith, slice_get_within agrees.parts k p is, agrees.count_is) in
+            let a : ActorState = some_actor s.actors k within in
+            each_part phase s.place t.place (suc k) (get_or s.actors k a) (get_or agrees.mids k a) p
+            (agrees.actors k (get_or s.actors k a) (get_or agrees.mids k a) p (slice_get-get_or s.actors k a within)
+            (slice_get-get_or agrees.mids k a (omega (arith, within, agrees.same.length_is))) is)
 
-  -- so are those of all phases
-  pub true_phases : (phases : List Phase) (s t : Mark) → Each (PhaseAgrees base log) phases s t → All (IsTrueOf base log) s.answers
+    all_phases : (phases : List Phase) (s t : Point) → Each (PhaseAgrees base log) phases s t → All P s.answers → All P t.answers
+    all_phases [] s t same all = subst (λ (m : Point). All P m.answers) (sym same) all
+    all_phases (phase ∷ phases) s t (m, agrees, others) all = all_phases phases m t others (all_phase phase s m agrees all)
+
+  -- the answers are true
+  pub true_phases : (phases : List Phase) (s t : Point) → Each (PhaseAgrees base log) phases s t → All (IsTrueOf base log) s.answers
       → All (IsTrueOf base log) t.answers
-  true_phases [] s t same all = subst (λ (m : Mark). All (IsTrueOf base log) m.answers) (sym same) all
-  true_phases (phase ∷ phases) s t (m, agrees, others) all = true_phases phases m t others (true_phase phase s m agrees all)
+  true_phases phases s t each all = all_phases (IsTrueOf base log) (λ phase from upto by a a' answers agrees. agrees.replies) phases s t each all
+
+  all_fed : (answers : List Answered) → is_any_unfed answers ≡ false → All (λ (a : Answered). is_starved_end a.end ≡ false) answers
+  all_fed [] none = All-nil (λ (a : Answered). is_starved_end a.end ≡ false)
+  all_fed (a ∷ answers) none =
+      elim (is_starved_end a.end) as (λ b. is_starved_end a.end ≡ b → (b || is_any_unfed answers) ≡ false → All (λ (x : Answered). is_starved_end x.end ≡ false) (a ∷ answers)) [
+        | true ↦ λ is no. absurd (false≢true (sym no))
+        | false ↦ λ is no. All-cons (λ (x : Answered). is_starved_end x.end ≡ false) a answers is (all_fed answers no)
+      ] refl none
+
+  -- and none wants memory
+  pub fed_phases : (phases : List Phase) (s t : Point) → Each (PhaseAgrees base log) phases s t
+      → All (λ (a : Answered). is_starved_end a.end ≡ false) s.answers → All (λ (a : Answered). is_starved_end a.end ≡ false) t.answers
+  fed_phases phases s t each all =
+      all_phases (λ (a : Answered). is_starved_end a.end ≡ false) (λ phase from upto by a a' answers agrees. all_fed answers agrees.fed) phases s t each all
 
   -- a command that was legal was served where the answer is true
   served : (by : ℕ) (command : Option Command) (answer : Option (Result Reply CallFault)) → TellsIf base log by command answer → IsServedIf base log by command answer
@@ -111,10 +134,10 @@ module _ (base : Rows) (log : List Item) where
         (λ (none : Contains [] r). absurd (omega (arith, none.1)))
         (first_or_rest r q [] inside)
 
-    pub reports_converge : (phases : List Phase) (s t : Mark) → ((p : Phase) → Contains phases p → Contains script.phases p)
+    pub reports_converge : (phases : List Phase) (s t : Point) → ((p : Phase) → Contains phases p → Contains script.phases p)
         → Each (PhaseAgrees base log) phases s t → ((r : Report) → Contains s.reports r → IsComplete r → HasConverged script base log r)
         → (r : Report) → Contains t.reports r → IsComplete r → HasConverged script base log r
-    reports_converge [] s t among same all = λ r inside. all r (subst (λ (m : Mark). Contains m.reports r) same inside)
+    reports_converge [] s t among same all = λ r inside. all r (subst (λ (m : Point). Contains m.reports r) same inside)
     reports_converge (phase ∷ phases) s t among (m, agrees, others) all =
         reports_converge phases m t (λ p inside. among p (inside_rest p phase phases inside)) others
         (λ r inside complete.

@@ -13,7 +13,7 @@ use Rattle.actor_runs.specs.Turns.{turns_in}
 use Rattle.actor_runs.specs.declared.actor_state.ActorState.{ActorState}
 use Rattle.run_laws.specs.Actors.{DoesFirst}
 use Rattle.run_laws.specs.Answers.{IsTrueOf, items_of, LieBetween}
-use Rattle.run_laws.specs.Phases.{between, Mark, RoundAsks}
+use Rattle.run_laws.specs.Phases.{between, Point, RoundAsks}
 
 -- the actor with that number did the first of its runs: its items there are those of their answers, which have their
 -- places there, and are true
@@ -32,7 +32,7 @@ RoundAsksIf (Some line) base log now from upto = RoundAsks base log now from upt
 
 -- a phase that began where no item was in doubt was cut off, and its items are those behind that place: each actor
 -- those of the first of its runs, the round such as were asked for, and nobody else any
-pub record PhaseIsCut (base : Rows) (log : List Item) (phase : Phase) (s : Mark) : Type 0 where
+pub record PhaseIsCut (base : Rows) (log : List Item) (phase : Phase) (s : Point) : Type 0 where
   pub calm : doubts_in (take s.place log) ≡ 0
   pub actors : (k : ℕ) (a : ActorState) → slice_get s.actors k ≡ Some a →
       ActorCut base log phase s.place (length log) (suc k) a

@@ -1,5 +1,5 @@
 -- What a run means: what it promises of its answers and its reports, beside what the board promises of the disk.
-use Rattle.std.specs.Prelude.{◌≡◌, ◌⊎◌, ℕ, ◌<◌, List, [], ◌∷◌, ◌++◌, length, Some}
+use Rattle.std.specs.Prelude.{◌≡◌, ◌⊎◌, ℕ, ◌<◌, false, List, [], ◌∷◌, ◌++◌, length, Some}
 use Rattle.std.specs.List.{Contains}
 use Rattle.bbs_board.specs.Doubts.{doubts_in}
 use Rattle.bbs_laws.specs.Laws.{CompletesOnce}
@@ -16,13 +16,14 @@ use Rattle.scenario_lines.specs.declared.answered.Answered.{Answered}
 use Rattle.scenario_lines.specs.declared.script.Phase.{Phase}
 use Rattle.scenario_lines.specs.declared.script.RoundLine.{RoundLine}
 use Rattle.scenario_lines.specs.declared.script.Script.{Script}
+use Rattle.actor_runs.specs.Runs.{is_starved_end}
 use Rattle.scenario_runs.specs.Actors.{actors_of}
 use Rattle.run_laws.specs.Answers.{IsServedWhereLegal, IsTrueOf}
 use Rattle.run_laws.specs.Cuts.{PhaseIsCut}
-use Rattle.run_laws.specs.Phases.{Mark, PhaseAgrees}
+use Rattle.run_laws.specs.Phases.{Point, PhaseAgrees}
 
 -- the next phase was cut off
-pub record NextIsCut (base : Rows) (log : List Item) (rest : List Phase) (s : Mark) : Type 0 where
+pub record NextIsCut (base : Rows) (log : List Item) (rest : List Phase) (s : Point) : Type 0 where
   pub phase : Phase
   pub more : List Phase
   pub split : rest ≡ phase ∷ more
@@ -30,15 +31,15 @@ pub record NextIsCut (base : Rows) (log : List Item) (rest : List Phase) (s : Ma
 
 -- where a run ends: with status 0 all phases ended, and nothing is in doubt; with 5 something is in doubt, behind all
 -- items of which no phase was begun; with 4 no phase was begun either; with 7 none was, or the next one was cut off
-abbrev pub EndsAt : Ending → Rows → List Item → List Phase → Mark → Type 0
-EndsAt ending.Done base log rest s = (s.place ≡ length log) × (rest ≡ []) × (doubts_in log ≡ 0)
-EndsAt ending.Doubt base log rest s = (s.place ≡ length log) × (0 < doubts_in log)
-EndsAt ending.Unwritten base log rest s = s.place ≡ length log
-EndsAt ending.OutOfMemory base log rest s = (s.place ≡ length log) ⊎ NextIsCut base log rest s
-EndsAt other base log rest s = ⊥
+abbrev pub RunEndsAt : Ending → Rows → List Item → List Phase → Point → Type 0
+RunEndsAt ending.Done base log rest s = (s.place ≡ length log) × (rest ≡ []) × (doubts_in log ≡ 0)
+RunEndsAt ending.Doubt base log rest s = (s.place ≡ length log) × (0 < doubts_in log)
+RunEndsAt ending.Unwritten base log rest s = s.place ≡ length log
+RunEndsAt ending.OutOfMemory base log rest s = (s.place ≡ length log) ⊎ NextIsCut base log rest s
+RunEndsAt other base log rest s = ⊥
 
 -- where a scenario begins: at the first place of the log, with no answers
-abbrev pub outset : Script → Mark
+abbrev pub outset : Script → Point
 outset script = record { actors = actors_of script.actors; place = 0; answers = []; reports = [] }
 
 -- the log is a shuffle of what the actors and the rounds did, phase after phase: the first phases ended, each with its
@@ -48,11 +49,11 @@ pub record IsShuffle (script : Script) (how : Ending) (answers : List Answered) 
   pub ended : List Phase
   pub rest : List Phase
   pub split : script.phases ≡ ended ++ rest
-  pub last : Mark
+  pub last : Point
   pub each : Each (PhaseAgrees base log) ended (outset script) last
   pub answers_are : answers ≡ last.answers
   pub reports_are : reports ≡ last.reports
-  pub ends : EndsAt how base log rest last
+  pub ends : RunEndsAt how base log rest last
 
 -- the board and the cells were as they should be where this round ended, at the moment of its phase
 pub record HasConverged (script : Script) (base : Rows) (log : List Item) (r : Report) : Type 0 where
@@ -63,14 +64,15 @@ pub record HasConverged (script : Script) (base : Rows) (log : List Item) (r : R
   pub line_is : r.line ≡ line.line
   pub converged : IsConverged (rows_at base log r.end) r.stores phase.at
 
--- For every interleaving, lost or repeated call, each reply is the one-thread board's at its place; a legal command is
--- refused only for a fault of the disk or for memory; the log is a shuffle of the runs of the actors and the rounds; no
--- task completes twice; each complete round leaves exactly one ordinary live or backing-off instance per desired index
--- and none undesired.
+-- For every interleaving, and every lost or repeated call: each reply is the step's at its place of the log; a legal
+-- command is refused only for a fault of the disk (or for memory, and then nothing is told of its phase); the log is a
+-- shuffle of what the actors and the rounds did; no task completes twice; each complete round leaves exactly one ordinary
+-- live or backing-off instance per desired index and none undesired.
 pub record IsFaithful (script : Script) (how : Ending) (answers : List Answered) (reports : List Report) (base : Rows)
     (log : List Item) : Type 0 where
   pub replies : (a : Answered) → Contains answers a → IsTrueOf base log a
   pub refused : (a : Answered) → Contains answers a → IsServedWhereLegal base log a
+  pub fed : (a : Answered) → Contains answers a → is_starved_end a.end ≡ false
   pub order : IsShuffle script how answers reports base log
   pub once : (birth : ℕ) → CompletesOnce base log birth
   pub rounds : (r : Report) → Contains reports r → IsComplete r → HasConverged script base log r

@@ -13,7 +13,6 @@ use Rattle.bbs_model.specs.declared.rows.Rows.{Rows}
 use Rattle.cell_records.specs.declared.answer.Answer.{Answer}
 use Rattle.cell_rep.specs.Reps.{answer_of}
 use Rattle.cell_rep.specs.Wires.{WireEnds}
-use Rattle.cell_rep.specs.declared.rep.CellRep.{CellRep}
 use Rattle.converge_laws.specs.Converged.{IsConverged}
 use Rattle.convergence.specs.declared.report.Report.{Report}
 use Rattle.converge_round.specs.Items.{IsOfTable}
@@ -61,7 +60,8 @@ pub record IsAskedFor (base : Rows) (log : List Item) (now : Moment) (got roomy 
 pub record RoundAsks (base : Rows) (log : List Item) (now : Moment) (from upto : ℕ) : Type 0 where
   pub got : List Answer
   pub roomy : List Answer
-  pub each : (i : Item) → Contains (by_number 0 (between from upto log)) i → IsAskedFor base log now got roomy from upto i
+  pub each : (i : Item) → Contains (by_number 0 (between from upto log)) i →
+      IsAskedFor base log now got roomy from upto i
 
 -- what a caller saw first and last of a board lies there, and its items between the two are its items there
 pub record SeesBetween (base : Rows) (log : List Item) (from upto by : ℕ) (v w : PortView) : Type 0 where
@@ -72,11 +72,11 @@ pub record SeesBetween (base : Rows) (log : List Item) (from upto by : ℕ) (v w
   pub high : length w.seen ≤ upto
   pub own : w.mine ≡ v.mine ++ by_number by (between from upto log)
 
--- the report is the round line's; the round began and ended there, and went over reps and a wire that loses what the
--- line says; the report has its account; its stores are what the cells answer after it; and if it is complete, all is
--- as it should be, at the rows where the round ended
+-- the report is the round line's; the round began and ended there, and went over the cells' reps and a wire that loses
+-- what the line says; the report has its account; its stores are what the cells answer after the round; and if it is
+-- complete, all is as it should be, at the rows where the round ended
 pub record ReportAgrees (base : Rows) (log : List Item) (now : Moment) (line : RoundLine) (from upto : ℕ)
-    (reps reps' : List CellRep) (r : Report) : Type 0 where
+    (olds news : List ActorState) (r : Report) : Type 0 where
   pub line_is : r.line ≡ line.line
   pub low : from ≤ r.start
   pub high : r.end ≤ upto
@@ -85,42 +85,46 @@ pub record ReportAgrees (base : Rows) (log : List Item) (now : Moment) (line : R
   pub sees : SeesBetween base log from upto 0 first last
   pub ends : Option WireEnds
   pub losses : ℕ
-  pub round : IsRound 0 now line.line (standing first reps (wire_at (Some (round_ends line)) 0)) (standing last reps' (wire_at ends losses)) r
-  pub account : HasAccount 0 now (standing first reps (wire_at (Some (round_ends line)) 0)) (standing last reps' (wire_at ends losses)) r
-  pub stores : r.stores ≡ filter_map answer_of reps'
+  pub round : IsRound 0 now line.line (standing first (reps_of olds) (wire_at (Some (round_ends line)) 0))
+      (standing last (reps_of news) (wire_at ends losses)) r
+  pub account : HasAccount 0 now (standing first (reps_of olds) (wire_at (Some (round_ends line)) 0))
+      (standing last (reps_of news) (wire_at ends losses)) r
+  pub stores : r.stores ≡ filter_map answer_of (reps_of news)
   pub complete : IsComplete r → IsConverged (rows_at base log r.end) r.stores now
 
--- a round has a report; or a fault of the disk ended it, whose doubt is an item of it
-abbrev pub IsReported : Rows → List Item → Moment → RoundLine → ℕ → ℕ → List CellRep → List CellRep → Option Report → Type 0
-IsReported base log now line from upto reps reps' None = (c : Command) × Contains (between from upto log) (Doubt 0 c)
-IsReported base log now line from upto reps reps' (Some r) = ReportAgrees base log now line from upto reps reps' r
+-- a round has a report; or a fault of the disk ended it, whose doubt is an item of it, so that no phase follows
+abbrev pub IsReported : Rows → List Item → Moment → RoundLine → ℕ → ℕ → List ActorState → List ActorState →
+    Option Report → Type 0
+IsReported base log now line from upto olds news None = (c : Command) × Contains (between from upto log) (Doubt 0 c)
+IsReported base log now line from upto olds news (Some r) = ReportAgrees base log now line from upto olds news r
 
--- a round was held behind the actors, whose cells have its reps now
+-- a round was held behind the actors: of them it changed the cells' reps alone, and of those the containers alone
 pub record RoundAgrees (base : Rows) (log : List Item) (now : Moment) (line : RoundLine) (from upto : ℕ)
-    (mids news : List ActorState) (report : Option Report) : Type 0 where
+    (olds news : List ActorState) (report : Option Report) : Type 0 where
   pub asks : RoundAsks base log now from upto
-  pub reps : List CellRep
-  pub news_are : news ≡ with_reps mids reps
-  pub kept : KeepReps (reps_of mids) reps
-  pub reported : IsReported base log now line from upto (reps_of mids) reps report
+  pub news_are : news ≡ with_reps olds (reps_of news)
+  pub kept : KeepReps (reps_of olds) (reps_of news)
+  pub reported : IsReported base log now line from upto olds news report
 
 -- the round of a phase, if it has one; if not, nobody has the number 0
 abbrev pub RoundAgreesIf : Option RoundLine → Rows → List Item → Moment → ℕ → ℕ → List ActorState → List ActorState →
     Option Report → Type 0
-RoundAgreesIf None base log now from upto mids news report =
-    (by_number 0 (between from upto log) ≡ []) × (news ≡ mids) × (report ≡ None)
-RoundAgreesIf (Some line) base log now from upto mids news report = RoundAgrees base log now line from upto mids news report
+RoundAgreesIf None base log now from upto olds news report =
+    (by_number 0 (between from upto log) ≡ []) × (news ≡ olds) × (report ≡ None)
+RoundAgreesIf (Some line) base log now from upto olds news report =
+    RoundAgrees base log now line from upto olds news report
 
 -- where a scenario stands between two phases: the actors, the place in the log, the answers and the reports so far
-pub record Mark : Type 0 where
+pub record Point : Type 0 where
   pub actors : List ActorState
   pub place : ℕ
   pub answers : List Answered
   pub reports : List Report
 
--- a phase that began where no item was in doubt has its items up to a later place: each actor those of its answers, the
--- round its own, and nobody else any; its answers stand by line behind those before it, and so does its report
-pub record PhaseAgrees (base : Rows) (log : List Item) (phase : Phase) (s s' : Mark) : Type 0 where
+-- a phase that began where no item was in doubt has its items up to a later place: each actor, whose number is one more
+-- than its place, those of its answers, the round its own, and nobody else any; its answers stand by line behind those
+-- before it, and so does its report
+pub record PhaseAgrees (base : Rows) (log : List Item) (phase : Phase) (s s' : Point) : Type 0 where
   pub calm : doubts_in (take s.place log) ≡ 0
   pub rises : s.place ≤ s'.place
   pub within : s'.place ≤ length log
@@ -129,8 +133,9 @@ pub record PhaseAgrees (base : Rows) (log : List Item) (phase : Phase) (s s' : M
   pub mids : List ActorState
   pub count_is : length parts ≡ length s.actors
   pub same : AreSame s.actors mids
-  pub actors : (k : ℕ) (a a' : ActorState) (answers : List Answered) → slice_get s.actors k ≡ Some a → slice_get mids k ≡ Some a'
-      → slice_get parts k ≡ Some answers → ActorAgrees base log phase s.place s'.place (suc k) a a' answers
+  pub actors : (k : ℕ) (a a' : ActorState) (answers : List Answered) → slice_get s.actors k ≡ Some a →
+      slice_get mids k ≡ Some a' → slice_get parts k ≡ Some answers →
+      ActorAgrees base log phase s.place s'.place (suc k) a a' answers
   pub round : RoundAgreesIf phase.round base log phase.at s.place s'.place mids s'.actors report
   pub others : (by : ℕ) → length s.actors < by → by_number by (between s.place s'.place log) ≡ []
   pub answers : s'.answers ≡ s.answers ++ by_line parts
