@@ -4,3 +4,6 @@
 mod laws;
 
 pub use laws::played_runs_are_faithful;
+
+#[cfg(test)]
+mod tests;
