@@ -1,7 +1,7 @@
 -- A round, by the log of the phase at its end and each longer one.
-use Rattle.std.proofs.Common.{◌≡◌, ℕ, List, [], ◌∷◌, ◌++◌, length, drop, Option, Some, None, refl, sym, ap, subst, ◌∙◌, append_assoc, arith, inl, inr}
+use Rattle.std.proofs.Common.{◌≡◌, ℕ, ◌≤◌, List, [], ◌∷◌, ◌++◌, length, drop, take, Option, Some, None, refl, sym, ap, subst, ◌∙◌, append_assoc, arith, inl, inr}
 use Rattle.std.specs.List.{Contains}
-use Rattle.std.proofs.lemmas.List.{append_cancel_left, drop_at}
+use Rattle.std.proofs.lemmas.List.{append_cancel_left, drop_at, length-drop, take-take}
 use Rattle.std.proofs.lemmas.List.Elements.{Contains-append_left}
 use Rattle.bbs_model.specs.Calls.{by_number}
 use Rattle.bbs_model.specs.PortView.{IsLater, PortView, rows_seen}
@@ -18,7 +18,7 @@ use Rattle.converge_round.specs.Reps.{KeepReps, names_of}
 use Rattle.converge_round.specs.Rounds.{standing}
 use Rattle.converge_round.specs.Sendings.{wire_at}
 use Rattle.crash_backoff.specs.declared.moment.Moment.{Moment}
-use Rattle.round_laws.specs.Accounts.{HasAccount, RoundsHaveAccounts}
+use Rattle.round_laws.specs.Accounts.{HasAccount, IsItemAsked, RoundsHaveAccounts}
 use Rattle.round_laws.specs.Complete.{CompleteRoundsConverge}
 use Rattle.scenario_lines.specs.declared.script.RoundLine.{RoundLine}
 use Rattle.actor_runs.specs.declared.actor_state.ActorState.{ActorState}
@@ -145,6 +145,7 @@ module _ (base : Rows) (before fresh log : List Item) (goes : Begins (before ++ 
       losses = h.losses;
       round = h.round;
       account = account;
+      items = λ i inside. by_account (account.items i (subst (λ (xs : List Item). Contains xs i) is_mine inside));
       stores = h.round.reports.stores;
       complete = λ is.
           subst (λ (x : Rows). IsConverged x r.stores now) (rows_last 0 v w sees later ∙ ap (rows_at base log) (sym h.round.reports.end_is))
@@ -153,6 +154,30 @@ module _ (base : Rows) (before fresh log : List Item) (goes : Begins (before ++ 
       where
         account : HasAccount 0 now (standing v (reps_of olds) (wire_at (Some (round_ends line)) 0)) (standing w (reps_of news) (wire_at h.ends h.losses)) r
         account = accounts 0 now line.line (standing v (reps_of olds) (wire_at (Some (round_ends line)) 0)) (standing w (reps_of news) (wire_at h.ends h.losses)) r h.round
+
+        is_mine : by_number 0 (between from upto log) ≡ account.mine
+        is_mine = its_items 0 ∙ append_cancel_left v.mine (by_number 0 fresh) account.mine (sym sees.own ∙ account.mine_is)
+
+        last_is : take r.end log ≡ w.seen
+        last_is = ap (λ (n : ℕ). take n log) h.round.reports.end_is
+            ∙ begins_taken w.seen log (begins_then w.seen (before ++ fresh) log sees.upto goes)
+
+        by_account : {i : Item} → IsItemAsked 0 now account.got account.roomy r.start w i
+            → IsAskedFor base log now account.got account.roomy r.start r.end i
+        by_account {i = i} e = record {
+          place = e.place;
+          low = e.low;
+          behind = subst (λ (xs : List Item). Contains (drop e.place xs) i) (sym last_is) e.behind;
+          asked = subst (λ (r : Rows). IsOfTable account.got account.roomy now r (command_in i)) rows e.asked;
+        }
+          where
+            short : e.place ≤ r.end
+            short = omega (arith, e.behind.1, length-drop e.place w.seen, h.round.reports.end_is)
+
+            rows : rows_at w.base w.seen e.place ≡ rows_at base log e.place
+            rows = ap (λ (x : Rows). rows_at x w.seen e.place) (later.base ∙ sees.base_is)
+                ∙ ap (λ (xs : List Item). replay_log base (take e.place xs)) (sym last_is)
+                ∙ ap (replay_log base) (take-take e.place r.end log short)
 
     reported : (report : Option Report) → IsToldBy now line (reps_of olds) (reps_of news) v w fresh report
         → IsReported base log now line from upto olds news report

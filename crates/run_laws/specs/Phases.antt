@@ -73,8 +73,8 @@ pub record SeesBetween (base : Rows) (log : List Item) (from upto by : ℕ) (v w
   pub own : w.mine ≡ v.mine ++ by_number by (between from upto log)
 
 -- the report is the round line's; the round began and ended there, and went over the cells' reps and a wire that loses
--- what the line says; the report has its account; its stores are what the cells answer after the round; and if it is
--- complete, all is as it should be, at the rows where the round ended
+-- what the line says; the report has its account, by which each of its items was asked for; its stores are what the
+-- cells answer after the round; and if it is complete, all is as it should be, at the rows where the round ended
 pub record ReportAgrees (base : Rows) (log : List Item) (now : Moment) (line : RoundLine) (from upto : ℕ)
     (olds news : List ActorState) (r : Report) : Type 0 where
   pub line_is : r.line ≡ line.line
@@ -89,6 +89,8 @@ pub record ReportAgrees (base : Rows) (log : List Item) (now : Moment) (line : R
       (standing last (reps_of news) (wire_at ends losses)) r
   pub account : HasAccount 0 now (standing first (reps_of olds) (wire_at (Some (round_ends line)) 0))
       (standing last (reps_of news) (wire_at ends losses)) r
+  pub items : (i : Item) → Contains (by_number 0 (between from upto log)) i →
+      IsAskedFor base log now account.got account.roomy r.start r.end i
   pub stores : r.stores ≡ filter_map answer_of (reps_of news)
   pub complete : IsComplete r → IsConverged (rows_at base log r.end) r.stores now
 
