@@ -1,4 +1,5 @@
-pub mod Headlines
+pub mod Recoveries
+pub mod Faithful
 pub mod SinceEntry
 pub mod Spoken
 pub mod TopLaws

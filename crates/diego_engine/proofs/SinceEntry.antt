@@ -16,7 +16,7 @@ use Rattle.bbs_board.specs.Doubts.{doubts_in, RoseForEach}
 use Rattle.bbs_board.specs.Kept.{IsFound, RiseBetween, Kept}
 use Rattle.bbs_board.specs.Opening.{IsBoard}
 use Rattle.bbs_board.proofs.Public.{one_board}
-use Rattle.diego_engine.specs.Headline.{HoldsOnly, Takes, Headline}
+use Rattle.diego_engine.specs.Headline.{HoldsOnly, Takes, Recovers}
 use Rattle.program_edge.specs.Ports.{IsTold}
 
 -- numbers that never fall lie above each smaller one
@@ -78,15 +78,15 @@ module _ (rows : Rows) (p : Past) (holds : HoldsOnly rows p) where
 
 -- ---- the same, where the disk may tell nothing
 
-pub headline_rests : (told told' : Option Past) (faults faults' : ℕ) → faults ≤ faults' → Goes told told' KeepsContent → Headline [] [] told told' faults faults'
-headline_rests told told' faults faults' le goes p is q is' rows holds =
+pub recovers_resting : (told told' : Option Past) (faults faults' : ℕ) → faults ≤ faults' → Goes told told' KeepsContent → Recovers [] [] told told' faults faults'
+recovers_resting told told' faults faults' le goes p is q is' rows holds =
     let keeps : Goes told (Some q) KeepsContent = subst (λ (t : Option Past). Goes told t KeepsContent) is' goes in
     takes_rests rows p holds q faults faults' le (subst (λ (t : Option Past). Goes t (Some q) KeepsContent) is keeps)
 
-pub headline_on : (told between told' : Option Past) (found : Rows) (log : List Item) (marks : List ℕ) (since faults faults' : ℕ)
+pub recovers_on : (told between told' : Option Past) (found : Rows) (log : List Item) (marks : List ℕ) (since faults faults' : ℕ)
     → ((image : Image) → Shows told image → IsTold told' → IsBoard found image) → Goes told between Secures → Goes between told' Extends → ((q : Past) → between ≡ Some q → q.clock ≡ since)
-    → IsLawful found log → ForSome told' (Kept found log marks since) → RoseForEach (doubts_in log) faults faults' → Headline log marks told told' faults faults'
-headline_on told between told' found log marks since faults faults' opens first second timed lawful kept doubts p is r is' rows holds =
+    → IsLawful found log → ForSome told' (Kept found log marks since) → RoseForEach (doubts_in log) faults faults' → Recovers log marks told told' faults faults'
+recovers_on told between told' found log marks since faults faults' opens first second timed lawful kept doubts p is r is' rows holds =
     let (q, told_is, extends) = goes_back between told' Extends second r is' in
     let secures : Goes told (Some q) Secures = subst (λ (t : Option Past). Goes told t Secures) told_is first in
     let secured : Secures p q = subst (λ (t : Option Past). Goes t (Some q) Secures) is secures in

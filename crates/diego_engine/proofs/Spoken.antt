@@ -12,7 +12,7 @@ use Rattle.still_words.specs.declared.words.Asked.TheVariants as asked
 use Rattle.diego_engine.specs.InMemory.{EndsLateInMemory as SpokenLate, ScriptEndsInMemory as SpokenScript, RunsScriptInMemory as SpokenRun}
 use Rattle.diego_engine.specs.InMemory.{EndsInMemory as SpokenEnds, RunEndsInMemory as SpokenEnd, RunsWholeInMemory as SpokenWhole, memory_told}
 use Rattle.diego_engine.specs.Top.{ProgramEnds, RunsWhole}
-use Rattle.diego_engine.proofs.Headlines.{opened}
+use Rattle.diego_engine.proofs.Recoveries.{opened}
 
 module _ (e : Ended) (v w : Ports) (told : IsTold w.told) where
   late : (script : Script) (how : Ending) → EndsLate memory_told faults_of calls_of script how e v w → SpokenLate script how e v w

@@ -1,13 +1,23 @@
--- The headline: what a run promises of the board that the disk holds, and of the log that it gives back.
-use Rattle.std.specs.Prelude.{ℕ, List, Option}
+-- The headline: what a run promises of the board that the disk holds, and of the log, the answers and the reports that it
+-- gives back. What a scenario means that was played on a board stands in the crate of the laws of runs.
+use Rattle.std.specs.Prelude.{◌≡◌, ◌⊎◌, ℕ, List, [], Option, Ok}
 use Rattle.std.specs.Option.{ForSome}
-use Rattle.disk_trait.specs.Past.{Past, content, IsSettled}
+use Rattle.disk_trait.specs.Past.{Past, Image, content, IsSettled}
+use Rattle.disk_trait.specs.Shows.{Shows}
 use Rattle.bbs_model.specs.Replay.{IsLawful}
 use Rattle.bbs_model.specs.declared.item.Item.{Item}
 use Rattle.bbs_model.specs.declared.rows.Rows.{Rows}
 use Rattle.bbs_board.specs.Doubts.{doubts_in, RoseForEach}
 use Rattle.bbs_board.specs.Kept.{Kept}
 use Rattle.bbs_board.specs.Opening.{IsBoard}
+use Rattle.convergence.specs.declared.report.Report.{Report}
+use Rattle.program_edge.specs.Ports.{IsTold}
+use Rattle.program_edge.specs.declared.ending.Ending.{Ending}
+use Rattle.program_edge.specs.declared.ending.Ending.TheVariants as ending
+use Rattle.program_run.specs.Reading.{ReadsAs}
+use Rattle.run_laws.specs.Headline.{IsFaithful}
+use Rattle.scenario_lines.specs.declared.answered.Answered.{Answered}
+use Rattle.scenario_lines.specs.declared.script.Script.{Script}
 
 -- the disk holds a board with these rows, and a stop leaves that and nothing else
 pub record HoldsOnly (rows : Rows) (p : Past) : Type 0 where
@@ -23,6 +33,43 @@ pub record Takes (rows : Rows) (log : List Item) (marks : List ℕ) (p q : Past)
   pub doubts : RoseForEach (doubts_in log) faults faults'
 
 -- where the disk tells its past at entry and at the end, and holds a board at entry: that board took this log
-abbrev pub Headline : List Item → List ℕ → Option Past → Option Past → ℕ → ℕ → Type 0
-Headline log marks told told' faults faults' =
+abbrev pub Recovers : List Item → List ℕ → Option Past → Option Past → ℕ → ℕ → Type 0
+Recovers log marks told told' faults faults' =
     ForSome told (λ p. ForSome told' (λ q. (rows : Rows) → HoldsOnly rows p → Takes rows log marks p q faults faults'))
+
+-- nothing was done, and nothing is told of it
+abbrev pub IsIdle : List Item → List Answered → List Report → Type 0
+IsIdle log answers reports = (log ≡ []) × (answers ≡ []) × (reports ≡ [])
+
+-- the source gave a scenario, and a board with these rows was opened, which the disk holds where it tells of it; the log,
+-- the answers and the reports of the run are faithful to the two
+pub record IsFaithfulTo (how : Ending) (log : List Item) (answers : List Answered) (reports : List Report)
+    (left left' : Option (List ℕ)) (told told' : Option Past) : Type 0 where
+  pub script : Script
+  pub rows : Rows
+  pub reads : ReadsAs (Ok script) left left'
+  pub opened : (image : Image) → Shows told image → IsTold told' → IsBoard rows image
+  pub faithful : IsFaithful script how answers reports rows log
+
+-- what a run did: with status 0, with 4 and with a doubt it played a scenario; where memory ran out, it did or had done
+-- nothing; and with any other end nothing
+abbrev pub DidRun : Ending → List Item → List Answered → List Report → Option (List ℕ) → Option (List ℕ) →
+    Option Past → Option Past → Type 0
+DidRun ending.Done log answers reports left left' told told' =
+    IsFaithfulTo ending.Done log answers reports left left' told told'
+DidRun ending.Doubt log answers reports left left' told told' =
+    IsFaithfulTo ending.Doubt log answers reports left left' told told'
+DidRun ending.Unwritten log answers reports left left' told told' =
+    IsFaithfulTo ending.Unwritten log answers reports left left' told told'
+DidRun ending.OutOfMemory log answers reports left left' told told' =
+    IsFaithfulTo ending.OutOfMemory log answers reports left left' told told' ⊎ IsIdle log answers reports
+DidRun other log answers reports left left' told told' = IsIdle log answers reports
+
+-- The headline. For every interleaving, lost or repeated call and stop within any disk write, recovery gives the board
+-- after a prefix of the log that holds every acknowledged transition (`recovery`); each reply is the one-thread board's at
+-- its place; no task completes twice; a legal transition is refused only for a disk fault or want of memory; and each
+-- complete round leaves exactly one ordinary live or backing-off instance per desired index, and none undesired (`run`).
+pub record Headline (how : Ending) (log : List Item) (marks : List ℕ) (answers : List Answered) (reports : List Report)
+    (left left' : Option (List ℕ)) (told told' : Option Past) (faults faults' : ℕ) : Type 0 where
+  pub recovery : Recovers log marks told told' faults faults'
+  pub run : DidRun how log answers reports left left' told told'

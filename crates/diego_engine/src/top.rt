@@ -23,6 +23,7 @@ ghost use Rattle.scenario_reader.specs.declared.fault.ScriptFault.{ScriptFault a
 use byte_ports::{Gate, Sink, Source};
 use disk_trait::Disk;
 use program_edge::{TopEnd, number_of};
+use run_laws::played_runs_are_faithful;
 use program_run::{Ended, run};
 use std::alloc::Global;
 use still_words::{Asked, read_words, still_top};
@@ -107,8 +108,10 @@ pub fn diego_top<S: Source, K: Sink, D: Disk, G: Gate>(
     // What was acknowledged, a stop leaves; nothing else shows but a doubt; and each doubt has a fault of
     // the disk for its cause.
     ensures headline { asked_of (map (λ w. string_bytes w) words.now) ≡ Some wanted.Run
-        → Headline result.log.items result.marks.items (D.told disk) (D.told result.disk)
-        (D.fault_count disk) (D.fault_count result.disk) }
+        → (how : AnEnding) × (result.status ≡ status_of how)
+        × Headline how result.log.items result.marks.items result.answers.items result.reports.items
+        (S.left source) (S.left result.source)
+        (D.told disk) (D.told result.disk) (D.fault_count disk) (D.fault_count result.disk) }
     ensures doubts { RoseForEach (doubts_in result.log.items)
         (D.fault_count disk) (D.fault_count result.disk) }
 
@@ -180,5 +183,6 @@ pub fn diego_top<S: Source, K: Sink, D: Disk, G: Gate>(
         → (Rose (D.fault_count disk) (D.fault_count result.disk) → ⊥)
         → (result.status ≡ 0) ⊎ (result.status ≡ 7) }
 {
+    played_runs_are_faithful::<D>();
     whole_top(alloc, words, source, sink, disk, gate)
 }

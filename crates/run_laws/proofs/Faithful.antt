@@ -152,7 +152,7 @@ module _ {D : Type 0} (told : D → Option Past) (once : TasksCompleteOnce) (con
       played ending.Unwritten p = unwritten p
       played ending.OutOfMemory p = starved p p.board
       played ending.Usage p = absurd p
-      played ending.Script p = absurd p
+      played (ending.Script fault) p = absurd p
       played ending.Read p = absurd p
       played ending.Unopened p = absurd p
       played (ending.NotABoard area) p = absurd p

@@ -1,12 +1,15 @@
 use Rattle.std.proofs.Common.{sym, ◌∙◌, ap, ℕ, inl, inr}
 use Rattle.std.specs.Prelude.{◌==◌}
 use Rattle.program_edge.specs.Opening.{is_before_board}
-use Rattle.diego_engine.proofs.Headlines.{headline_from, doubts_from}
+use Rattle.diego_engine.proofs.Faithful.{headline_from}
+use Rattle.diego_engine.proofs.Recoveries.{doubts_from}
 use Rattle.diego_engine.proofs.TopLaws.{usage_from, usage_to, script_from, unwritten_from, unstored_from, refused_from, too_long_from, exists_from, untouched_from, done_from, complete_from, no_script_from}
 use Rattle.diego_engine.proofs.top.diego_top.Goals as goal
 
 pub returns-clause-headline : goal.returns-clause-headline
-returns-clause-headline g c is = let (how, status, ends) = c.whole_top.ensures.ends in headline_from g.D.Disk.told g.D.Disk.fault_count g.D.Disk.moment _ _ _ _ _ how _ is ends
+returns-clause-headline g c is =
+    let (how, status, ends) = c.whole_top.ensures.ends in
+    (how, status, headline_from g.D.Disk.told g.D.Disk.fault_count g.D.Disk.moment c.played_runs_are_faithful.ensures _ _ _ _ _ how _ is ends)
 
 pub returns-clause-doubts : goal.returns-clause-doubts
 returns-clause-doubts g c = let (how, status, ends) = c.whole_top.ensures.ends in doubts_from g.D.Disk.told g.D.Disk.fault_count g.D.Disk.moment _ _ _ _ _ how _ ends

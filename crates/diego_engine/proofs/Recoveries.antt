@@ -1,4 +1,4 @@
--- The headline, from each way in which the program ends.
+-- What is recovered, from each way in which the program ends.
 use Rattle.std.proofs.Common.{◌≡◌, ℕ, ◌≤◌, List, [], Option, Some, None, refl, sym, subst, arith, inl, inr}
 use Rattle.disk_trait.specs.Past.{Past, Image}
 use Rattle.disk_trait.specs.Held.{Leaves}
@@ -9,7 +9,7 @@ use Rattle.disk_trait.specs.Shows.{Shows, KeepsContent}
 use Rattle.bbs_model.specs.declared.item.Item.{Item}
 use Rattle.bbs_board.specs.Doubts.{doubts_in, RoseForEach}
 use Rattle.bbs_board.specs.Opening.{IsBoard}
-use Rattle.diego_engine.specs.Headline.{Headline}
+use Rattle.diego_engine.specs.Headline.{Recovers}
 use Rattle.program_edge.specs.Opening.{EndsUnopened}
 use Rattle.program_edge.specs.Ports.{Ports, IsTold}
 use Rattle.program_edge.specs.declared.ending.Ending.{Ending}
@@ -21,7 +21,7 @@ use Rattle.still_words.proofs.Public.{later_from}
 use Rattle.still_words.specs.declared.words.Asked.{Asked}
 use Rattle.still_words.specs.declared.words.Asked.TheVariants as asked
 use Rattle.diego_engine.specs.Top.{ProgramEnds}
-use Rattle.diego_engine.proofs.SinceEntry.{headline_rests, headline_on}
+use Rattle.diego_engine.proofs.SinceEntry.{recovers_resting, recovers_on}
 
 keeps_same : (p : Past) → KeepsContent p p
 keeps_same p = record {
@@ -37,8 +37,8 @@ told_back None (Some r) Does goes is = absurd goes
 told_back (Some q) told' Does goes is = tt
 
 module _ {D : Type 0} (told : D → Option Past) (faults moment : D → ℕ) (e : Ended) (v w : Ports) where
-  abbrev pub HasHeadline : Type 0
-  HasHeadline = Headline e.log.items e.marks.items v.told w.told v.disk_faults w.disk_faults
+  abbrev pub HasRecovery : Type 0
+  HasRecovery = Recovers e.log.items e.marks.items v.told w.told v.disk_faults w.disk_faults
 
   -- what was opened is the board that the disk held
   pub opened : (script : Script) (how : Ending) (late : EndsLate told faults moment script how e v w) (image : Image) → Shows v.told image → IsTold w.told
@@ -47,13 +47,13 @@ module _ {D : Type 0} (told : D → Option Past) (faults moment : D → ℕ) (e 
       late.opens.found image (late.opens.still image shows (told_back late.between.told w.told Extends late.plays.extends is))
 
   -- a run that did nothing
-  empty : IsEmpty e → v.disk_faults ≤ w.disk_faults → Goes v.told w.told KeepsContent → HasHeadline
+  empty : IsEmpty e → v.disk_faults ≤ w.disk_faults → Goes v.told w.told KeepsContent → HasRecovery
   empty is le goes =
-      subst (λ (log : List Item). Headline log e.marks.items v.told w.told v.disk_faults w.disk_faults) (sym is.log)
-      (subst (λ (marks : List ℕ). Headline [] marks v.told w.told v.disk_faults w.disk_faults) (sym is.marks)
-      (headline_rests v.told w.told v.disk_faults w.disk_faults le goes))
+      subst (λ (log : List Item). Recovers log e.marks.items v.told w.told v.disk_faults w.disk_faults) (sym is.log)
+      (subst (λ (marks : List ℕ). Recovers [] marks v.told w.told v.disk_faults w.disk_faults) (sym is.marks)
+      (recovers_resting v.told w.told v.disk_faults w.disk_faults le goes))
 
-  untouched : (how : Ending) → EndsUnseen how e v w → HasHeadline
+  untouched : (how : Ending) → EndsUnseen how e v w → HasRecovery
   untouched how ends =
       empty ends.0 (omega (arith, ends.1.faults))
       (subst (λ (t : Option Past). Goes v.told t KeepsContent) (sym ends.1.told) (goes_same v.told KeepsContent (λ p is. keeps_same p)))
@@ -65,17 +65,17 @@ module _ {D : Type 0} (told : D → Option Past) (faults moment : D → ℕ) (e 
   rests ending.OutOfMemory ends = (ends.cause.later, ends.rests)
   rests how never = absurd never
 
-  idle : (how : Ending) → EndsIdle how e v w → HasHeadline
+  idle : (how : Ending) → EndsIdle how e v w → HasRecovery
   idle how (is, ends) = let (le, goes) = rests how ends in empty is le goes
 
   -- a run that played its scenario on a board
-  late : (script : Script) (how : Ending) → EndsLate told faults moment script how e v w → HasHeadline
+  late : (script : Script) (how : Ending) → EndsLate told faults moment script how e v w → HasRecovery
   late script how ends =
-      headline_on v.told ends.between.told w.told ends.rows e.log.items e.marks.items ends.between.clock v.disk_faults w.disk_faults
+      recovers_on v.told ends.between.told w.told ends.rows e.log.items e.marks.items ends.between.clock v.disk_faults w.disk_faults
       (opened script how ends) ends.opens.secures ends.plays.extends ends.opens.timed ends.plays.lawful ends.plays.kept
       (subst (λ (n : ℕ). RoseForEach (doubts_in e.log.items) n w.disk_faults) ends.opens.no_fault ends.plays.doubts)
 
-  of_script : (script : Script) (how : Ending) → ScriptEnds told faults moment script how e v w → HasHeadline
+  of_script : (script : Script) (how : Ending) → ScriptEnds told faults moment script how e v w → HasRecovery
   of_script script ending.Done ends = late script ending.Done ends
   of_script script ending.Doubt ends = late script ending.Doubt ends
   of_script script ending.Unwritten ends = late script ending.Unwritten ends
@@ -109,7 +109,7 @@ module _ {D : Type 0} (told : D → Option Past) (faults moment : D → ℕ) (e 
   script_causes script how ends = none_idle how ends
 
   module _ (left left' : Option (List ℕ)) where
-    by_ending : (how : Ending) → RunEnds told faults moment how e left left' v w → HasHeadline
+    by_ending : (how : Ending) → RunEnds told faults moment how e left left' v w → HasRecovery
     by_ending (ending.Script why) ends = untouched (ending.Script why) ends.0
     by_ending ending.Read ends = untouched ending.Read ends.0
     by_ending ending.TooLong ends = untouched ending.TooLong ends.0
@@ -117,8 +117,8 @@ module _ {D : Type 0} (told : D → Option Past) (faults moment : D → ℕ) (e 
     by_ending ending.OutOfMemory (inr (ends, lost)) = idle ending.OutOfMemory ends
     by_ending how runs = of_script runs.script how runs.ends
 
-    pub headline_from : (how : Ending) (what : Option Asked) → what ≡ Some asked.Run → ProgramEnds told faults moment how what e left left' v w → HasHeadline
-    headline_from how what is ends = by_ending how (subst (λ (x : Option Asked). ProgramEnds told faults moment how x e left left' v w) is ends)
+    pub recovery_from : (how : Ending) (what : Option Asked) → what ≡ Some asked.Run → ProgramEnds told faults moment how what e left left' v w → HasRecovery
+    recovery_from how what is ends = by_ending how (subst (λ (x : Option Asked). ProgramEnds told faults moment how x e left left' v w) is ends)
 
     run_causes : (how : Ending) → RunEnds told faults moment how e left left' v w → HasCauses
     run_causes (ending.Script why) ends = none_unseen (ending.Script why) ends.0
