@@ -7,3 +7,5 @@ mod Agreeing
 mod PhasesAgree
 mod Said
 mod Faithful
+mod Counted
+mod ItemsAnswered

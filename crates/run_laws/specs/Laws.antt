@@ -1,15 +1,20 @@
--- The law of runs.
-use Rattle.std.specs.Prelude.{◌≡◌, ℕ, List, [], Option}
+-- The laws of runs.
+use Rattle.std.specs.Prelude.{◌≡◌, ◌≢◌, ℕ, ◌<◌, List, [], ◌∷◌, Option, Some}
+use Rattle.std.specs.List.{Contains, slice_get}
 use Rattle.disk_trait.specs.Past.{Past}
 use Rattle.bbs_board.specs.View.{View}
+use Rattle.bbs_model.specs.Calls.{by_of}
 use Rattle.bbs_model.specs.Replay.{IsLawful}
 use Rattle.bbs_model.specs.Valid.{IsValid}
+use Rattle.bbs_model.specs.declared.item.Item.{Item}
+use Rattle.bbs_model.specs.declared.rows.Rows.{Rows}
 use Rattle.convergence.specs.declared.report.Report.{Report}
 use Rattle.program_edge.specs.declared.ending.Ending.{Ending}
 use Rattle.scenario_lines.specs.declared.answered.Answered.{Answered}
 use Rattle.scenario_lines.specs.declared.script.Script.{Script}
 use Rattle.scenario_reader.specs.Facts.{IsScript}
 use Rattle.scenario_runs.specs.Plays.{Plays}
+use Rattle.run_laws.specs.Answers.{answer_in, items_of, place_named}
 use Rattle.run_laws.specs.Headline.{IsFaithful}
 
 -- a scenario that was played on a board that had done nothing is faithful, whatever its end and its disk
@@ -19,3 +24,17 @@ PlayedRunsAreFaithful {D = D} told =
     (held held' : Option (List ℕ)) (faults faults' : ℕ) → IsScript script → v.log ≡ [] → IsValid v.base →
     IsLawful v.base w.log → Plays told script how answers reports v w held held' faults faults' →
     IsFaithful script how answers reports v.base w.log
+
+-- an answer among these that made the item, and names its place
+pub record IsAnswered (answers : List Answered) (place : ℕ) (i : Item) : Type 0 where
+  pub answer : Answered
+  pub among : Contains answers answer
+  pub item : items_of answer ≡ i ∷ []
+  pub place_is : place_named 0 (answer_in answer.end) ≡ place
+
+-- each item of the phases that ended is that of an answer, unless it has the number of rounds
+abbrev pub ItemsAreAnswered : Type 0
+ItemsAreAnswered =
+    (script : Script) (how : Ending) (answers : List Answered) (reports : List Report) (base : Rows) (log : List Item)
+    (run : IsFaithful script how answers reports base log) (place : ℕ) (i : Item) → place < run.order.last.place →
+    slice_get log place ≡ Some i → by_of i ≢ 0 → IsAnswered answers place i

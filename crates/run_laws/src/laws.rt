@@ -1,5 +1,5 @@
-//! The law of runs. The function does nothing: it is there for what it ensures.
-ghost use Rattle.run_laws.specs.Laws.{PlayedRunsAreFaithful};
+//! The laws of runs. These functions do nothing: they are there for what they ensure.
+ghost use Rattle.run_laws.specs.Laws.{ItemsAreAnswered, PlayedRunsAreFaithful};
 
 use bbs_laws::tasks_complete_once;
 use disk_trait::Disk;
@@ -14,3 +14,9 @@ pub fn played_runs_are_faithful<D: Disk>()
     complete_rounds_converge();
     rounds_have_accounts();
 }
+
+/// Nothing is in the log of a faithful run but what was answered: each item of a phase that ended is
+/// that of an answer which names its place, unless it is one of a round.
+pub fn items_are_answered()
+    ensures { ItemsAreAnswered }
+{}
