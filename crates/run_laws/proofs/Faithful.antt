@@ -26,7 +26,7 @@ use Rattle.scenario_runs.specs.Courses.{beginning, Course, PlaysPhase}
 use Rattle.scenario_runs.specs.Plays.{IsCutIn, IsUntold, Plays, PlaysCut, PlaysPart, PlaysUnsummed, PlaysWhole, RanFirst}
 use Rattle.run_laws.specs.Answers.{IsTrueOf}
 use Rattle.run_laws.specs.Headline.{RunEndsAt, IsFaithful, outset}
-use Rattle.run_laws.specs.Laws.{PlayedRunsAreFaithful}
+use Rattle.run_laws.specs.Laws.{PlayedRunsAreFaithful, PlayedRunsKeepBase}
 use Rattle.run_laws.specs.Phases.{PhaseAgrees}
 use Rattle.run_laws.proofs.Names.{names_apart}
 use Rattle.run_laws.proofs.PhasesAgree.{Agreed, is_cut, point_of, phases_agree}
@@ -164,3 +164,45 @@ module _ {D : Type 0} (told : D → Option Past) (once : TasksCompleteOnce) (con
 pub played_faithful : {D : Type 0} (told : D → Option Past) → TasksCompleteOnce → CompleteRoundsConverge → RoundsHaveAccounts → PlayedRunsAreFaithful told
 played_faithful told once converges accounts script how answers reports v w held held' faults faults' is_script fresh valid lawful plays =
     played told once converges accounts script is_script v fresh valid answers reports w lawful held held' faults faults' how plays
+
+module _ {D : Type 0} (told : D → Option Past) (script : Script) where
+  base_each : (phases : List Phase) (s t : Course D) → Each (PlaysPhase told script) phases s t → t.board.base ≡ s.board.base
+  base_each [] s t same = ap (λ (c : Course D). c.board.base) same
+  base_each (phase ∷ phases) s t (m, plays, others) = base_each phases m t others ∙ plays.ran.goes.base
+
+  module _ (answers : List Answered) (reports : List Report) (v w : View D) (held held' : Option (List ℕ)) (faults faults' : ℕ) where
+    base_last : (ran rest : List Phase) (s : Course D) → RanFirst told script v ran rest s → w ≡ s.board → w.base ≡ v.base
+    base_last ran rest s first board = ap (λ (x : View D). x.base) board ∙ base_each ran (beginning script v) s first.each
+
+    base_part : PlaysPart told script answers reports v w held held' faults faults' ⊎ PlaysUnsummed told script answers reports v w held held' faults faults'
+        → w.base ≡ v.base
+    base_part (inl p) =
+        ap (λ (x : View D). x.base) p.board ∙ p.plays.ran.goes.base ∙ base_each p.ran (beginning script v) p.before p.first.each
+    base_part (inr p) = base_last p.ran p.rest p.last p.ends.first p.ends.board
+
+    base_untold : (phase : Phase) (s : Course D) → IsUntold told phase s.actors s.board w → w.base ≡ s.board.base
+    base_untold phase s (inl cut) = cut.goes.base
+    base_untold phase s (inr (news, parts, report, ran)) = ran.goes.base
+
+    base_cut : (p : PlaysCut told script answers reports v w held held' faults faults') → (w ≡ p.last.board) ⊎ IsCutIn told p.last p.rest w → w.base ≡ v.base
+    base_cut p (inl board) = base_last p.ran p.rest p.last p.first board
+    base_cut p (inr cut) = base_untold cut.phase p.last cut.untold ∙ base_each p.ran (beginning script v) p.last p.first.each
+
+    base_kept : (how : Ending) → Plays told script how answers reports v w held held' faults faults' → w.base ≡ v.base
+    base_kept ending.Done p = base_last p.ran p.rest p.last p.ends.first p.ends.board
+    base_kept ending.Doubt p = base_last p.ran p.rest p.last p.ends.first p.ends.board
+    base_kept ending.Unwritten p = base_part p
+    base_kept ending.OutOfMemory p = base_cut p p.board
+    base_kept ending.Usage p = absurd p
+    base_kept ending.Script p = absurd p
+    base_kept ending.Read p = absurd p
+    base_kept ending.Unopened p = absurd p
+    base_kept (ending.NotABoard area) p = absurd p
+    base_kept (ending.Damaged area at) p = absurd p
+    base_kept ending.TooLong p = absurd p
+    base_kept ending.Exists p = absurd p
+
+-- the base stays
+pub played_keep_base : {D : Type 0} (told : D → Option Past) → PlayedRunsKeepBase told
+played_keep_base told script how answers reports v w held held' faults faults' plays =
+    base_kept told script answers reports v w held held' faults faults' how plays

@@ -25,6 +25,13 @@ PlayedRunsAreFaithful {D = D} told =
     IsLawful v.base w.log → Plays told script how answers reports v w held held' faults faults' →
     IsFaithful script how answers reports v.base w.log
 
+-- the board was opened with the rows that it was opened with
+abbrev pub PlayedRunsKeepBase : {D : Type 0} → (D → Option Past) → Type 0
+PlayedRunsKeepBase {D = D} told =
+    (script : Script) (how : Ending) (answers : List Answered) (reports : List Report) (v w : View D)
+    (held held' : Option (List ℕ)) (faults faults' : ℕ) →
+    Plays told script how answers reports v w held held' faults faults' → w.base ≡ v.base
+
 -- an answer among these that made the item, and names its place
 pub record IsAnswered (answers : List Answered) (place : ℕ) (i : Item) : Type 0 where
   pub answer : Answered

@@ -1,14 +1,15 @@
 //! The laws of runs. These functions do nothing: they are there for what they ensure.
-ghost use Rattle.run_laws.specs.Laws.{ItemsAreAnswered, PlayedRunsAreFaithful};
+ghost use Rattle.run_laws.specs.Laws.{ItemsAreAnswered, PlayedRunsAreFaithful, PlayedRunsKeepBase};
 
 use bbs_laws::tasks_complete_once;
 use disk_trait::Disk;
 use round_laws::{complete_rounds_converge, rounds_have_accounts};
 
 /// A scenario that was played on a board says what its log did: its answers, its reports and its log
-/// agree.
+/// agree. The rows that the board was opened with stay.
 pub fn played_runs_are_faithful<D: Disk>()
-    ensures { PlayedRunsAreFaithful D.told }
+    ensures faithful { PlayedRunsAreFaithful D.told }
+    ensures base { PlayedRunsKeepBase D.told }
 {
     tasks_complete_once();
     complete_rounds_converge();
