@@ -1,0 +1,13 @@
+pub mod Boards
+pub mod Quiet
+pub mod Acts
+pub mod ActLaws
+pub mod Turns
+pub mod TurnLaws
+pub mod Reps
+pub mod Rounds
+pub mod WholeRounds
+pub mod RoundLaws
+pub mod Phases
+pub mod Scripts
+pub mod PhaseLaws

@@ -1,0 +1,30 @@
+//! The laws of serial runs. These functions do nothing: they are there for what they ensure.
+ghost use Rattle.serial_runs.specs.ActLaws.{ActsAreAlone, EvacuationsAreAlone};
+ghost use Rattle.serial_runs.specs.Quiet.{CallsAreAlone};
+ghost use Rattle.serial_runs.specs.TurnLaws.{LinesAreRunAlone, TurnsAreAlone};
+
+/// Where nobody else calls and the disk stores, a call has the reply of its step at the end of the
+/// log, and adds the item of that reply.
+pub fn calls_are_alone()
+    ensures { CallsAreAlone }
+{}
+
+/// So a cell does for an act what it does alone.
+pub fn acts_are_alone()
+    ensures { ActsAreAlone }
+{}
+
+/// And for an evacuation.
+pub fn evacuations_are_alone()
+    ensures { EvacuationsAreAlone }
+{}
+
+/// An actor makes a run of a line, once, as it makes it alone.
+pub fn lines_are_run_alone()
+    ensures { LinesAreRunAlone }
+{}
+
+/// And runs one after another.
+pub fn turns_are_alone()
+    ensures { TurnsAreAlone }
+{}
