@@ -1,7 +1,8 @@
 -- What was to be done was done as one does it alone.
 use Rattle.std.proofs.Common.{◌≡◌, ℕ, false, List, [], ◌∷◌, ◌++◌, Option, Some, refl, sym, ap, subst, ◌∙◌, append_assoc}
 use Rattle.std.proofs.lemmas.List.{append-nil}
-use Rattle.bbs_model.specs.PortView.{IsLater, PortView}
+use Rattle.bbs_board.specs.Doubts.{doubts_in}
+use Rattle.bbs_model.specs.PortView.{IsLater, IsQuiet, PortView}
 use Rattle.bbs_model.proofs.Public.{later_same, later_then}
 use Rattle.cell_rep.specs.Follows.{EndsOf, Follows, IsAnswer, Performs, Stage, after_todo, answer_to, moved_all, moved_by}
 use Rattle.cell_rep.specs.Wires.{WireEnds}
@@ -9,12 +10,13 @@ use Rattle.cell_rep.specs.declared.call_end.Called.{Called}
 use Rattle.cell_rep.specs.declared.rep.CellRep.{CellRep}
 use Rattle.cell_rep.specs.declared.todo.Todo.{Todo}
 use Rattle.cell_rep.specs.declared.todo.Todo.TheVariants as todo
+use Rattle.converge_round.specs.Starts.{HasNoFault}
 use Rattle.serial_runs.specs.ActLaws.{IsAsAlone, StandsAt}
 use Rattle.serial_runs.specs.Acts.{SoleRep, done_alone, end_of, ends_behind, next_end, todo_alone, todos_alone}
 use Rattle.serial_runs.specs.Boards.{SoleBoard, board_seen}
 use Rattle.serial_runs.specs.Quiet.{IsUndisturbed}
 use Rattle.actor_runs.specs.Runs.{is_any_starved, is_starved_end}
-use Rattle.serial_runs.proofs.Delivered.{later_delivered, sent_alone}
+use Rattle.serial_runs.proofs.Delivered.{later_delivered, sent_due, sent_stored}
 use Rattle.serial_runs.proofs.Quiets.{alone_first, alone_second, neither_first, neither_second, none_second}
 
 pub later_ended : (by : ℕ) (actor : List ℕ) (ends : Option WireEnds) (t : Todo) (v : PortView) (a : Called) (w : PortView)
@@ -33,26 +35,32 @@ later_followed by actor ends (t ∷ ts) rep v (a ∷ as') rep' w f =
     (later_followed by actor (moved_by t ends) ts (after_todo t a.end rep) f.0 as' rep' w f.3)
 
 -- one thing was done with the end that is due
-record IsDoneAlone (by : ℕ) (actor : List ℕ) (ends : WireEnds) (t : Todo) (v : PortView) (a : Called) (w : PortView) : Type 0 where
-  end_is : a.end ≡ end_of t (next_end ends actor) (board_seen v)
-  answer : a ≡ answer_to t (end_of t (next_end ends actor) (board_seen v))
-  board : board_seen w ≡ done_alone t (next_end ends actor) by (board_seen v)
-  moved : moved_by t (Some ends) ≡ Some (ends_behind t ends)
+pub record IsDoneAlone (by : ℕ) (actor : List ℕ) (ends : WireEnds) (t : Todo) (v : PortView) (a : Called) (w : PortView) : Type 0 where
+  pub end_is : a.end ≡ end_of t (next_end ends actor) (board_seen v)
+  pub answer : a ≡ answer_to t (end_of t (next_end ends actor) (board_seen v))
+  pub board : board_seen w ≡ done_alone t (next_end ends actor) by (board_seen v)
+  pub moved : moved_by t (Some ends) ≡ Some (ends_behind t ends)
 
-one_done : (by : ℕ) (actor : List ℕ) (ends : WireEnds) (t : Todo) (v : PortView) (a : Called) (w : PortView) → IsAnswer t a
-    → EndsOf by actor (Some ends) t v a w → IsUndisturbed v w → is_starved_end a.end ≡ false → IsDoneAlone by actor ends t v a w
-one_done by actor ends (todo.Call c) v a w is h alone fed =
-    let one = sent_alone by v c w alone (next_end ends actor) a.end h.0 h.1 fed in
+pub one_due : (by : ℕ) (actor : List ℕ) (ends : WireEnds) (t : Todo) (v : PortView) (a : Called) (w : PortView) → IsAnswer t a
+    → EndsOf by actor (Some ends) t v a w → IsQuiet v w → HasNoFault a.end → IsDoneAlone by actor ends t v a w
+one_due by actor ends (todo.Call c) v a w is h quiet none =
+    let one = sent_due by v c w quiet (next_end ends actor) a.end h.0 h.1 none in
     record {
       end_is = one.end_is;
       answer = λ i. record { command = is i; end = one.end_is i };
       board = one.board;
       moved = refl;
     }
-one_done by actor ends todo.Idle v a w is h alone fed =
+one_due by actor ends todo.Idle v a w is h quiet none =
     record { end_is = ap (λ (x : Called). x.end) is; answer = is; board = ap board_seen h; moved = refl }
-one_done by actor ends (todo.Local why) v a w is h alone fed =
+one_due by actor ends (todo.Local why) v a w is h quiet none =
     record { end_is = ap (λ (x : Called). x.end) is; answer = is; board = ap board_seen h; moved = refl }
+
+todo_stored : (by : ℕ) (actor : List ℕ) (ends : Option WireEnds) (t : Todo) (v : PortView) (a : Called) (w : PortView) → IsAnswer t a
+    → EndsOf by actor ends t v a w → doubts_in w.seen ≡ 0 → is_starved_end a.end ≡ false → HasNoFault a.end
+todo_stored by actor ends (todo.Call c) v a w is h calm fed = sent_stored by v c a.end w h.1 calm fed
+todo_stored by actor ends todo.Idle v a w is h calm fed = subst HasNoFault (sym (ap (λ (x : Called). x.end) is)) tt
+todo_stored by actor ends (todo.Local why) v a w is h calm fed = subst HasNoFault (sym (ap (λ (x : Called). x.end) is)) tt
 
 abbrev pub sole_rep : CellRep → SoleBoard → WireEnds → List Called → SoleRep
 sole_rep rep b ends out = record { rep = rep; board = b; ends = ends; out = out }
@@ -68,7 +76,9 @@ followed_alone by actor (t ∷ ts) rep v ends out (a ∷ as') rep' w f alone fed
     let m : PortView = f.0 in
     let one_later = later_ended by actor (Some ends) t v a m f.2 in
     let rest_later = later_followed by actor (moved_by t (Some ends)) ts (after_todo t a.end rep) m as' rep' w f.3 in
-    let one = one_done by actor ends t v a m f.1 f.2 (alone_first v m w one_later rest_later alone) (neither_first (is_starved_end a.end) (is_any_starved as') fed) in
+    let before = alone_first v m w one_later rest_later alone in
+    let none = todo_stored by actor (Some ends) t v a m f.1 f.2 before.calm (neither_first (is_starved_end a.end) (is_any_starved as') fed) in
+    let one = one_due by actor ends t v a m f.1 f.2 before.quiet none in
     let follows = subst (λ (e : Option WireEnds). Follows by actor e ts (after_todo t a.end rep) m as' rep' w) one.moved f.3 in
     let rest = followed_alone by actor ts (after_todo t a.end rep) m (ends_behind t ends) (out ++ a ∷ []) as' rep' w follows
     (alone_second v m w one_later rest_later alone) (neither_second (is_starved_end a.end) (is_any_starved as') fed) in

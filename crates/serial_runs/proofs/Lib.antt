@@ -4,3 +4,15 @@ pub mod Quiets
 pub mod Follows
 pub mod ActsAlone
 pub mod TurnsAlone
+pub mod Named
+pub mod Steady
+pub mod Heard
+pub mod Leads
+pub mod RisingKept
+pub mod StoresKept
+pub mod Stored
+pub mod CellsKept
+pub mod StopsAlone
+pub mod StartsAlone
+pub mod ServesAlone
+pub mod RoundAlone

@@ -1,6 +1,7 @@
 //! The laws of serial runs. These functions do nothing: they are there for what they ensure.
 ghost use Rattle.serial_runs.specs.ActLaws.{ActsAreAlone, EvacuationsAreAlone};
 ghost use Rattle.serial_runs.specs.Quiet.{CallsAreAlone};
+ghost use Rattle.serial_runs.specs.RoundLaws.{RoundsAreAlone};
 ghost use Rattle.serial_runs.specs.TurnLaws.{LinesAreRunAlone, TurnsAreAlone};
 
 /// Where nobody else calls and the disk stores, a call has the reply of its step at the end of the
@@ -27,4 +28,9 @@ pub fn lines_are_run_alone()
 /// And runs one after another.
 pub fn turns_are_alone()
     ensures { TurnsAreAlone }
+{}
+
+/// A round has the report, the board and the reps of one that is alone.
+pub fn rounds_are_alone()
+    ensures { RoundsAreAlone }
 {}
