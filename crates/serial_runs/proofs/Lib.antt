@@ -16,3 +16,7 @@ pub mod StopsAlone
 pub mod StartsAlone
 pub mod ServesAlone
 pub mod RoundAlone
+pub mod ByNumber
+pub mod PhaseViews
+pub mod ActorsAlone
+pub mod PhaseAlone

@@ -1,6 +1,6 @@
 -- A round in which nobody else calls is one that is alone.
 use Rattle.std.proofs.Common.{◌≡◌, ℕ, ◌+◌, ◌-◌, ◌^◌, min, List, [], length, filter_map, Some, refl, sym, ap, subst, ◌∙◌}
-use Rattle.bbs_model.specs.PortView.{IsQuiet, PortView, rows_seen}
+use Rattle.bbs_model.specs.PortView.{IsLater, IsQuiet, PortView, rows_seen}
 use Rattle.bbs_model.specs.Work.{work}
 use Rattle.bbs_model.specs.declared.rows.Rows.{Rows}
 use Rattle.cell_records.specs.declared.answer.Answer.{Answer}
@@ -305,3 +305,8 @@ pub reps_are_after : (now : Moment) (line : RoundLine) (reps reps' : List CellRe
     → AreReps reps → AreReps reps'
 reps_are_after now line reps reps' v w r h are =
     reps_after line 0 now (standing v reps (wire_at (Some (round_ends line)) 0)) (standing w reps' (wire_at h.ends h.losses)) r h.round are refl
+
+pub later_round : (now : Moment) (line : RoundLine) (reps reps' : List CellRep) (v w : PortView) (r : Report) → RoundOf now line reps reps' v w r
+    → AreReps reps → IsLater v w
+later_round now line reps reps' v w r h are =
+    (whole line 0 now (standing v reps (wire_at (Some (round_ends line)) 0)) (standing w reps' (wire_at h.ends h.losses)) r h.round are refl).later

@@ -1,8 +1,11 @@
 //! The laws of serial runs. These functions do nothing: they are there for what they ensure.
 ghost use Rattle.serial_runs.specs.ActLaws.{ActsAreAlone, EvacuationsAreAlone};
+ghost use Rattle.serial_runs.specs.PhaseLaws.{PhasesAreAlone};
 ghost use Rattle.serial_runs.specs.Quiet.{CallsAreAlone};
 ghost use Rattle.serial_runs.specs.RoundLaws.{RoundsAreAlone};
 ghost use Rattle.serial_runs.specs.TurnLaws.{LinesAreRunAlone, TurnsAreAlone};
+
+use disk_trait::Disk;
 
 /// Where nobody else calls and the disk stores, a call has the reply of its step at the end of the
 /// log, and adds the item of that reply.
@@ -33,4 +36,10 @@ pub fn turns_are_alone()
 /// A round has the report, the board and the reps of one that is alone.
 pub fn rounds_are_alone()
     ensures { RoundsAreAlone }
+{}
+
+/// A phase with one actor, or with a round alone, in which the disk stored, leaves and tells what one
+/// that is alone leaves and tells.
+pub fn phases_are_alone<D: Disk>()
+    ensures { PhasesAreAlone D.told }
 {}
