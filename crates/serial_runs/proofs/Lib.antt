@@ -20,3 +20,6 @@ pub mod ByNumber
 pub mod PhaseViews
 pub mod ActorsAlone
 pub mod PhaseAlone
+pub mod StoresOn
+pub mod PhaseReps
+pub mod ScriptAlone

@@ -34,7 +34,7 @@ use Rattle.serial_runs.proofs.PhaseViews.{sees_all, sole_board}
 use Rattle.serial_runs.proofs.RoundAlone.{later_round, round_is_alone}
 
 -- a doubt is in doubt
-doubted : (xs : List Item) (by : ℕ) (c : Command) → Contains xs (Doubt by c) → doubts_in xs ≡ 0 → ⊥
+pub doubted : (xs : List Item) (by : ℕ) (c : Command) → Contains xs (Doubt by c) → doubts_in xs ≡ 0 → ⊥
 doubted [] by c inside calm = omega (arith, inside.1)
 doubted (Done n d ∷ xs) by c (zero, lt, at) calm = absurd cc
 doubted (Doubt n d ∷ xs) by c (zero, lt, at) calm = omega (arith, calm)

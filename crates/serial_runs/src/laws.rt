@@ -1,6 +1,6 @@
 //! The laws of serial runs. These functions do nothing: they are there for what they ensure.
 ghost use Rattle.serial_runs.specs.ActLaws.{ActsAreAlone, EvacuationsAreAlone};
-ghost use Rattle.serial_runs.specs.PhaseLaws.{PhasesAreAlone};
+ghost use Rattle.serial_runs.specs.PhaseLaws.{PhasesAreAlone, RunsAreAlone};
 ghost use Rattle.serial_runs.specs.Quiet.{CallsAreAlone};
 ghost use Rattle.serial_runs.specs.RoundLaws.{RoundsAreAlone};
 ghost use Rattle.serial_runs.specs.TurnLaws.{LinesAreRunAlone, TurnsAreAlone};
@@ -42,4 +42,10 @@ pub fn rounds_are_alone()
 /// that is alone leaves and tells.
 pub fn phases_are_alone<D: Disk>()
     ensures { PhasesAreAlone D.told }
+{}
+
+/// A run of serial phases that ends well has the answers, the reports, the text and the log that its
+/// script and its board come to, and leaves a disk that reads as it did with what was done behind it.
+pub fn runs_are_alone<D: Disk>()
+    ensures { RunsAreAlone D.told }
 {}

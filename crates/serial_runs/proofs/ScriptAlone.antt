@@ -1,0 +1,107 @@
+-- The run of a scenario whose phases are serial.
+use Rattle.std.proofs.Common.{◌≡◌, ℕ, List, [], ◌∷◌, ◌++◌, length, true, Option, sym, ap, subst, ◌∙◌, arith}
+use Rattle.std.specs.List.{Contains}
+use Rattle.std.proofs.lemmas.List.{append-nil}
+use Rattle.disk_trait.specs.Past.{Past}
+use Rattle.bbs_board.specs.Doubts.{doubts_in}
+use Rattle.bbs_board.specs.View.{View}
+use Rattle.bbs_model.specs.declared.item.Item.{Item}
+use Rattle.converge_laws.proofs.Public.{inside_first, inside_rest}
+use Rattle.converge_round.specs.Each.{Each}
+use Rattle.convergence.specs.declared.report.Report.{Report}
+use Rattle.phase_runs.specs.Boards.{GoesOn}
+use Rattle.phase_runs.specs.Reps.{reps_of}
+use Rattle.phase_runs.proofs.Public.{goes_further, goes_nowhere}
+use Rattle.program_edge.specs.Ports.{PrintsTo}
+use Rattle.program_edge.specs.declared.ending.Ending.TheVariants as ending
+use Rattle.record_print.specs.Printed.{line_text, summary_data}
+use Rattle.scenario_lines.specs.declared.answered.Answered.{Answered}
+use Rattle.scenario_lines.specs.declared.script.Phase.{Phase}
+use Rattle.scenario_lines.specs.declared.script.Script.{Script}
+use Rattle.scenario_reader.specs.Facts.{IsScript}
+use Rattle.scenario_runs.specs.Courses.{Course, PlaysPhase, beginning}
+use Rattle.scenario_runs.specs.Plays.{PlaysWhole, run_words}
+use Rattle.serial_runs.specs.PhaseLaws.{IsRunAlone}
+use Rattle.serial_runs.specs.Phases.{IsSerial, SolePhase, phase_alone}
+use Rattle.serial_runs.specs.RoundLaws.{AreReps}
+use Rattle.serial_runs.specs.Scripts.{IsSerialScript, SoleCourse, behind_phase, begun_alone, board_at, phases_alone, script_alone, summary_alone, words_alone}
+use Rattle.serial_runs.proofs.Calls.{doubts_both}
+use Rattle.serial_runs.proofs.PhaseAlone.{phase_is_alone}
+use Rattle.serial_runs.proofs.PhaseReps.{phase_reps, script_reps}
+
+module _ {D : Type 0} (told : D → Option Past) (script : Script) where
+  -- a course as that of a run that is alone
+  abbrev pub course_alone : Course D → SoleCourse
+  course_alone s = record { actors = s.actors; board = board_at s.board; answers = s.answers; reports = s.reports; text = s.text }
+
+  pub goes_all : (ps : List Phase) (s s' : Course D) → Each (PlaysPhase told script) ps s s' → (fresh : List Item) × GoesOn told fresh s.board s'.board
+  goes_all [] s s' f = ([], subst (λ (x : Course D). GoesOn told [] s.board x.board) (sym f) (goes_nowhere told s.board))
+  goes_all (p ∷ ps) s s' f =
+      let rest = goes_all ps f.0 s' f.2 in
+      (f.1.ran.fresh ++ rest.0, goes_further told s.board f.0.board s'.board f.1.ran.fresh rest.0 f.1.ran.goes rest.1)
+
+  calm_before : (fresh : List Item) (m w : View D) → GoesOn told fresh m w → doubts_in w.log ≡ 0 → doubts_in m.log ≡ 0
+  calm_before fresh m w goes calm = omega (arith, doubts_both m.log fresh, ap doubts_in goes.grows, calm)
+
+  one_phase : (p : Phase) (s m : Course D) → PlaysPhase told script p s m → IsSerial p → doubts_in m.board.log ≡ 0 → AreReps (reps_of s.actors)
+      → course_alone m ≡ behind_phase script p (course_alone s) (phase_alone p s.actors (board_at s.board))
+  one_phase p s m h serial calm are =
+      let one = phase_is_alone told p s.actors m.actors h.parts h.report s.board m.board serial h.ran calm are in
+      let answers = h.answers in
+      let reports = h.reports in
+      let text = h.text in
+      (λ i. record { actors = m.actors; board = board_at m.board; answers = answers i; reports = reports i; text = text i })
+      ∙ ap (λ (x : SolePhase). behind_phase script p (course_alone s) x) (sym one)
+
+  pub phases_all : (ps : List Phase) (s s' : Course D) → Each (PlaysPhase told script) ps s s' → ((p : Phase) → Contains ps p → IsSerial p)
+      → doubts_in s'.board.log ≡ 0 → AreReps (reps_of s.actors) → course_alone s' ≡ phases_alone script ps (course_alone s)
+  phases_all [] s s' f serial calm are = ap course_alone f
+  phases_all (p ∷ ps) s s' f serial calm are =
+      let goes = goes_all ps f.0 s' f.2 in
+      let calm_m = calm_before goes.0 f.0.board s'.board goes.1 calm in
+      let one = one_phase p s f.0 f.1 (serial p (inside_first p ps)) calm_m are in
+      let are_m = phase_reps told p s.actors f.0.actors f.1.parts f.1.report s.board f.0.board f.1.ran calm_m are in
+      phases_all ps f.0 s' f.2 (λ q inside. serial q (inside_rest q p ps inside)) calm are_m
+      ∙ ap (λ (x : SoleCourse). phases_alone script ps x) one
+
+  -- the text of a course, and the summary
+  abbrev all_words : SoleCourse → ℕ → List ℕ
+  all_words c n = c.text ++ line_text (summary_data (summary_alone c.board n))
+
+  module _ (answers : List Answered) (reports : List Report) (v w : View D) (held held' : Option (List ℕ)) (faults faults' : ℕ)
+      (is : IsScript script) (serial : IsSerialScript script) (h : PlaysWhole told script ending.Done answers reports v w held held' faults faults') where
+    all_ran : script.phases ≡ h.ran
+    all_ran = h.ends.first.split ∙ ap (λ (ps : List Phase). h.ran ++ ps) h.over.0 ∙ append-nil h.ran
+
+    last_is : course_alone h.last ≡ script_alone script (board_at v)
+    last_is =
+        phases_all h.ran (beginning script v) h.last h.ends.first.each
+        (λ p inside. serial p (subst (λ (ps : List Phase). Contains ps p) (sym all_ran) inside))
+        (sym (ap (λ (x : View D). doubts_in x.log) h.ends.board) ∙ h.over.1) (script_reps script is)
+        ∙ ap (λ (ps : List Phase). phases_alone script ps (begun_alone script (board_at v))) (sym all_ran)
+
+    words_are : run_words h.last (length h.ran) ≡ words_alone script (board_at v)
+    words_are =
+        ap (λ (c : SoleCourse). all_words c (length h.ran)) last_is
+        ∙ ap (λ (ps : List Phase). all_words (script_alone script (board_at v)) (length ps)) (sym all_ran)
+
+    goes : (fresh : List Item) × GoesOn told fresh v w
+    goes =
+        let g = goes_all h.ran (beginning script v) h.last h.ends.first.each in
+        (g.0, subst (λ (x : View D). GoesOn told g.0 v x) (sym h.ends.board) g.1)
+
+    pub run_alone : IsRunAlone told script answers reports v w held held' faults faults'
+    run_alone = record {
+      answers_are = h.ends.answers_are ∙ ap (λ (c : SoleCourse). c.answers) last_is;
+      reports_are = h.ends.reports_are ∙ ap (λ (c : SoleCourse). c.reports) last_is;
+      board = ap board_at h.ends.board ∙ ap (λ (c : SoleCourse). c.board) last_is;
+      prints = subst (λ (words : List ℕ). PrintsTo true words held held' faults faults') words_are h.prints;
+      fresh = goes.0;
+      grows = goes.1.grows;
+      writes = λ waits. goes.1.writes waits (omega (arith, doubts_both v.log goes.0, ap doubts_in goes.1.grows, h.over.1));
+    }
+
+pub run_is_alone : {D : Type 0} (told : D → Option Past) (script : Script) (answers : List Answered) (reports : List Report) (v w : View D)
+    (held held' : Option (List ℕ)) (faults faults' : ℕ) → IsScript script → IsSerialScript script
+    → PlaysWhole told script ending.Done answers reports v w held held' faults faults' → IsRunAlone told script answers reports v w held held' faults faults'
+run_is_alone told script answers reports v w held held' faults faults' is serial h = run_alone told script answers reports v w held held' faults faults' is serial h
