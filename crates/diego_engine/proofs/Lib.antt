@@ -3,3 +3,4 @@ pub mod Faithful
 pub mod SinceEntry
 pub mod Spoken
 pub mod TopLaws
+pub mod Serial

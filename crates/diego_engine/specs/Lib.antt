@@ -1,3 +1,4 @@
 pub mod Headline
 pub mod InMemory
 pub mod Top
+pub mod Serial

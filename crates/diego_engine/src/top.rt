@@ -16,6 +16,7 @@ ghost use Rattle.program_edge.specs.declared.ending.Ending.{Ending as AnEnding};
 ghost use Rattle.still_words.specs.Words.{asked_of};
 ghost use Rattle.still_words.specs.declared.words.Asked.TheVariants as wanted;
 ghost use Rattle.diego_engine.specs.Headline.{Headline};
+ghost use Rattle.diego_engine.specs.Serial.{RunsSerially};
 ghost use Rattle.diego_engine.specs.Top.{ProgramEnds, Meets, RunsWhole};
 ghost use Rattle.program_run.specs.Reading.{ReadsAs, TellsAs, limit};
 ghost use Rattle.scenario_reader.specs.declared.fault.ScriptFault.{ScriptFault as AFault};
@@ -23,8 +24,9 @@ ghost use Rattle.scenario_reader.specs.declared.fault.ScriptFault.{ScriptFault a
 use byte_ports::{Gate, Sink, Source};
 use disk_trait::Disk;
 use program_edge::{TopEnd, number_of};
-use run_laws::played_runs_are_faithful;
 use program_run::{Ended, run};
+use run_laws::played_runs_are_faithful;
+use serial_runs::runs_are_alone;
 use std::alloc::Global;
 use still_words::{Asked, read_words, still_top};
 
@@ -174,6 +176,23 @@ pub fn diego_top<S: Source, K: Sink, D: Disk, G: Gate>(
         (ports_of (K.held result.sink) (K.faults result.sink)
         (D.told result.disk) (D.fault_count result.disk) (D.moment result.disk)) }
 
+    // Where each phase has one actor or a round alone, all of that is a function of the scenario and the
+    // board: the answers, the reports, the log, the text, and what the disk reads afterwards.
+    ensures serial { result.status ≡ 0
+        → asked_of (map (λ w. string_bytes w) words.now) ≡ Some wanted.Run
+        → (how : AnEnding) × RunsSerially
+        (record {
+          ending = how;
+          log = result.log;
+          marks = result.marks;
+          answers = result.answers;
+          reports = result.reports;
+        })
+        (S.left source) (S.left result.source)
+        (ports_of (K.held sink) (K.faults sink) (D.told disk) (D.fault_count disk) (D.moment disk))
+        (ports_of (K.held result.sink) (K.faults result.sink)
+        (D.told result.disk) (D.fault_count result.disk) (D.moment result.disk)) }
+
     // With a scenario and a board, and without a fault, all is done unless memory runs out.
     ensures complete { asked_of (map (λ w. string_bytes w) words.now) ≡ Some wanted.Run
         → Meets (S.left source) (D.told disk)
@@ -184,5 +203,6 @@ pub fn diego_top<S: Source, K: Sink, D: Disk, G: Gate>(
         → (result.status ≡ 0) ⊎ (result.status ≡ 7) }
 {
     played_runs_are_faithful::<D>();
+    runs_are_alone::<D>();
     whole_top(alloc, words, source, sink, disk, gate)
 }

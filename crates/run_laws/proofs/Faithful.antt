@@ -194,7 +194,7 @@ module _ {D : Type 0} (told : D → Option Past) (script : Script) where
     base_kept ending.Unwritten p = base_part p
     base_kept ending.OutOfMemory p = base_cut p p.board
     base_kept ending.Usage p = absurd p
-    base_kept ending.Script p = absurd p
+    base_kept (ending.Script fault) p = absurd p
     base_kept ending.Read p = absurd p
     base_kept ending.Unopened p = absurd p
     base_kept (ending.NotABoard area) p = absurd p

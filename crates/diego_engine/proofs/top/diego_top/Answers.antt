@@ -3,13 +3,14 @@ use Rattle.std.specs.Prelude.{◌==◌}
 use Rattle.program_edge.specs.Opening.{is_before_board}
 use Rattle.diego_engine.proofs.Faithful.{headline_from}
 use Rattle.diego_engine.proofs.Recoveries.{doubts_from}
+use Rattle.diego_engine.proofs.Serial.{serially}
 use Rattle.diego_engine.proofs.TopLaws.{usage_from, usage_to, script_from, unwritten_from, unstored_from, refused_from, too_long_from, exists_from, untouched_from, done_from, complete_from, no_script_from}
 use Rattle.diego_engine.proofs.top.diego_top.Goals as goal
 
 pub returns-clause-headline : goal.returns-clause-headline
 returns-clause-headline g c is =
     let (how, status, ends) = c.whole_top.ensures.ends in
-    (how, status, headline_from g.D.Disk.told g.D.Disk.fault_count g.D.Disk.moment c.played_runs_are_faithful.ensures _ _ _ _ _ how _ is ends)
+    (how, status, headline_from g.D.Disk.told g.D.Disk.fault_count g.D.Disk.moment c.played_runs_are_faithful.ensures.faithful _ _ _ _ _ how _ is ends)
 
 pub returns-clause-doubts : goal.returns-clause-doubts
 returns-clause-doubts g c = let (how, status, ends) = c.whole_top.ensures.ends in doubts_from g.D.Disk.told g.D.Disk.fault_count g.D.Disk.moment _ _ _ _ _ how _ ends
@@ -52,6 +53,12 @@ returns-clause-complete g c is meets told source sink disk =
 
 pub returns-clause-done : goal.returns-clause-done
 returns-clause-done g c n is = let (how, status, ends) = c.whole_top.ensures.ends in (how, done_from g.D.Disk.told g.D.Disk.fault_count g.D.Disk.moment _ _ _ _ _ how _ (sym status ∙ n) is ends)
+
+pub returns-clause-serial : goal.returns-clause-serial
+returns-clause-serial g c n is =
+    let (how, status, ends) = c.whole_top.ensures.ends in
+    (how, serially g.D.Disk.told g.D.Disk.fault_count g.D.Disk.moment c.runs_are_alone.ensures _ _ _ _ _
+    (done_from g.D.Disk.told g.D.Disk.fault_count g.D.Disk.moment _ _ _ _ _ how _ (sym status ∙ n) is ends))
 
 pub returns-clause-no_script : goal.returns-clause-no_script
 returns-clause-no_script g c fault is tells source =

@@ -1,0 +1,40 @@
+-- A run whose phases are serial, each with one actor or a round alone: what it does and tells is a function of the
+-- scenario and of the board.
+use Rattle.std.specs.Prelude.{◌≡◌, true, ℕ, List, [], Option, Ok}
+use Rattle.disk_trait.specs.Past.{Image}
+use Rattle.disk_trait.specs.Shows.{Shows}
+use Rattle.disk_trait.specs.Steps.{Goes}
+use Rattle.bbs_board.specs.Opening.{IsBoard}
+use Rattle.bbs_board.specs.Written.{WritesOn}
+use Rattle.bbs_model.specs.declared.rows.Rows.{Rows}
+use Rattle.program_edge.specs.Ports.{IsTold, Ports, Prints}
+use Rattle.program_run.specs.Reading.{ReadsAs}
+use Rattle.program_run.specs.declared.ended.Ended.{Ended}
+use Rattle.scenario_lines.specs.declared.script.Script.{Script}
+use Rattle.serial_runs.specs.Boards.{SoleBoard}
+use Rattle.serial_runs.specs.Scripts.{IsSerialScript, SoleCourse, script_alone, words_alone}
+
+-- a board with these rows, on which nothing was done yet
+abbrev pub opened_with : Rows → SoleBoard
+opened_with rows = record { base = rows; log = [] }
+
+-- what a scenario comes to on a board with these rows
+abbrev pub course_on : Script → Rows → SoleCourse
+course_on script rows = script_alone script (opened_with rows)
+
+-- the answers, the reports, the log and the whole text are what the scenario comes to on that board, and the disk reads
+-- as it did, with each item behind that was done
+pub record IsSerialRun (script : Script) (rows : Rows) (e : Ended) (v w : Ports) : Type 0 where
+  pub answers_are : e.answers.items ≡ (course_on script rows).answers
+  pub reports_are : e.reports.items ≡ (course_on script rows).reports
+  pub log_is : e.log.items ≡ (course_on script rows).board.log
+  pub prints : Prints true (words_alone script (opened_with rows)) v w
+  pub writes : Goes v.told w.told (WritesOn e.log.items)
+
+-- a scenario was read and a board with these rows opened; and if its phases are serial, all else follows from the two
+pub record RunsSerially (e : Ended) (left left' : Option (List ℕ)) (v w : Ports) : Type 0 where
+  pub script : Script
+  pub rows : Rows
+  pub reads : ReadsAs (Ok script) left left'
+  pub opened : (image : Image) → Shows v.told image → IsTold w.told → IsBoard rows image
+  pub serial : IsSerialScript script → IsSerialRun script rows e v w
