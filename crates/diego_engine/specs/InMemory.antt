@@ -76,7 +76,7 @@ EndsInMemory how (Some asked.Records) e left left' v w = EndsWithoutRun how (Som
 EndsInMemory how (Some asked.Check) e left left' v w = EndsWithoutRun how (Some asked.Check) e left left' v w
 EndsInMemory how None e left left' v w = EndsWithoutRun how None e left left' v w
 
--- a scenario was read and the board of the disk opened, every phase ran on it, the whole text was written, and no fault
--- was met
+-- a scenario was read and the board of the disk opened, every phase ran on it, nothing is in doubt, and the whole text
+-- was written
 abbrev pub RunsWholeInMemory : Ended → Option (List ℕ) → Option (List ℕ) → Ports → Ports → Type 0
 RunsWholeInMemory e left left' v w = RunsScriptInMemory ending.Done e left left' v w

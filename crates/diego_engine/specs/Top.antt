@@ -39,7 +39,7 @@ pub record Meets (left : Option (List ℕ)) (told : Option Past) : Type 0 where
   pub shows : Shows told image
   pub board : IsBoard rows image
 
--- a scenario was read and a board opened, every phase ran on it, the whole text was written, and no fault was met
+-- a scenario was read and a board opened, every phase ran on it, nothing is in doubt, and the whole text was written
 abbrev pub RunsWhole : {D : Type 0} → (D → Option Past) → (D → ℕ) → (D → ℕ) → Ended →
     Option (List ℕ) → Option (List ℕ) → Ports → Ports → Type 0
 RunsWhole told faults moment e left left' v w = RunsScript told faults moment ending.Done e left left' v w

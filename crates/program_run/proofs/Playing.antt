@@ -1,5 +1,5 @@
 -- A scenario that was played on a board that is closed.
-use Rattle.std.proofs.Common.{◌≡◌, ℕ, List, Option, refl, sym, subst, ◌∙◌}
+use Rattle.std.proofs.Common.{◌≡◌, ℕ, List, ◌++◌, Option, refl, sym, ap, subst, ◌∙◌}
 use Rattle.std.specs.Option.{ForSome}
 use Rattle.disk_trait.specs.Past.{Past}
 use Rattle.disk_trait.specs.Runs.{Extends}
@@ -11,6 +11,7 @@ use Rattle.bbs_model.specs.declared.rows.Rows.{Rows}
 use Rattle.bbs_board.specs.Doubts.{doubts_in, RoseForEach}
 use Rattle.bbs_board.specs.Kept.{Kept}
 use Rattle.bbs_board.specs.View.{View, IsFresh}
+use Rattle.bbs_board.specs.Written.{WritesOn}
 use Rattle.phase_runs.specs.Boards.{GoesOn}
 use Rattle.program_edge.specs.Ports.{Ports}
 use Rattle.program_edge.specs.declared.ending.Ending.{Ending}
@@ -53,6 +54,18 @@ module _ {D : Type 0} (told : D → Option Past) (faults moment : D → ℕ) (sc
         subst (λ (t : Option Past). Goes t w.told Extends) (sym opened.told_is)
         (subst (λ (t : Option Past). Goes (told board.disk) t Extends) (sym closed.told_is) goes.disk)
 
+    -- the items are those that came behind an empty log
+    fresh_is : IsFresh board → fresh ≡ e.log.items
+    fresh_is begin = sym (log ∙ goes.grows ∙ ap (λ (l : List Item). l ++ fresh) begin.log)
+
+    writes : IsFresh board → doubts_in e.log.items ≡ 0 → Goes v.told w.told (WritesOn e.log.items)
+    writes begin none =
+        let same : fresh ≡ e.log.items = fresh_is begin in
+        subst (λ (l : List Item). Goes v.told w.told (WritesOn l)) same
+        (subst (λ (t : Option Past). Goes t w.told (WritesOn fresh)) (sym opened.told_is)
+        (subst (λ (t : Option Past). Goes (told board.disk) t (WritesOn fresh)) (sym closed.told_is)
+        (goes.writes begin.calm (ap doubts_in same ∙ none)).1))
+
     on : IsFresh board → Plays told script how e.answers.items e.reports.items board left v.held w.held v.write_faults w.write_faults
         → PlaysOn told faults moment script board.base how e v w
     on begin plays = record {
@@ -67,6 +80,7 @@ module _ {D : Type 0} (told : D → Option Past) (faults moment : D → ℕ) (sc
       log = log;
       marks = marks;
       extends = extends;
+      writes = writes begin;
       valid = subst (λ (x : Rows). IsValid x) goes.base gives.lawful.0;
       lawful = subst (λ (x : Rows). IsLawful x e.log.items) goes.base
           (subst (λ (x : List Item). IsLawful left.base x) (sym log) gives.lawful.1);

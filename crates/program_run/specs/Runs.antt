@@ -11,6 +11,7 @@ use Rattle.bbs_model.specs.declared.rows.Rows.{Rows}
 use Rattle.bbs_board.specs.Doubts.{doubts_in, RoseForEach}
 use Rattle.bbs_board.specs.Kept.{Kept}
 use Rattle.bbs_board.specs.View.{View, IsFresh}
+use Rattle.bbs_board.specs.Written.{WritesOn}
 use Rattle.program_edge.specs.Opening.{EndsUnopened, EndsUntouched, Opens}
 use Rattle.program_edge.specs.Ports.{Ports}
 use Rattle.program_edge.specs.declared.ending.Ending.{Ending}
@@ -36,7 +37,8 @@ pub record IsOn {D : Type 0} (told : D → Option Past) (faults moment : D → �
 
 -- a scenario was played on a board with these rows, which was loaded then and did nothing before, and was closed; each
 -- command in the log that it left is legal at its place, whatever a stop leaves of the disk from then on is a board that
--- the log reaches with what was acknowledged, and each doubt in the log has a fault of the disk for its cause
+-- the log reaches with what was acknowledged, and each doubt in the log has a fault of the disk for its cause; where
+-- nothing is in doubt the disk reads as it did, with the items of the log behind it
 pub record PlaysOn {D : Type 0} (told : D → Option Past) (faults moment : D → ℕ) (script : Script) (rows : Rows)
     (how : Ending) (e : Ended) (v w : Ports) : Type 0 where
   pub board : View D
@@ -50,6 +52,7 @@ pub record PlaysOn {D : Type 0} (told : D → Option Past) (faults moment : D �
   pub log : e.log.items ≡ left.log
   pub marks : e.marks.items ≡ left.marks
   pub extends : Goes v.told w.told Extends
+  pub writes : doubts_in e.log.items ≡ 0 → Goes v.told w.told (WritesOn e.log.items)
   pub valid : IsValid rows
   pub lawful : IsLawful rows e.log.items
   pub kept : ForSome w.told (Kept rows e.log.items e.marks.items v.clock)
