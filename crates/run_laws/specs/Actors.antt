@@ -54,7 +54,8 @@ abbrev pub ends_behind : Moment → Option Loss → CellRep → Option WireEnds
 ends_behind now mark rep = moved_all (drain_todo now rep.cell rep.joined ∷ []) (ends_under mark)
 
 -- and it settled each of its containers, if the board agreed to that
-pub record HasEmptied (now : Moment) (mark : Option Loss) (rep : CellRep) (calls : List Called) (rep' : CellRep) : Type 0 where
+pub record HasEmptied (now : Moment) (mark : Option Loss) (rep : CellRep) (calls : List Called)
+    (rep' : CellRep) : Type 0 where
   pub drain : Called
   pub mid : CellRep
   pub drained : HasDrained now mark rep drain mid
@@ -66,7 +67,8 @@ pub record HasEmptied (now : Moment) (mark : Option Loss) (rep : CellRep) (calls
 
 -- an actor did an act once, under the mark of what is lost of it
 abbrev pub DoesOnce : Moment → Act → Option Loss → ActorState → List Called → ActorState → Type 0
-DoesOnce now (act.Client op) mark (actor.Client name) calls a' = (a' ≡ actor.Client name) × HasCalled (at now op) mark calls
+DoesOnce now (act.Client op) mark (actor.Client name) calls a' =
+    (a' ≡ actor.Client name) × HasCalled (at now op) mark calls
 DoesOnce now (act.Client op) mark (actor.Cell rep) calls a' = ⊥
 DoesOnce now (act.Cell c) mark (actor.Client name) calls a' = ⊥
 DoesOnce now (act.Cell c) mark (actor.Cell rep) calls a' =

@@ -37,7 +37,8 @@ pub record ComesTo (base : Rows) (log : List Item) (place : ℕ) (c : Command) (
 -- doubt there and was legal; want of memory, that it was legal at some place
 abbrev pub Tells : Rows → List Item → ℕ → Command → Result Reply CallFault → Type 0
 Tells base log by c (Ok (reply.Ok place stamp)) =
-    (slice_get log place ≡ Some (Done by c)) × ComesTo base log place c verdict.Ok × (stamp ≡ (rows_at base log place).next)
+    (slice_get log place ≡ Some (Done by c)) × ComesTo base log place c verdict.Ok
+    × (stamp ≡ (rows_at base log place).next)
 Tells base log by c (Ok (reply.Same place)) = ComesTo base log place c verdict.Same
 Tells base log by c (Ok (reply.Refused why place)) = ComesTo base log place c (verdict.Refused why)
 Tells base log by c (Err (fault.Disk place)) =

@@ -29,8 +29,8 @@ pub record NextIsCut (base : Rows) (log : List Item) (rest : List Phase) (s : Po
   pub split : rest ≡ phase ∷ more
   pub cut : PhaseIsCut base log phase s
 
--- where a run ends: with status 0 all phases ended, and nothing is in doubt; with 5 something is in doubt, behind all
--- items of which no phase was begun; with 4 no phase was begun either; with 7 none was, or the next one was cut off
+-- where a run ends. With status 0 all phases ended and nothing is in doubt; with 5 something is in doubt; with both and
+-- with 4 nothing is behind the phases that ended. With 7 nothing is either, or the next phase was cut off
 abbrev pub RunEndsAt : Ending → Rows → List Item → List Phase → Point → Type 0
 RunEndsAt ending.Done base log rest s = (s.place ≡ length log) × (rest ≡ []) × (doubts_in log ≡ 0)
 RunEndsAt ending.Doubt base log rest s = (s.place ≡ length log) × (0 < doubts_in log)
@@ -66,8 +66,8 @@ pub record HasConverged (script : Script) (base : Rows) (log : List Item) (r : R
 
 -- For every interleaving, and every lost or repeated call: each reply is the step's at its place of the log; a legal
 -- command is refused only for a fault of the disk (or for memory, and then nothing is told of its phase); the log is a
--- shuffle of what the actors and the rounds did; no task completes twice; each complete round leaves exactly one ordinary
--- live or backing-off instance per desired index and none undesired.
+-- shuffle of what the actors and the rounds did; no task completes twice; each complete round leaves exactly one
+-- ordinary live or backing-off instance per desired index and none undesired.
 pub record IsFaithful (script : Script) (how : Ending) (answers : List Answered) (reports : List Report) (base : Rows)
     (log : List Item) : Type 0 where
   pub replies : (a : Answered) → Contains answers a → IsTrueOf base log a
