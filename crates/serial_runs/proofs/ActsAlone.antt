@@ -15,7 +15,7 @@ use Rattle.cell_rep.specs.declared.todo.Todo.TheVariants as todo
 use Rattle.crash_backoff.specs.declared.moment.Moment.{Moment}
 use Rattle.evacuation.specs.Evacuation.{Evacuates, is_agreed}
 use Rattle.actor_runs.specs.Runs.{is_any_starved, is_starved_end}
-use Rattle.serial_runs.specs.ActLaws.{StandsAt}
+use Rattle.serial_runs.specs.ActLaws.{AgreesWith}
 use Rattle.serial_runs.specs.Acts.{SoleRep, act_alone, drain_end, draining_todo, evacuate_alone, todo_alone, todos_alone}
 use Rattle.serial_runs.specs.Quiet.{IsUndisturbed}
 use Rattle.serial_runs.proofs.Follows.{later_followed, performed_alone}
@@ -24,12 +24,12 @@ use Rattle.serial_runs.proofs.Quiets.{alone_first, alone_second, none_first}
 pub later_performed : (by : ℕ) (actor : List ℕ) (ts : List Todo) (s s' : Stage) → Performs by actor ts s s' → IsLater s.view s'.view
 later_performed by actor ts s s' h = later_followed by actor s.ends ts s.rep s.view h.new s'.rep s'.view h.follows
 
-pub acted_alone : (by : ℕ) (a : CellAct) (now : Moment) (s s' : Stage) (x : SoleRep) → Acts by a now s s' → StandsAt s x
-    → IsUndisturbed s.view s'.view → is_any_starved s'.out ≡ false → StandsAt s' (act_alone by a now x)
+pub acted_alone : (by : ℕ) (a : CellAct) (now : Moment) (s s' : Stage) (x : SoleRep) → Acts by a now s s' → AgreesWith s x
+    → IsUndisturbed s.view s'.view → is_any_starved s'.out ≡ false → AgreesWith s' (act_alone by a now x)
 acted_alone by a now s s' x h at alone fed =
     let there = performed_alone by s.rep.cell (plan a now s.rep) (record s { rep = begun a s.rep }) s' (record x { rep = begun a s.rep }) h
     (record { rep_is = refl; board = at.board; ends_are = at.ends_are; out_is = at.out_is }) alone fed in
-    subst (λ (r : CellRep). StandsAt s' (todos_alone by r.cell (plan a now r) (record x { rep = begun a r }))) (sym at.rep_is) there
+    subst (λ (r : CellRep). AgreesWith s' (todos_alone by r.cell (plan a now r) (record x { rep = begun a r }))) (sym at.rep_is) there
 
 -- the last of a list
 last_same : (xs : List Called) (y z : Called) → xs ++ y ∷ [] ≡ xs ++ z ∷ [] → y ≡ z
@@ -44,10 +44,10 @@ end_told (todo.Call c) e = refl
 end_told todo.Idle e = refl
 end_told (todo.Local why) e = refl
 
-settled_if : (b : Bool) (by : ℕ) (now : Moment) (m w : Stage) (x : SoleRep) → MatchBool b (Acts by act.Settle now m w) (w ≡ m) → StandsAt m x
-    → IsUndisturbed m.view w.view → is_any_starved w.out ≡ false → StandsAt w (cond b (act_alone by act.Settle now x) x)
+settled_if : (b : Bool) (by : ℕ) (now : Moment) (m w : Stage) (x : SoleRep) → MatchBool b (Acts by act.Settle now m w) (w ≡ m) → AgreesWith m x
+    → IsUndisturbed m.view w.view → is_any_starved w.out ≡ false → AgreesWith w (cond b (act_alone by act.Settle now x) x)
 settled_if true by now m w x h at alone fed = acted_alone by act.Settle now m w x h at alone fed
-settled_if false by now m w x h at alone fed = subst (λ (s : Stage). StandsAt s x) (sym h) at
+settled_if false by now m w x h at alone fed = subst (λ (s : Stage). AgreesWith s x) (sym h) at
 
 later_settled : (b : Bool) (by : ℕ) (now : Moment) (m w : Stage) → MatchBool b (Acts by act.Settle now m w) (w ≡ m) → IsLater m.view w.view
 later_settled true by now m w h = later_performed by m.rep.cell (plan act.Settle now m.rep) (record m { rep = begun act.Settle m.rep }) w h
@@ -64,15 +64,15 @@ later_evacuated by now s w h =
     (later_performed by s.rep.cell (drain_todo now s.rep.cell s.rep.joined ∷ []) s h.middle h.drained.performs)
     (later_settled (is_agreed h.answer.end) by now h.middle w h.settled)
 
-pub evacuated_alone : (by : ℕ) (now : Moment) (s w : Stage) (x : SoleRep) → Evacuates by now s w → StandsAt s x
-    → IsUndisturbed s.view w.view → is_any_starved w.out ≡ false → StandsAt w (evacuate_alone by now x)
+pub evacuated_alone : (by : ℕ) (now : Moment) (s w : Stage) (x : SoleRep) → Evacuates by now s w → AgreesWith s x
+    → IsUndisturbed s.view w.view → is_any_starved w.out ≡ false → AgreesWith w (evacuate_alone by now x)
 evacuated_alone by now s w x h at alone fed =
     let m : Stage = h.middle in
     let one_later = later_performed by s.rep.cell (drain_todo now s.rep.cell s.rep.joined ∷ []) s m h.drained.performs in
     let rest_later = later_settled (is_agreed h.answer.end) by now m w h.settled in
     let there = performed_alone by s.rep.cell (drain_todo now s.rep.cell s.rep.joined ∷ []) s m x h.drained.performs at
     (alone_first s.view m.view w.view one_later rest_later alone) (starts_out (is_agreed h.answer.end) by now m w h.settled fed) in
-    let drained = subst (λ (r : CellRep). StandsAt m (todo_alone by r.cell (drain_todo now r.cell r.joined) x)) (sym at.rep_is) there in
+    let drained = subst (λ (r : CellRep). AgreesWith m (todo_alone by r.cell (drain_todo now r.cell r.joined) x)) (sym at.rep_is) there in
     let last : answer_to (draining_todo now x) (drain_end now x) ≡ h.answer =
     last_same x.out (answer_to (draining_todo now x) (drain_end now x)) h.answer
     (drained.out_is ∙ h.drained.out_is ∙ ap (λ (xs : List Called). xs ++ h.answer ∷ []) (sym at.out_is)) in

@@ -11,7 +11,7 @@ use Rattle.cell_rep.specs.declared.rep.CellRep.{CellRep}
 use Rattle.cell_rep.specs.declared.todo.Todo.{Todo}
 use Rattle.cell_rep.specs.declared.todo.Todo.TheVariants as todo
 use Rattle.converge_round.specs.Starts.{HasNoFault}
-use Rattle.serial_runs.specs.ActLaws.{IsAsAlone, StandsAt}
+use Rattle.serial_runs.specs.ActLaws.{IsAsAlone, AgreesWith}
 use Rattle.serial_runs.specs.Acts.{SoleRep, done_alone, end_of, ends_behind, next_end, todo_alone, todos_alone}
 use Rattle.serial_runs.specs.Boards.{SoleBoard, board_seen}
 use Rattle.serial_runs.specs.Quiet.{IsUndisturbed}
@@ -92,8 +92,8 @@ followed_alone by actor (t ∷ ts) rep v ends out (a ∷ as') rep' w f alone fed
       out_is = there.out_is ∙ append_assoc out (a ∷ []) as';
     }
 
-pub performed_alone : (by : ℕ) (actor : List ℕ) (ts : List Todo) (s s' : Stage) (x : SoleRep) → Performs by actor ts s s' → StandsAt s x
-    → IsUndisturbed s.view s'.view → is_any_starved s'.out ≡ false → StandsAt s' (todos_alone by actor ts x)
+pub performed_alone : (by : ℕ) (actor : List ℕ) (ts : List Todo) (s s' : Stage) (x : SoleRep) → Performs by actor ts s s' → AgreesWith s x
+    → IsUndisturbed s.view s'.view → is_any_starved s'.out ≡ false → AgreesWith s' (todos_alone by actor ts x)
 performed_alone by actor ts s s' x h at alone fed =
     let follows = subst (λ (e : Option WireEnds). Follows by actor e ts s.rep s.view h.new s'.rep s'.view) at.ends_are h.follows in
     let none = none_second (λ (a : Called). is_starved_end a.end) s.out h.new (sym (ap is_any_starved h.out_is) ∙ fed) in

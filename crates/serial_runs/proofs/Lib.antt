@@ -23,3 +23,4 @@ pub mod PhaseAlone
 pub mod StoresOn
 pub mod PhaseReps
 pub mod ScriptAlone
+pub mod Public

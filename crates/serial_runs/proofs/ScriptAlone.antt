@@ -1,12 +1,15 @@
 -- The run of a scenario whose phases are serial.
-use Rattle.std.proofs.Common.{◌≡◌, ℕ, List, [], ◌∷◌, ◌++◌, length, true, Option, sym, ap, subst, ◌∙◌, arith}
+use Rattle.std.proofs.Common.{◌≡◌, ℕ, List, [], ◌∷◌, ◌++◌, length, true, Option, sym, ap, subst, ◌∙◌, arith, drop, ◌⊎◌, inl, inr, ⊎_elim, refl}
 use Rattle.std.specs.List.{Contains}
 use Rattle.std.proofs.lemmas.List.{append-nil}
+use Rattle.byte_ports.specs.Cause.{Rose}
+use Rattle.program_edge.specs.declared.ending.Ending.{Ending}
+use Rattle.serial_runs.specs.Boards.{SoleBoard}
 use Rattle.disk_trait.specs.Past.{Past}
 use Rattle.bbs_board.specs.Doubts.{doubts_in}
 use Rattle.bbs_board.specs.View.{View}
 use Rattle.bbs_model.specs.declared.item.Item.{Item}
-use Rattle.converge_laws.proofs.Public.{inside_first, inside_rest}
+use Rattle.converge_laws.proofs.Public.{inside_first, inside_rest, first_or_rest}
 use Rattle.converge_round.specs.Each.{Each}
 use Rattle.convergence.specs.declared.report.Report.{Report}
 use Rattle.phase_runs.specs.Boards.{GoesOn}
@@ -20,14 +23,25 @@ use Rattle.scenario_lines.specs.declared.script.Phase.{Phase}
 use Rattle.scenario_lines.specs.declared.script.Script.{Script}
 use Rattle.scenario_reader.specs.Facts.{IsScript}
 use Rattle.scenario_runs.specs.Courses.{Course, PlaysPhase, beginning}
-use Rattle.scenario_runs.specs.Plays.{PlaysWhole, run_words}
-use Rattle.serial_runs.specs.PhaseLaws.{IsRunAlone}
+use Rattle.scenario_runs.specs.Plays.{PlaysWhole, run_words, Plays, PlaysCut, PlaysPart, PlaysUnsummed}
+use Rattle.serial_runs.specs.ScriptLaws.{EndsAlone, IsCutAlone, IsRunAlone}
 use Rattle.serial_runs.specs.Phases.{IsSerial, SolePhase, phase_alone}
 use Rattle.serial_runs.specs.RoundLaws.{AreReps}
-use Rattle.serial_runs.specs.Scripts.{IsSerialScript, SoleCourse, behind_phase, begun_alone, board_at, phases_alone, script_alone, summary_alone, words_alone}
+use Rattle.serial_runs.specs.Scripts.{IsSerialScript, SoleCourse, behind_phase, begun_alone, board_at, phases_alone, script_alone, summary_alone, words_alone, first_alone, items_alone}
 use Rattle.serial_runs.proofs.Calls.{doubts_both}
 use Rattle.serial_runs.proofs.PhaseAlone.{phase_is_alone}
 use Rattle.serial_runs.proofs.PhaseReps.{phase_reps, script_reps}
+
+drop_front : (xs ys : List Item) → drop (length xs) (xs ++ ys) ≡ ys
+drop_front [] ys = refl
+drop_front (x ∷ xs) ys = drop_front xs ys
+
+inside_front : (p : Phase) (xs ys : List Phase) → Contains xs p → Contains (xs ++ ys) p
+inside_front p [] ys inside = absurd (omega (arith, inside.1))
+inside_front p (x ∷ xs) ys inside = ⊎_elim
+    (λ (same : x ≡ p). subst (Contains (x ∷ (xs ++ ys))) same (inside_first x (xs ++ ys)))
+    (λ (rest : Contains xs p). inside_rest p x (xs ++ ys) (inside_front p xs ys rest))
+    (first_or_rest p x xs inside)
 
 module _ {D : Type 0} (told : D → Option Past) (script : Script) where
   -- a course as that of a run that is alone
@@ -90,18 +104,69 @@ module _ {D : Type 0} (told : D → Option Past) (script : Script) where
         let g = goes_all h.ran (beginning script v) h.last h.ends.first.each in
         (g.0, subst (λ (x : View D). GoesOn told g.0 v x) (sym h.ends.board) g.1)
 
-    pub run_alone : IsRunAlone told script answers reports v w held held' faults faults'
-    run_alone = record {
-      answers_are = h.ends.answers_are ∙ ap (λ (c : SoleCourse). c.answers) last_is;
-      reports_are = h.ends.reports_are ∙ ap (λ (c : SoleCourse). c.reports) last_is;
-      board = ap board_at h.ends.board ∙ ap (λ (c : SoleCourse). c.board) last_is;
-      prints = subst (λ (words : List ℕ). PrintsTo true words held held' faults faults') words_are h.prints;
-      fresh = goes.0;
-      grows = goes.1.grows;
-      writes = λ waits. goes.1.writes waits (omega (arith, doubts_both v.log goes.0, ap doubts_in goes.1.grows, h.over.1));
-    }
+    board_is : board_at w ≡ (script_alone script (board_at v)).board
+    board_is = ap board_at h.ends.board ∙ ap (λ (c : SoleCourse). c.board) last_is
 
-pub run_is_alone : {D : Type 0} (told : D → Option Past) (script : Script) (answers : List Answered) (reports : List Report) (v w : View D)
+    items_are : goes.0 ≡ items_alone script (board_at v)
+    items_are =
+        sym (ap (drop (length v.log)) goes.1.grows ∙ drop_front v.log goes.0)
+        ∙ ap (λ (b : SoleBoard). drop (length v.log) b.log) board_is
+
+    pub whole_run : IsRunAlone told script answers reports v w held held' faults faults'
+    whole_run =
+        let g = subst (λ (xs : List Item). GoesOn told xs v w) items_are goes.1 in
+        record {
+          answers_are = h.ends.answers_are ∙ ap (λ (c : SoleCourse). c.answers) last_is;
+          reports_are = h.ends.reports_are ∙ ap (λ (c : SoleCourse). c.reports) last_is;
+          prints = subst (λ (words : List ℕ). PrintsTo true words held held' faults faults') words_are h.prints;
+          board = board_is;
+          grows = g.grows;
+          writes = λ waits. g.writes waits (omega (arith, doubts_both v.log (items_alone script (board_at v)), ap doubts_in g.grows, h.over.1));
+        }
+
+  -- memory ran out behind some phases
+  pub cut_alone : (answers : List Answered) (reports : List Report) (v w : View D) (held held' : Option (List ℕ)) (faults faults' : ℕ)
+      → IsScript script → IsSerialScript script → PlaysCut told script answers reports v w held held' faults faults' → doubts_in w.log ≡ 0
+      → IsCutAlone script answers reports v held held' faults faults'
+  cut_alone answers reports v w held held' faults faults' is serial h calm =
+      let calm_last : doubts_in h.last.board.log ≡ 0 =
+      ⊎_elim (λ (same : w ≡ h.last.board). sym (ap (λ (x : View D). doubts_in x.log) same) ∙ calm) (λ cut. cut.calm) h.board in
+      let last_is : course_alone h.last ≡ first_alone script h.ran (board_at v) =
+      phases_all h.ran (beginning script v) h.last h.first.each
+      (λ p inside. serial p (subst (λ (ps : List Phase). Contains ps p) (sym h.first.split) (inside_front p h.ran h.rest inside)))
+      calm_last (script_reps script is) in
+      record {
+        ran = h.ran;
+        rest = h.rest;
+        split = h.first.split;
+        answers_are = h.answers_are ∙ ap (λ (c : SoleCourse). c.answers) last_is;
+        reports_are = h.reports_are ∙ ap (λ (c : SoleCourse). c.reports) last_is;
+        prints = subst (λ (words : List ℕ). PrintsTo true words held held' faults faults') (ap (λ (c : SoleCourse). c.text) last_is) h.prints;
+      }
+
+pub whole_is_alone : {D : Type 0} (told : D → Option Past) (script : Script) (answers : List Answered) (reports : List Report) (v w : View D)
     (held held' : Option (List ℕ)) (faults faults' : ℕ) → IsScript script → IsSerialScript script
     → PlaysWhole told script ending.Done answers reports v w held held' faults faults' → IsRunAlone told script answers reports v w held held' faults faults'
-run_is_alone told script answers reports v w held held' faults faults' is serial h = run_alone told script answers reports v w held held' faults faults' is serial h
+whole_is_alone told script answers reports v w held held' faults faults' is serial h = whole_run told script answers reports v w held held' faults faults' is serial h
+
+-- the sink failed
+unwritten : {D : Type 0} (told : D → Option Past) (script : Script) (answers : List Answered) (reports : List Report) (v w : View D)
+    (held held' : Option (List ℕ)) (faults faults' : ℕ)
+    → PlaysPart told script answers reports v w held held' faults faults' ⊎ PlaysUnsummed told script answers reports v w held held' faults faults'
+    → Rose faults faults'
+unwritten told script answers reports v w held held' faults faults' h =
+    ⊎_elim (λ p. p.prints.part.cause.rose refl) (λ u. u.prints.part.cause.rose refl) h
+
+pub ends_alone : {D : Type 0} (told : D → Option Past) (script : Script) (how : Ending) (answers : List Answered) (reports : List Report) (v w : View D)
+    (held held' : Option (List ℕ)) (faults faults' : ℕ) → IsScript script → IsSerialScript script
+    → Plays told script how answers reports v w held held' faults faults' → doubts_in w.log ≡ 0 → (Rose faults faults' → ⊥)
+    → EndsAlone told script how answers reports v w held held' faults faults'
+ends_alone told script ending.Done answers reports v w held held' faults faults' is serial h calm stood =
+    inl (refl, whole_is_alone told script answers reports v w held held' faults faults' is serial h)
+ends_alone told script ending.Doubt answers reports v w held held' faults faults' is serial h calm stood =
+    let doubts = h.over in absurd (omega (arith, calm, doubts))
+ends_alone told script ending.Unwritten answers reports v w held held' faults faults' is serial h calm stood =
+    absurd (stood (unwritten told script answers reports v w held held' faults faults' h))
+ends_alone told script ending.OutOfMemory answers reports v w held held' faults faults' is serial h calm stood =
+    inr (refl, cut_alone told script answers reports v w held held' faults faults' is serial h calm)
+ends_alone told script other answers reports v w held held' faults faults' is serial h calm stood = absurd h

@@ -20,14 +20,14 @@ pub record IsAsAlone (x : SoleRep) (rep : CellRep) (v : PortView) (ends : Option
   pub ends_are : ends ≡ Some x.ends
   pub out_is : x.out ≡ out
 
--- so does a rep stand at that stage
-abbrev pub StandsAt : Stage → SoleRep → Type 0
-StandsAt s x = IsAsAlone x s.rep s.view s.ends s.out
+-- so it is at that stage
+abbrev pub AgreesWith : Stage → SoleRep → Type 0
+AgreesWith s x = IsAsAlone x s.rep s.view s.ends s.out
 
 -- what leads from one stage to another is what that function does, where no call wants memory
 abbrev pub LeadsAs : (Stage → Stage → Type 0) → (SoleRep → SoleRep) → Type 0
-LeadsAs Does alone = (s s' : Stage) (x : SoleRep) → Does s s' → StandsAt s x → IsUndisturbed s.view s'.view →
-    is_any_starved s'.out ≡ false → StandsAt s' (alone x)
+LeadsAs Does alone = (s s' : Stage) (x : SoleRep) → Does s s' → AgreesWith s x → IsUndisturbed s.view s'.view →
+    is_any_starved s'.out ≡ false → AgreesWith s' (alone x)
 
 -- so does each act
 abbrev pub ActsAreAlone : Type 0

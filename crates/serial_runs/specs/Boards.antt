@@ -40,8 +40,8 @@ abbrev pub reply_alone : SoleBoard → Command → Reply
 reply_alone b c = reply_by (verdict_of (rows_on b) c) (length b.log) (rows_on b).next
 
 -- the board after a command of that caller
-abbrev pub called_alone : ℕ → Command → SoleBoard → SoleBoard
-called_alone by c b = record b { log = b.log ++ added (Ok (reply_alone b c)) by c }
+abbrev pub board_after : ℕ → Command → SoleBoard → SoleBoard
+board_after by c b = record b { log = b.log ++ added (Ok (reply_alone b c)) by c }
 
 -- the end of a call with that reply, over a wire that lets it end so
 abbrev pub end_under : Delivery → Reply → CallEnd
@@ -51,6 +51,6 @@ end_under wire.ReplyLost r = ReplyLost (Ok r)
 
 -- the board after a call over that wire
 abbrev pub delivered_alone : Delivery → ℕ → Command → SoleBoard → SoleBoard
-delivered_alone wire.Through by c b = called_alone by c b
+delivered_alone wire.Through by c b = board_after by c b
 delivered_alone wire.CallLost by c b = b
-delivered_alone wire.ReplyLost by c b = called_alone by c b
+delivered_alone wire.ReplyLost by c b = board_after by c b

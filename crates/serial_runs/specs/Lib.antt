@@ -11,3 +11,4 @@ pub mod RoundLaws
 pub mod Phases
 pub mod Scripts
 pub mod PhaseLaws
+pub mod ScriptLaws

@@ -5,7 +5,7 @@ use Rattle.bbs_model.specs.PortView.{IsCalled, IsQuiet, PortView}
 use Rattle.bbs_model.specs.declared.command.Command.{Command}
 use Rattle.bbs_model.specs.declared.reply.CallFault.{CallFault}
 use Rattle.bbs_model.specs.declared.reply.Reply.{Reply}
-use Rattle.serial_runs.specs.Boards.{board_seen, called_alone, reply_alone}
+use Rattle.serial_runs.specs.Boards.{board_seen, board_after, reply_alone}
 use Rattle.bbs_board.specs.Doubts.{doubts_in}
 
 -- between the two nobody else called, and nothing that is seen in the end is in doubt
@@ -16,7 +16,7 @@ pub record IsUndisturbed (v w : PortView) : Type 0 where
 -- a call that wants no memory has the reply that is due, and leaves the board that is due
 pub record IsCallAlone (by : ℕ) (v : PortView) (c : Command) (end : Result Reply CallFault) (w : PortView) : Type 0 where
   pub reply : end ≡ Ok (reply_alone (board_seen v) c)
-  pub board : board_seen w ≡ called_alone by c (board_seen v)
+  pub board : board_seen w ≡ board_after by c (board_seen v)
 
 -- so does each call
 abbrev pub CallsAreAlone : Type 0

@@ -23,7 +23,7 @@ use Rattle.diego_names.specs.declared.instance.Instance.{Instance}
 use Rattle.phase_runs.specs.RoundMarks.{end_to, is_named, round_ends}
 use Rattle.scenario_lines.specs.declared.script.RoundLine.{RoundLine}
 use Rattle.serial_runs.specs.Acts.{SoleRep, end_of, todo_alone}
-use Rattle.serial_runs.specs.Boards.{SoleBoard, called_alone, reply_alone}
+use Rattle.serial_runs.specs.Boards.{SoleBoard, board_after, reply_alone}
 use Rattle.serial_runs.specs.Reps.{answer_from, rep_named, with_rep}
 
 -- what a cell answers, unless the line loses its question
@@ -45,7 +45,7 @@ sole_calls board tally = record { board = board; tally = tally }
 
 -- a command is called
 abbrev pub note_alone : ℕ → Command → SoleCalls → SoleCalls
-note_alone by c s = sole_calls (called_alone by c s.board) (noted c (reply_alone s.board c) s.tally)
+note_alone by c s = sole_calls (board_after by c s.board) (noted c (reply_alone s.board c) s.tally)
 
 -- commands are called in order
 abbrev pub notes_alone : ℕ → List Command → SoleCalls → SoleCalls

@@ -1,9 +1,10 @@
 -- The run of a scenario whose phases are serial.
-use Rattle.std.specs.Prelude.{ℕ, ◌-◌, List, [], ◌∷◌, ◌++◌, length}
+use Rattle.std.specs.Prelude.{ℕ, ◌-◌, List, [], ◌∷◌, ◌++◌, length, drop}
 use Rattle.std.specs.List.{Contains}
 use Rattle.std.specs.Option.{option_to_list}
 use Rattle.bbs_board.specs.Doubts.{doubts_in}
 use Rattle.bbs_board.specs.View.{View}
+use Rattle.bbs_model.specs.declared.item.Item.{Item}
 use Rattle.convergence.specs.declared.report.Report.{Report}
 use Rattle.phase_text.specs.Sorting.{by_key, by_line}
 use Rattle.phase_text.specs.Texts.{phase_words}
@@ -59,9 +60,17 @@ phases_alone script [] s = s
 phases_alone script (p ∷ ps) s =
     phases_alone script ps (behind_phase script p s (phase_alone p s.actors s.board))
 
+-- the first phases of a scenario on a board
+abbrev pub first_alone : Script → List Phase → SoleBoard → SoleCourse
+first_alone script ps b = phases_alone script ps (begun_alone script b)
+
 -- the run of a scenario on a board
 abbrev pub script_alone : Script → SoleBoard → SoleCourse
-script_alone script b = phases_alone script script.phases (begun_alone script b)
+script_alone script b = first_alone script script.phases b
+
+-- the items that it adds to the log
+abbrev pub items_alone : Script → SoleBoard → List Item
+items_alone script b = drop (length b.log) (script_alone script b).board.log
 
 -- the counts of a run of so many phases
 abbrev pub summary_alone : SoleBoard → ℕ → Summary

@@ -1,8 +1,9 @@
 //! The laws of serial runs. These functions do nothing: they are there for what they ensure.
 ghost use Rattle.serial_runs.specs.ActLaws.{ActsAreAlone, EvacuationsAreAlone};
-ghost use Rattle.serial_runs.specs.PhaseLaws.{PhasesAreAlone, RunsAreAlone};
+ghost use Rattle.serial_runs.specs.PhaseLaws.{PhasesAreAlone};
 ghost use Rattle.serial_runs.specs.Quiet.{CallsAreAlone};
 ghost use Rattle.serial_runs.specs.RoundLaws.{RoundsAreAlone};
+ghost use Rattle.serial_runs.specs.ScriptLaws.{RunsAreAlone, RunsEndAlone};
 ghost use Rattle.serial_runs.specs.TurnLaws.{LinesAreRunAlone, TurnsAreAlone};
 
 use disk_trait::Disk;
@@ -48,4 +49,10 @@ pub fn phases_are_alone<D: Disk>()
 /// script and its board come to, and leaves a disk that reads as it did with what was done behind it.
 pub fn runs_are_alone<D: Disk>()
     ensures { RunsAreAlone D.told }
+{}
+
+/// Where neither the disk nor the sink fails, a run of serial phases ends so, or memory runs out behind
+/// some first phases, of which the same holds.
+pub fn runs_end_alone<D: Disk>()
+    ensures { RunsEndAlone D.told }
 {}

@@ -1,5 +1,5 @@
-use Rattle.serial_runs.proofs.ScriptAlone.{run_is_alone}
+use Rattle.serial_runs.proofs.ScriptAlone.{whole_is_alone}
 use Rattle.serial_runs.proofs.laws.runs_are_alone.Goals as goal
 
 pub returns : goal.returns
-returns c = λ start. run_is_alone c.D.Disk.told
+returns c = λ start. whole_is_alone c.D.Disk.told
