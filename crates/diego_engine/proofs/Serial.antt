@@ -14,7 +14,7 @@ use Rattle.program_run.specs.declared.ended.Ended.{Ended}
 use Rattle.scenario_lines.specs.declared.script.Script.{Script}
 use Rattle.scenario_reader.specs.Facts.{IsScript}
 use Rattle.serial_runs.specs.Boards.{SoleBoard}
-use Rattle.serial_runs.specs.PhaseLaws.{IsRunAlone, RunsAreAlone}
+use Rattle.serial_runs.specs.ScriptLaws.{IsRunAlone, RunsAreAlone}
 use Rattle.serial_runs.specs.Scripts.{IsSerialScript, board_at, script_alone, words_alone}
 use Rattle.diego_engine.specs.Serial.{IsSerialRun, RunsSerially, opened_with}
 use Rattle.diego_engine.proofs.Recoveries.{opened}
@@ -36,17 +36,11 @@ module _ {D : Type 0} (told : D → Option Past) (faults moment : D → ℕ) (la
       law script e.answers.items e.reports.items late.plays.board late.plays.left late.between.held w.held late.between.write_faults w.write_faults
       sound serial late.plays.plays
 
-  log_is : (serial : IsSerialScript script) → e.log.items ≡ (alone serial).fresh
-  log_is serial = late.plays.log ∙ (alone serial).grows ∙ ap (λ (l : List Item). l ++ (alone serial).fresh) late.plays.fresh.log
-
-  writes : (serial : IsSerialScript script) → Goes v.told w.told (WritesOn e.log.items)
-  writes serial =
-      let (calm, goes) = (alone serial).writes late.plays.fresh.calm in
+  writes : Goes v.told w.told (WritesOn e.log.items)
+  writes =
       goes_then v.told late.between.told w.told Secures (WritesOn e.log.items) (WritesOn e.log.items)
       (λ p q r is_p is_q is_r secures on. keeps_then_writes e.log.items p q r secures on) late.opens.secures
-      (subst (λ (t : Option Past). Goes late.between.told t (WritesOn e.log.items)) (sym late.plays.closed.told_is)
-      (subst (λ (t : Option Past). Goes t (told late.plays.left.disk) (WritesOn e.log.items)) (sym late.plays.opened.told_is)
-      (subst (λ (l : List Item). Goes (told late.plays.board.disk) (told late.plays.left.disk) (WritesOn l)) (sym (log_is serial)) goes)))
+      (late.plays.writes (ap doubts_in late.plays.log ∙ late.plays.plays.over.1))
 
   prints : (serial : IsSerialScript script) → PrintsTo true (words_alone script (opened_with late.rows)) v.held w.held v.write_faults w.write_faults
   prints serial =
@@ -61,7 +55,7 @@ module _ {D : Type 0} (told : D → Option Past) (faults moment : D → ℕ) (la
     reports_are = (alone serial).reports_are ∙ ap (λ (b : SoleBoard). (script_alone script b).reports) board_is;
     log_is = late.plays.log ∙ ap (λ (b : SoleBoard). b.log) (alone serial).board ∙ ap (λ (b : SoleBoard). (script_alone script b).board.log) board_is;
     prints = prints serial;
-    writes = writes serial;
+    writes = writes;
   }
 
 -- a run that ended well
