@@ -1,9 +1,10 @@
 -- A serial run is what its scenario comes to on its board.
-use Rattle.std.proofs.Common.{◌≡◌, ℕ, true, List, ◌++◌, Option, sym, ap, subst, ◌∙◌}
+use Rattle.std.proofs.Common.{◌≡◌, ℕ, true, List, Option, sym, ap, subst, ◌∙◌}
 use Rattle.disk_trait.specs.Past.{Past, content}
 use Rattle.disk_trait.specs.Shows.{Secures}
 use Rattle.disk_trait.specs.Steps.{Goes}
 use Rattle.disk_trait.proofs.Public.{goes_then}
+use Rattle.bbs_board.specs.Doubts.{doubts_in}
 use Rattle.bbs_board.specs.Written.{WritesOn}
 use Rattle.bbs_journal.specs.Stops.{OpensAs}
 use Rattle.bbs_model.specs.declared.item.Item.{Item}
