@@ -16,7 +16,7 @@ use Rattle.run_laws.specs.Answers.{IsTrueOf, items_of, LieBetween}
 use Rattle.run_laws.specs.Cuts.{ActorCut}
 use Rattle.run_laws.specs.Phases.{ActorAgrees, between}
 use Rattle.run_laws.proofs.Calls.{lie_wider, Says}
-use Rattle.run_laws.proofs.Doings.{did_first, did_turns}
+use Rattle.run_laws.proofs.Turns.{did_first, did_turns}
 use Rattle.run_laws.proofs.Logs.{begins_then, begins_within}
 use Rattle.run_laws.proofs.Rounds.{its_items}
 

@@ -18,13 +18,12 @@ use Rattle.evacuation.specs.Evacuation.{Evacuates, HasDrained as DrainMade, is_a
 use Rattle.scenario_lines.specs.declared.act.Act.{Act}
 use Rattle.scenario_lines.specs.declared.act.Act.TheVariants as act
 use Rattle.scenario_lines.specs.declared.act.Loss.{Loss}
-use Rattle.scenario_lines.specs.declared.answered.Answered.{Answered}
 use Rattle.actor_runs.specs.Marks.{ends_under}
 use Rattle.actor_runs.specs.Runs.{HasActed, HasRun, IsCutRun}
-use Rattle.actor_runs.specs.Turns.{answered, IsCutAt, IsCutShort, TakesTurns, Turn}
+use Rattle.actor_runs.specs.Turns.{answered}
 use Rattle.actor_runs.specs.declared.actor_state.ActorState.{ActorState}
 use Rattle.actor_runs.specs.declared.actor_state.ActorState.TheVariants as actor
-use Rattle.run_laws.specs.Actors.{DoesFirst, DoesNoneWhole, DoesOnce, DoesTurns, DrainsAlone, FitsWire, HasDone, HasEmptied}
+use Rattle.run_laws.specs.Actors.{DoesOnce, DrainsAlone, FitsWire, HasDone, HasEmptied}
 use Rattle.run_laws.proofs.Calls.{Says, says_delivered, says_none, says_nothing, says_then}
 
 -- what was done over a port was done
@@ -69,9 +68,9 @@ module _ (by line : ℕ) where
       (says_follows cell (moved_by t ends) ts (after_todo t a.end rep) f.0 as' rep' w f.3)
 
   -- what was done once, and what was said
-  record Did (Does : List Called → Type 0) (calls : List Called) (v w : PortView) : Type 0 where
-    does : Does calls
-    says : Says (map (answered by line) calls) v w
+  pub record Did (Does : List Called → Type 0) (calls : List Called) (v w : PortView) : Type 0 where
+    pub does : Does calls
+    pub says : Says (map (answered by line) calls) v w
 
   module _ (now : Moment) (mark : Option Loss) (rep : CellRep) (v : PortView) where
     -- an act of a cell
@@ -155,7 +154,7 @@ module _ (by line : ℕ) where
         calls_are = rest.calls_are ∙ ap (λ (xs : List Called). xs ++ rest.behind) h.does.drained.out_is
 
   -- one run of a line
-  did_run : (now : Moment) (d : Act) (mark : Option Loss) (a a' : ActorState) (v w : PortView) (calls : List Called) → HasRun by now d mark a a' v w calls
+  pub did_run : (now : Moment) (d : Act) (mark : Option Loss) (a a' : ActorState) (v w : PortView) (calls : List Called) → HasRun by now d mark a a' v w calls
       → Did (λ (xs : List Called). DoesOnce now d mark a xs a') calls v w
   did_run now (act.Client op) mark (actor.Client name) a' v w calls (same, h) = record {
     does = (same, record { end = h.end; fits = h.fits_mark; calls_are = h.new_is });
@@ -172,9 +171,9 @@ module _ (by line : ℕ) where
       let d = did_empty now mark rep v rep' w calls h in record { does = d.does; says = d.says }
 
   -- a run that was cut off
-  record CutOff (now : Moment) (d : Act) (mark : Option Loss) (a a' : ActorState) (v w : PortView) (calls : List Called) : Type 0 where
-    does : ((calls ≡ []) × (a' ≡ a)) ⊎ ((drain : Called) × (calls ≡ drain ∷ []) × DrainsAlone now d mark a drain a')
-    says : Says (map (answered by line) calls) v w
+  pub record CutOff (now : Moment) (d : Act) (mark : Option Loss) (a a' : ActorState) (v w : PortView) (calls : List Called) : Type 0 where
+    pub does : ((calls ≡ []) × (a' ≡ a)) ⊎ ((drain : Called) × (calls ≡ drain ∷ []) × DrainsAlone now d mark a drain a')
+    pub says : Says (map (answered by line) calls) v w
 
   cut_nothing : (now : Moment) (d : Act) (mark : Option Loss) (a a' : ActorState) (v w : PortView) (calls : List Called) → a' ≡ a → w ≡ v → calls ≡ []
       → CutOff now d mark a a' v w calls
@@ -184,7 +183,7 @@ module _ (by line : ℕ) where
         (subst (λ (xs : List Called). Says (map (answered by line) xs) v v) (sym none) (says_none v));
   }
 
-  cut_run : (now : Moment) (d : Act) (mark : Option Loss) (a a' : ActorState) (v w : PortView) (calls : List Called) → IsCutRun by now d mark a a' v w calls
+  pub cut_run : (now : Moment) (d : Act) (mark : Option Loss) (a a' : ActorState) (v w : PortView) (calls : List Called) → IsCutRun by now d mark a a' v w calls
       → CutOff now d mark a a' v w calls
   cut_run now (act.Client op) mark a a' v w calls h = cut_nothing now (act.Client op) mark a a' v w calls h.0 h.1.0 h.1.1
   cut_run now (act.Cell c) mark a a' v w calls h = cut_nothing now (act.Cell c) mark a a' v w calls h.0 h.1.0 h.1.1
@@ -197,81 +196,4 @@ module _ (by line : ℕ) where
       record {
         does = inr (h.does.answer, h.does.drained.out_is, drained.does);
         says = subst (λ (xs : List Called). Says (map (answered by line) xs) v w) (sym h.does.drained.out_is) drained.says;
-      }
-
-module _ (by : ℕ) (now : Moment) where
-  -- the runs of lines, one after another
-  pub record DidTurns (ts : List Turn) (a : ActorState) (v : PortView) (answers : List Answered) (a' : ActorState) (w : PortView) : Type 0 where
-    pub does : DoesTurns by now ts a answers a'
-    pub says : Says answers v w
-
-  pub did_turns : (ts : List Turn) (a : ActorState) (v : PortView) (answers : List Answered) (a' : ActorState) (w : PortView)
-      → TakesTurns by now ts a v answers a' w → DidTurns ts a v answers a' w
-  did_turns [] a v answers a' w h = record {
-    does = (h.0, h.1.0);
-    says = subst (λ (xs : List Answered). Says xs v w) (sym h.0) (subst (λ (x : PortView). Says [] v x) (sym h.1.1) (says_none v));
-  }
-  did_turns (t ∷ ts) a v answers a' w (first, rest, mid, m, answers_are, run, others) =
-      let one = did_run by t.line now t.act t.mark a mid v m first run in
-      let more = did_turns ts mid m rest a' w others in
-      record {
-        does = (first, rest, mid, answers_are, one.does, more.does);
-        says = subst (λ (xs : List Answered). Says xs v w) (sym answers_are)
-            (says_then (map (answered by t.line) first) rest v m w one.says more.says);
-      }
-
-  -- the first of them, and perhaps the drain of the next
-  pub record DidFirst (ts : List Turn) (a : ActorState) (v : PortView) (a' : ActorState) (w : PortView) : Type 0 where
-    pub answers : List Answered
-    pub does : DoesFirst by now ts a answers a'
-    pub says : Says answers v w
-
-  record Behind (rest : List Turn) (a : ActorState) (v : PortView) (a' : ActorState) (w : PortView) : Type 0 where
-    answers : List Answered
-    does : DoesNoneWhole by now rest a answers a'
-    says : Says answers v w
-
-  none_whole : (t : Turn) (a a' : ActorState) (calls : List Called)
-      → ((calls ≡ []) × (a' ≡ a)) ⊎ ((drain : Called) × (calls ≡ drain ∷ []) × DrainsAlone now t.act t.mark a drain a')
-      → (ts : List Turn) → DoesNoneWhole by now (t ∷ ts) a (map (answered by t.line) calls) a'
-  none_whole t a a' calls (inl h) ts = inl (ap (map (answered by t.line)) h.0, h.1)
-  none_whole t a a' calls (inr h) ts = inr (h.0, ap (map (answered by t.line)) h.1, h.2)
-
-  behind_cut : (rest : List Turn) (a : ActorState) (v : PortView) (a' : ActorState) (w : PortView) → IsCutAt by now rest a v a' w → Behind rest a v a' w
-  behind_cut [] a v a' w h = record {
-    answers = [];
-    does = (refl, h.0);
-    says = subst (λ (x : PortView). Says [] v x) (sym h.1) (says_none v);
-  }
-  behind_cut (t ∷ ts) a v a' w (inl h) = record {
-    answers = [];
-    does = inl (refl, h.0);
-    says = subst (λ (x : PortView). Says [] v x) (sym h.1) (says_none v);
-  }
-  behind_cut (t ∷ ts) a v a' w (inr h) =
-      let cut = cut_run by t.line now t.act t.mark a a' v w h.0 h.1 in
-      record {
-        answers = map (answered by t.line) h.0;
-        does = none_whole t a a' h.0 cut.does ts;
-        says = cut.says;
-      }
-
-  pub did_first : (ts : List Turn) (a : ActorState) (v : PortView) (a' : ActorState) (w : PortView) → IsCutShort by now ts a v a' w → DidFirst ts a v a' w
-  did_first ts a v a' w h =
-      let whole = did_turns h.done a v h.new h.mid h.middle h.taken in
-      let behind = behind_cut h.rest h.mid h.middle a' w h.cut in
-      record {
-        answers = h.new ++ behind.answers;
-        does = record {
-          done = h.done;
-          rest = h.rest;
-          split = h.split;
-          first = h.new;
-          behind = behind.answers;
-          answers_are = refl;
-          mid = h.mid;
-          did = whole.does;
-          cut = behind.does;
-        };
-        says = says_then h.new behind.answers v h.middle w whole.says behind.says;
       }

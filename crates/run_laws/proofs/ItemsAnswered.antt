@@ -60,7 +60,7 @@ inside_joined {X = X} (q ∷ parts) (suc k) p x is inside =
 
 -- what an actor answered bears its number
 module _ (by : ℕ) where
-  abbrev Bears : Answered → Type 0
+  abbrev pub Bears : Answered → Type 0
   Bears a = a.actor ≡ by
 
   bears_both : (xs ys : List Answered) → AllByRecursion Bears xs → AllByRecursion Bears ys → AllByRecursion Bears (xs ++ ys)
@@ -71,7 +71,7 @@ module _ (by : ℕ) where
   bears_run line [] = tt
   bears_run line (c ∷ calls) = (refl, bears_run line calls)
 
-  bears : (now : Moment) (ts : List Turn) (a : ActorState) (answers : List Answered) (a' : ActorState) → DoesTurns by now ts a answers a'
+  pub bears : (now : Moment) (ts : List Turn) (a : ActorState) (answers : List Answered) (a' : ActorState) → DoesTurns by now ts a answers a'
       → AllByRecursion Bears answers
   bears now [] a answers a' did = subst (AllByRecursion Bears) (sym did.0) tt
   bears now (t ∷ ts) a answers a' (calls, rest, mid, is, one, others) =
@@ -86,7 +86,7 @@ before_it : (n : ℕ) → n ≢ 0 → (k : ℕ) × (n ≡ suc k)
 before_it zero ne = absurd (ne refl)
 before_it (suc k) ne = (k, refl)
 
-some_actor : (xs : List ActorState) (k : ℕ) → k < length xs → ActorState
+pub some_actor : (xs : List ActorState) (k : ℕ) → k < length xs → ActorState
 some_actor [] k within = absurd (omega (arith, within))
 some_actor (x ∷ xs) k within = x
 

@@ -1,6 +1,7 @@
 mod Logs
 mod Calls
 mod Doings
+mod Turns
 mod Names
 mod Rounds
 mod Agreeing
@@ -9,3 +10,5 @@ mod Said
 mod Faithful
 mod Counted
 mod ItemsAnswered
+mod ByLine
+mod OwnAnswers

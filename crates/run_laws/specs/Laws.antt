@@ -1,5 +1,5 @@
 -- The laws of runs.
-use Rattle.std.specs.Prelude.{◌≡◌, ◌≢◌, ℕ, ◌<◌, List, [], ◌∷◌, Option, Some}
+use Rattle.std.specs.Prelude.{◌≡◌, ◌≢◌, ℕ, suc, ◌<◌, ◌==◌, List, [], ◌∷◌, filter, Option, Some}
 use Rattle.std.specs.List.{Contains, slice_get}
 use Rattle.disk_trait.specs.Past.{Past}
 use Rattle.bbs_board.specs.View.{View}
@@ -11,11 +11,14 @@ use Rattle.bbs_model.specs.declared.rows.Rows.{Rows}
 use Rattle.convergence.specs.declared.report.Report.{Report}
 use Rattle.program_edge.specs.declared.ending.Ending.{Ending}
 use Rattle.scenario_lines.specs.declared.answered.Answered.{Answered}
+use Rattle.scenario_lines.specs.declared.script.Phase.{Phase}
 use Rattle.scenario_lines.specs.declared.script.Script.{Script}
 use Rattle.scenario_reader.specs.Facts.{IsScript}
+use Rattle.phase_text.specs.Sorting.{by_line}
 use Rattle.scenario_runs.specs.Plays.{Plays}
 use Rattle.run_laws.specs.Answers.{answer_in, items_of, place_named}
 use Rattle.run_laws.specs.Headline.{IsFaithful}
+use Rattle.run_laws.specs.Phases.{PhaseAgrees, Point}
 
 -- a scenario that was played on a board that had done nothing is faithful, whatever its end and its disk
 abbrev pub PlayedRunsAreFaithful : {D : Type 0} → (D → Option Past) → Type 0
@@ -45,3 +48,15 @@ ItemsAreAnswered =
     (script : Script) (how : Ending) (answers : List Answered) (reports : List Report) (base : Rows) (log : List Item)
     (run : IsFaithful script how answers reports base log) (place : ℕ) (i : Item) → place < run.order.last.place →
     slice_get log place ≡ Some i → by_of i ≢ 0 → IsAnswered answers place i
+
+-- the answers that bear a number
+abbrev pub answers_by : ℕ → List Answered → List Answered
+answers_by by answers = filter (λ a. a.actor == by) answers
+
+-- among the answers of a phase, which stand by line, those of each actor are its own, in their order
+abbrev pub ActorsAnswersStand : Type 0
+ActorsAnswersStand =
+    (script : Script) (phase : Phase) (base : Rows) (log : List Item) (s s' : Point)
+    (agrees : PhaseAgrees base log phase s s') → IsScript script → Contains script.phases phase →
+    (k : ℕ) (part : List Answered) → slice_get agrees.parts k ≡ Some part →
+    answers_by (suc k) (by_line agrees.parts) ≡ part

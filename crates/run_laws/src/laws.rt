@@ -1,5 +1,5 @@
 //! The laws of runs. These functions do nothing: they are there for what they ensure.
-ghost use Rattle.run_laws.specs.Laws.{ItemsAreAnswered, PlayedRunsAreFaithful, PlayedRunsKeepBase};
+ghost use Rattle.run_laws.specs.Laws.{ActorsAnswersStand, ItemsAreAnswered, PlayedRunsAreFaithful, PlayedRunsKeepBase};
 
 use bbs_laws::tasks_complete_once;
 use disk_trait::Disk;
@@ -20,4 +20,10 @@ pub fn played_runs_are_faithful<D: Disk>()
 /// that of an answer which names its place, unless it is one of a round.
 pub fn items_are_answered()
     ensures { ItemsAreAnswered }
+{}
+
+/// The answers of a phase stand by line, and those of each actor among them are its own, in the order
+/// in which they were made.
+pub fn answers_of_actors_stand()
+    ensures { ActorsAnswersStand }
 {}
