@@ -24,3 +24,4 @@ pub mod StoresOn
 pub mod PhaseReps
 pub mod ScriptAlone
 pub mod Public
+pub mod Worked

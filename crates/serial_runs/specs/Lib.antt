@@ -12,3 +12,5 @@ pub mod Phases
 pub mod Scripts
 pub mod PhaseLaws
 pub mod ScriptLaws
+pub mod Examples
+pub mod Worked

@@ -5,6 +5,7 @@ ghost use Rattle.serial_runs.specs.Quiet.{CallsAreAlone};
 ghost use Rattle.serial_runs.specs.RoundLaws.{RoundsAreAlone};
 ghost use Rattle.serial_runs.specs.ScriptLaws.{RunsAreAlone, RunsEndAlone};
 ghost use Rattle.serial_runs.specs.TurnLaws.{LinesAreRunAlone, TurnsAreAlone};
+ghost use Rattle.serial_runs.specs.Worked.{AreWorkedOut};
 
 use disk_trait::Disk;
 
@@ -55,4 +56,10 @@ pub fn runs_are_alone<D: Disk>()
 /// some first phases, of which the same holds.
 pub fn runs_end_alone<D: Disk>()
     ensures { RunsEndAlone D.told }
+{}
+
+/// Scenarios that were worked out by hand come to what they should: how their answers read, what
+/// their rounds did, and how many transitions there were.
+pub fn worked_scenarios_come_out()
+    ensures { AreWorkedOut }
 {}
