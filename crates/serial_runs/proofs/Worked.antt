@@ -1,35 +1,52 @@
--- The scenarios that were worked out by hand come to what they should: by computing.
+-- The scenarios that were worked out by hand print what they should: by computing.
 use Rattle.std.proofs.Common.{refl}
-use Rattle.serial_runs.specs.Worked.{AreWorkedOut, EndedLease, Evacuation, LostClaim, NothingToMove, OneTask, Takeover, ThreeInstances}
+use Rattle.std.specs.Fmt.{digits}
+use Rattle.json.specs.Print.{escape_byte}
+use Rattle.serial_runs.specs.Worked.{AreWorkedOut}
+use Rattle.serial_runs.specs.WorkedRounds.{EndedLease, SameDesire, ThreeInstances}
+use Rattle.serial_runs.specs.WorkedClaims.{LostClaim, OneTask, Takeover}
+use Rattle.serial_runs.specs.WorkedEvacuations.{Evacuation, NothingToMove}
 
-three_instances-computed : ThreeInstances
-three_instances-computed = record { answers = refl; reports = refl; transitions = refl }
+same_desire-printed : SameDesire
+unfolding escape_byte digits
+same_desire-printed = refl
 
-takeover-computed : Takeover
-takeover-computed = record { answers = refl; reports = refl; transitions = refl }
+three_instances-printed : ThreeInstances
+unfolding escape_byte digits
+three_instances-printed = refl
 
-ended_lease-computed : EndedLease
-ended_lease-computed = record { answers = refl; reports = refl; transitions = refl }
+ended_lease-printed : EndedLease
+unfolding escape_byte digits
+ended_lease-printed = refl
 
-lost_claim-computed : LostClaim
-lost_claim-computed = record { answers = refl; reports = refl; transitions = refl }
+lost_claim-printed : LostClaim
+unfolding escape_byte digits
+lost_claim-printed = refl
 
-one_task-computed : OneTask
-one_task-computed = record { answers = refl; reports = refl; transitions = refl }
+takeover-printed : Takeover
+unfolding escape_byte digits
+takeover-printed = refl
 
-evacuation-computed : Evacuation
-evacuation-computed = record { answers = refl; reports = refl; transitions = refl }
+one_task-printed : OneTask
+unfolding escape_byte digits
+one_task-printed = refl
 
-nothing_to_move-computed : NothingToMove
-nothing_to_move-computed = record { answers = refl; reports = refl; transitions = refl }
+nothing_to_move-printed : NothingToMove
+unfolding escape_byte digits
+nothing_to_move-printed = refl
+
+evacuation-printed : Evacuation
+unfolding escape_byte digits
+evacuation-printed = refl
 
 pub worked_out : AreWorkedOut
 worked_out = record {
-  of_three_instances = three_instances-computed;
-  of_takeover = takeover-computed;
-  of_ended_lease = ended_lease-computed;
-  of_lost_claim = lost_claim-computed;
-  of_one_task = one_task-computed;
-  of_evacuation = evacuation-computed;
-  of_nothing_to_move = nothing_to_move-computed;
+  of_same_desire = same_desire-printed;
+  of_three_instances = three_instances-printed;
+  of_ended_lease = ended_lease-printed;
+  of_lost_claim = lost_claim-printed;
+  of_takeover = takeover-printed;
+  of_one_task = one_task-printed;
+  of_nothing_to_move = nothing_to_move-printed;
+  of_evacuation = evacuation-printed;
 }

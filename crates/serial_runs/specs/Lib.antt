@@ -13,4 +13,7 @@ pub mod Scripts
 pub mod PhaseLaws
 pub mod ScriptLaws
 pub mod Examples
+pub mod WorkedRounds
+pub mod WorkedClaims
+pub mod WorkedEvacuations
 pub mod Worked

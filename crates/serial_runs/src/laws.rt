@@ -58,8 +58,7 @@ pub fn runs_end_alone<D: Disk>()
     ensures { RunsEndAlone D.told }
 {}
 
-/// Scenarios that were worked out by hand come to what they should: how their answers read, what
-/// their rounds did, and how many transitions there were.
-pub fn worked_scenarios_come_out()
+/// Scenarios that were worked out by hand print what they should, to the byte.
+pub fn worked_scenarios_print()
     ensures { AreWorkedOut }
 {}

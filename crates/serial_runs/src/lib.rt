@@ -6,5 +6,5 @@ mod laws;
 
 pub use laws::{
     acts_are_alone, calls_are_alone, evacuations_are_alone, lines_are_run_alone, phases_are_alone,
-    rounds_are_alone, runs_are_alone, runs_end_alone, turns_are_alone, worked_scenarios_come_out,
+    rounds_are_alone, runs_are_alone, runs_end_alone, turns_are_alone, worked_scenarios_print,
 };
