@@ -2,8 +2,10 @@
 use Rattle.std.proofs.Common.{refl}
 use Rattle.std.specs.Fmt.{digits}
 use Rattle.json.specs.Print.{escape_byte}
+use Rattle.bbs_codec.specs.Command.{spelled}
+use Rattle.wire_fields.specs.Field.{field_instance, field_name, field_number, field_optional_name}
 use Rattle.serial_runs.specs.Worked.{AreWorkedOut}
-use Rattle.serial_runs.specs.WorkedRounds.{EndedLease, SameDesire, ThreeInstances}
+use Rattle.serial_runs.specs.WorkedRounds.{EndedLease, SameDesire, ThreeInstances, ThreeInstancesWrite}
 use Rattle.serial_runs.specs.WorkedClaims.{LostClaim, OneTask, Takeover}
 use Rattle.serial_runs.specs.WorkedEvacuations.{Evacuation, NothingToMove}
 
@@ -39,6 +41,10 @@ evacuation-printed : Evacuation
 unfolding escape_byte digits
 evacuation-printed = refl
 
+three_instances-written : ThreeInstancesWrite
+unfolding spelled field_number field_name field_optional_name field_instance
+three_instances-written = refl
+
 pub worked_out : AreWorkedOut
 worked_out = record {
   of_same_desire = same_desire-printed;
@@ -49,4 +55,5 @@ worked_out = record {
   of_one_task = one_task-printed;
   of_nothing_to_move = nothing_to_move-printed;
   of_evacuation = evacuation-printed;
+  of_three_instances_write = three_instances-written;
 }

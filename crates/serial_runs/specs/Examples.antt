@@ -1,10 +1,12 @@
 -- Scenarios that were worked out by hand: how they are written.
 use Rattle.std.specs.Prelude.{◌≡◌, ℕ, List, [], ◌∷◌, codes, true, false, Option, Some, None}
 use Rattle.std.specs.List.{flat_map}
+use Rattle.bbs_board.specs.Written.{written_behind}
 use Rattle.bbs_model.specs.Tables.{no_rows}
 use Rattle.bbs_model.specs.declared.command.Op.TheVariants as op
 use Rattle.cell_records.specs.declared.job_name.JobName.TheVariants as job
 use Rattle.cell_rep.specs.declared.cell_act.CellAct.TheVariants as cell
+use Rattle.disk_trait.specs.declared.area.Area.TheVariants.{A}
 use Rattle.diego_names.specs.declared.key.Key.{Key}
 use Rattle.scenario_lines.specs.declared.act.Act.{Act}
 use Rattle.scenario_lines.specs.declared.act.Act.TheVariants as act
@@ -14,7 +16,7 @@ use Rattle.scenario_lines.specs.declared.script.Line.{Line}
 use Rattle.scenario_lines.specs.declared.script.Phase.{Phase}
 use Rattle.scenario_lines.specs.declared.script.Script.{Script}
 use Rattle.serial_runs.specs.Boards.{SoleBoard}
-use Rattle.serial_runs.specs.Scripts.{words_alone}
+use Rattle.serial_runs.specs.Scripts.{items_alone, words_alone}
 
 -- a board on which nothing was ever done
 abbrev pub empty : SoleBoard
@@ -88,3 +90,8 @@ new_task name = act.Client (op.NewTask name 64 64 None)
 -- a run on an empty board prints these pieces of a text, joined
 abbrev pub Prints : Script → List (List ℕ) → Type 0
 Prints script pieces = words_alone script empty ≡ flat_map (λ piece. piece) pieces
+
+-- a run on an empty board writes these payloads behind what the disk reads
+abbrev pub Writes : Script → List (List ℕ) → Type 0
+Writes script payloads =
+    (written_behind (record { area = A; generation = 1; head = []; payloads = [] }) (items_alone script empty)).payloads ≡ payloads

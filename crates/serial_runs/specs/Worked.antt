@@ -1,9 +1,9 @@
 -- The scenarios that were worked out by hand.
-use Rattle.serial_runs.specs.WorkedRounds.{EndedLease, SameDesire, ThreeInstances}
+use Rattle.serial_runs.specs.WorkedRounds.{EndedLease, SameDesire, ThreeInstances, ThreeInstancesWrite}
 use Rattle.serial_runs.specs.WorkedClaims.{LostClaim, OneTask, Takeover}
 use Rattle.serial_runs.specs.WorkedEvacuations.{Evacuation, NothingToMove}
 
--- the function prints of each what it should
+-- of each the function prints what it should, and of one of them it writes what it should
 pub record AreWorkedOut : Type 0 where
   pub of_same_desire : SameDesire
   pub of_three_instances : ThreeInstances
@@ -13,3 +13,4 @@ pub record AreWorkedOut : Type 0 where
   pub of_one_task : OneTask
   pub of_nothing_to_move : NothingToMove
   pub of_evacuation : Evacuation
+  pub of_three_instances_write : ThreeInstancesWrite

@@ -1,7 +1,7 @@
 -- Scenarios of rounds that were worked out by hand, with all that they print on an empty board.
 use Rattle.std.specs.Prelude.{[], ◌∷◌, codes, None}
 use Rattle.scenario_lines.specs.declared.script.Script.{Script}
-use Rattle.serial_runs.specs.Examples.{Prints, cell_named, client_named, desire, join, line, lines_at, one_line, round_at, round_losing}
+use Rattle.serial_runs.specs.Examples.{Prints, Writes, cell_named, client_named, desire, join, line, lines_at, one_line, round_at, round_losing}
 
 -- a desire, twice
 abbrev pub same_desire : Script
@@ -115,4 +115,24 @@ EndedLease = Prints ended_lease (
     ∷ codes "{\"event\":\"removed\",\"row\":{\"cell\":\"c1\",\"containers\":10,\"disk\":4096,\"epoch\":0,"
     ∷ codes "\"evacuating\":false,\"memory\":1024,\"tag\":null,\"until\":600,\"zone\":\"z1\"},\"table\":\"cell\"}\n"
     ∷ codes "{\"done\":8,\"doubts\":0,\"next\":8,\"phases\":6}\n"
+    ∷ [])
+
+-- what the run with two cells writes: two joins, the desire, and of each instance that it is made and claimed
+abbrev pub ThreeInstancesWrite : Type 0
+ThreeInstancesWrite = Writes three_instances (
+    (22 ∷ 0 ∷ 0 ∷ 0 ∷ 0 ∷ 2 ∷ 99 ∷ 49 ∷ 2 ∷ 122 ∷ 49 ∷ 0 ∷ 0 ∷ 0 ∷ 4 ∷ 0 ∷ 0 ∷ 0 ∷ 16 ∷ 0 ∷ 0 ∷ 0 ∷ 0 ∷
+    10 ∷ 0 ∷ 0 ∷ 2 ∷ 88 ∷ [])
+    ∷ (22 ∷ 0 ∷ 0 ∷ 0 ∷ 0 ∷ 2 ∷ 99 ∷ 50 ∷ 2 ∷ 122 ∷ 50 ∷ 0 ∷ 0 ∷ 0 ∷ 4 ∷ 0 ∷ 0 ∷ 0 ∷ 16 ∷ 0 ∷ 0 ∷ 0 ∷ 0 ∷
+    10 ∷ 0 ∷ 0 ∷ 2 ∷ 88 ∷ [])
+    ∷ (1 ∷ 0 ∷ 0 ∷ 0 ∷ 0 ∷ 3 ∷ 119 ∷ 101 ∷ 98 ∷ 4 ∷ 97 ∷ 112 ∷ 112 ∷ 115 ∷ 0 ∷ 0 ∷ 0 ∷ 3 ∷ 0 ∷ 0 ∷ 0 ∷
+    64 ∷ 0 ∷ 0 ∷ 0 ∷ 128 ∷ 0 ∷ 0 ∷ 31 ∷ 144 ∷ [])
+    ∷ (4 ∷ 0 ∷ 0 ∷ 0 ∷ 1 ∷ 3 ∷ 119 ∷ 101 ∷ 98 ∷ 0 ∷ 0 ∷ 0 ∷ 0 ∷ [])
+    ∷ (4 ∷ 0 ∷ 0 ∷ 0 ∷ 1 ∷ 3 ∷ 119 ∷ 101 ∷ 98 ∷ 0 ∷ 0 ∷ 0 ∷ 1 ∷ [])
+    ∷ (4 ∷ 0 ∷ 0 ∷ 0 ∷ 1 ∷ 3 ∷ 119 ∷ 101 ∷ 98 ∷ 0 ∷ 0 ∷ 0 ∷ 2 ∷ [])
+    ∷ (5 ∷ 0 ∷ 0 ∷ 0 ∷ 1 ∷ 3 ∷ 119 ∷ 101 ∷ 98 ∷ 0 ∷ 0 ∷ 0 ∷ 0 ∷ 0 ∷ 0 ∷ 0 ∷ 0 ∷ 0 ∷ 0 ∷ 0 ∷ 0 ∷ 0 ∷ 0 ∷
+    0 ∷ 1 ∷ 2 ∷ 99 ∷ 49 ∷ [])
+    ∷ (5 ∷ 0 ∷ 0 ∷ 0 ∷ 1 ∷ 3 ∷ 119 ∷ 101 ∷ 98 ∷ 0 ∷ 0 ∷ 0 ∷ 2 ∷ 0 ∷ 0 ∷ 0 ∷ 0 ∷ 0 ∷ 0 ∷ 0 ∷ 0 ∷ 0 ∷ 0 ∷
+    0 ∷ 2 ∷ 2 ∷ 99 ∷ 49 ∷ [])
+    ∷ (5 ∷ 0 ∷ 0 ∷ 0 ∷ 1 ∷ 3 ∷ 119 ∷ 101 ∷ 98 ∷ 0 ∷ 0 ∷ 0 ∷ 1 ∷ 0 ∷ 0 ∷ 0 ∷ 0 ∷ 0 ∷ 0 ∷ 0 ∷ 1 ∷ 0 ∷ 0 ∷
+    0 ∷ 1 ∷ 2 ∷ 99 ∷ 50 ∷ [])
     ∷ [])

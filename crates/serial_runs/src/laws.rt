@@ -58,7 +58,8 @@ pub fn runs_end_alone<D: Disk>()
     ensures { RunsEndAlone D.told }
 {}
 
-/// Scenarios that were worked out by hand print what they should, to the byte.
+/// Scenarios that were worked out by hand print what they should, to the byte; one of them also
+/// writes what it should.
 pub fn worked_scenarios_print()
     ensures { AreWorkedOut }
 {}
