@@ -23,7 +23,7 @@ use Rattle.bbs_journal.specs.declared.header.Header.TheVariants.{Closed, Foreign
 use Rattle.bbs_journal.specs.declared.load_fault.LoadFault.{LoadFault}
 use Rattle.bbs_journal.specs.declared.load_fault.LoadFault.TheVariants.{Damaged}
 use Rattle.bbs_journal.specs.declared.other_gate.OtherGate.{OtherGate}
-use Rattle.bbs_journal.specs.declared.other_gate.OtherGate.TheVariants.{Shut, Loose}
+use Rattle.bbs_journal.specs.declared.other_gate.OtherGate.TheVariants.{Shut, Loose, Written}
 use Rattle.bbs_journal.proofs.Opening.{GivesWay, open_gate, headed_ok}
 
 abbrev pub ok_of : ℕ → Result ℕ LoadFault
@@ -73,6 +73,20 @@ number_4 : (size : ℕ) (rest : List ℕ) → size < 2 ^ 32 → from_be_bytes w3
 unfolding field_number
 number_4 size rest small = ap (from_be_bytes w32) (take_at (field_number w32 size) rest 4 (length-field_number w32 size)) ∙ from_be_bytes-to_be_bytes_4 size small
 
+-- whatever follows the generation
+header_read : (generation : ℕ) (tail : List ℕ) → generation < 2 ^ 64 → behind_gate (take 30 (mark ++ (field_number w64 generation ++ tail))) ≡ Open generation
+header_read generation tail below =
+    let bytes : List ℕ = field_number w64 generation ++ tail in
+    let long : 8 ≤ length bytes = omega (arith, length-append (field_number w64 generation) tail, length-field_number w64 generation) in
+    marked (take 20 bytes) generation (omega (arith, length-take 20 bytes, long)) (ap (from_be_bytes w64) (take-take 8 20 bytes (omega arith)) ∙ number_8 generation tail below)
+
+pub heading_read : (generation : ℕ) (head rest more : List ℕ) → generation < 2 ^ 64 → behind_gate (take 30 ((heading generation head ++ rest) ++ more)) ≡ Open generation
+heading_read generation head rest more below =
+    ap (λ (l : List ℕ). behind_gate (take 30 l)) regroup ∙ header_read generation (field_number w32 (length head) ++ (head ++ (rest ++ more))) below
+  where
+    regroup : (heading generation head ++ rest) ++ more ≡ mark ++ (field_number w64 generation ++ (field_number w32 (length head) ++ (head ++ (rest ++ more))))
+    regroup = simp append_assoc
+
 module _ (generation : ℕ) (head rest : List ℕ) (goes : GoesWith generation head) where
   abbrev text : List ℕ
   text = mark ++ (field_number w64 generation ++ (field_number w32 (length head) ++ (head ++ rest)))
@@ -88,9 +102,7 @@ module _ (generation : ℕ) (head rest : List ℕ) (goes : GoesWith generation h
   length-text = omega (arith, length-numbers, length-append mark numbers)
 
   pub header_open : (n : ℕ) → header_of (front (suc n ∷ text)) ≡ Open generation
-  header_open n =
-      open_gate n (take 30 text)
-      ∙ marked (take 20 numbers) generation (omega (arith, length-take 20 numbers, length-numbers)) (ap (from_be_bytes w64) (take-take 8 20 numbers (omega arith)) ∙ number_8 generation (field_number w32 (length head) ++ (head ++ rest)) goes.below)
+  header_open n = open_gate n (take 30 text) ∙ header_read generation (field_number w32 (length head) ++ (head ++ rest)) goes.below
 
   -- the bytes from the length of the head on
   drop_numbers : (gate : ℕ) → drop 19 (gate ∷ text) ≡ field_number w32 (length head) ++ (head ++ rest)
@@ -174,6 +186,7 @@ older_gives generation (suc n) older behind is below = subst (GivesWay generatio
 
 pub yields_gives : (gate : OtherGate) (generation : ℕ) (bytes : List ℕ) → Yields gate generation bytes → GivesWay generation (header_of (front bytes))
 yields_gives Shut generation bytes b = subst (λ (l : List ℕ). GivesWay generation (header_of (front l))) (sym b.parts) tt
+yields_gives (Written size) generation bytes b = subst (λ (l : List ℕ). GivesWay generation (header_of (front l))) (sym b.parts) tt
 yields_gives Loose generation bytes (inl short) = short_gives generation bytes short
 yields_gives Loose generation bytes (inr older) =
     subst (λ (l : List ℕ). GivesWay generation (header_of (front l))) (sym older.parts) (older_gives generation older.gate older.older older.behind older.header older.below)

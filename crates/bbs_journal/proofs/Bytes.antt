@@ -12,7 +12,7 @@ begins_front front bytes is = record {
   parts = sym (take-append-drop (length front) bytes) ∙ ap (λ (l : List ℕ). l ++ drop (length front) bytes) is;
 }
 
-begins_take : (front bytes : List ℕ) → Begins front bytes → take (length front) bytes ≡ front
+pub begins_take : (front bytes : List ℕ) → Begins front bytes → take (length front) bytes ≡ front
 begins_take front bytes b = ap (take (length front)) b.parts ∙ take_at front b.rest (length front) refl
 
 pub begins_length : (front bytes : List ℕ) → Begins front bytes → length front ≤ length bytes

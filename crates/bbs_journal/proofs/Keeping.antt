@@ -1,7 +1,7 @@
--- What a journal knows of its area goes on being so.
+-- What a journal knows of its areas goes on being so.
 use Rattle.std.specs.Prelude.{not}
 use Rattle.std.proofs.lemmas.Bool.Decides.{leb_tells}
-use Rattle.std.proofs.Common.{inl, inr, ◌-◌, ◌^◌, ◌≡◌, ℕ, ◌+◌, ◌≤◌, Bool, true, false, Option, Some, None, List, [], ◌∷◌, ◌++◌, length, is_some, refl, sym, ap, subst, ◌∙◌, arith, length-append}
+use Rattle.std.proofs.Common.{inl, inr, ◌-◌, ◌^◌, ◌≡◌, ℕ, ◌+◌, ◌<◌, ◌≤◌, Bool, true, false, Option, Some, None, List, [], ◌∷◌, ◌++◌, length, is_some, refl, sym, ap, subst, ◌∙◌, arith, length-append}
 use Rattle.std.specs.Option.{ForSome}
 use Rattle.disk_trait.specs.Held.{Held, Has}
 use Rattle.disk_trait.specs.Past.{Past, now, content, other}
@@ -9,14 +9,19 @@ use Rattle.disk_trait.specs.Steps.{Goes, Ticks}
 use Rattle.disk_trait.proofs.Public.{goes_back, length_overwritten, wrote_content, synced_content, runs_there}
 use Rattle.disk_trait.specs.declared.area.Area.{Area}
 use Rattle.bbs_journal.specs.Areas.{Ready, Stands, BeforeOrAfter, body_of}
+use Rattle.bbs_journal.specs.Beside.{IsBeside}
 use Rattle.bbs_journal.specs.Calls.{WritesSynced, AddsFrame, Closes, TakesCalls}
+use Rattle.bbs_journal.specs.Grammar.{heading}
+use Rattle.bbs_journal.specs.Switching.{size_written}
 use Rattle.bbs_journal.specs.View.{View, HoldsFrames, IsKept}
-use Rattle.bbs_journal.specs.Other.{Yields}
 use Rattle.bbs_journal.specs.declared.other_gate.OtherGate.{OtherGate}
+use Rattle.bbs_journal.specs.declared.other_gate.OtherGate.TheVariants.{Written}
+use Rattle.bbs_journal.specs.declared.waiting.Waiting.{Waiting}
+use Rattle.bbs_journal.specs.declared.waiting.Waiting.TheVariants.{Nothing, Frame}
 use Rattle.bbs_journal.proofs.Bytes.{begins_length, staged_length}
 
 -- what follows of what a disk tells, before a call and after it
-tells_on : (t0 t1 : Option Past) (Does : Past → Past → Type 0) (P Q : Past → Type 0) → ((p q : Past) → Does p q → P p → Q q) → Goes t0 t1 Does → ForSome t0 P → ForSome t1 Q
+pub tells_on : (t0 t1 : Option Past) (Does : Past → Past → Type 0) (P Q : Past → Type 0) → ((p q : Past) → Does p q → P p → Q q) → Goes t0 t1 Does → ForSome t0 P → ForSome t1 Q
 tells_on t0 t1 Does P Q step goes holds q is = let back = goes_back t0 t1 Does goes q is in step back.0 q back.2 (holds back.0 back.1)
 
 -- without a doubt an area is ready
@@ -24,8 +29,12 @@ undoubted : (head : List ℕ) (payloads : List (List ℕ)) (doubt : Option (List
 undoubted head payloads None end held is stands = stands
 undoubted head payloads (Some payload) end held is stands = absurd (cc)
 
-ready_of : (area : Area) (end frames : ℕ) (p : Past) (holds : HoldsFrames area end frames false p) → Ready holds.head holds.payloads end (now p area)
-ready_of area end frames p holds = undoubted holds.head holds.payloads holds.doubt end (now p area) holds.doubtful holds.stands
+-- all that stands in front of the frames
+abbrev pub front_of : {area : Area} {generation end frames : ℕ} {waits : Bool} {p : Past} → HoldsFrames area generation end frames waits p → List ℕ
+front_of {generation = generation} holds = holds.gate ∷ heading generation holds.head
+
+pub ready_of : (area : Area) (generation end frames : ℕ) (p : Past) (holds : HoldsFrames area generation end frames false p) → Ready (front_of holds) holds.payloads end (now p area)
+ready_of area generation end frames p holds = undoubted (front_of holds) holds.payloads holds.doubt end (now p area) holds.doubtful holds.stands
 
 -- the gate is within the area
 ready_length : (head : List ℕ) (payloads : List (List ℕ)) (end : ℕ) (area : Area) (p : Past) → Ready head payloads end (now p area) → end + 1 ≤ length (content p area)
@@ -37,10 +46,10 @@ stands_length head payloads None end area p ready = ready_length head payloads e
 stands_length head payloads (Some payload) end area p waits =
     omega (arith, waits.place, staged_length (head ++ waits.frames) (body_of payload) (content p area) waits.has.reads)
 
-pub room : (t : Option Past) (area : Area) (generation end frames : ℕ) (waits broken : Bool) (gate : OtherGate) → broken ≡ false → ForSome t (IsKept area generation end frames waits broken gate)
+pub room : (t : Option Past) (area : Area) (generation end frames : ℕ) (waiting : Waiting) (broken : Bool) (gate : OtherGate) → broken ≡ false → ForSome t (IsKept area generation end frames waiting broken gate)
     → ForSome t (λ p. end + 1 ≤ length (content p area))
-room t area generation end frames waits broken gate whole kept =
-    λ p is. let holds = (kept p is).holds whole in stands_length holds.head holds.payloads holds.doubt end area p holds.stands
+room t area generation end frames waiting broken gate whole kept =
+    λ p is. let holds = (kept p is).holds whole in stands_length (front_of holds) holds.payloads holds.doubt end area p holds.stands
 
 -- and so it is once the body is written
 pub room_on : (t0 t1 : Option Past) (area : Area) (end : ℕ) (body : List ℕ) → Goes t0 t1 (WritesSynced true area (end + 1) body) → ForSome t0 (λ p. end + 1 ≤ length (content p area)) → ForSome t1 (λ p. end ≤ length (content p area))
@@ -53,96 +62,135 @@ room_on t0 t1 area end body goes holds =
         omega (arith, is, length_overwritten (end + 1) body (content p area) within)
 
 -- an append, by how it ends
-added_done : (area : Area) (payload : List ℕ) (end frames : ℕ) (p q : Past) → HoldsFrames area end frames false p → AddsFrame area true false payload end p q → HoldsFrames area (end + 3 + length payload) (frames + 1) false q
-added_done area payload end frames p q holds adds = record {
-  head = holds.head;
-  payloads = holds.payloads ++ payload ∷ [];
-  doubt = None;
-  count = omega (arith, holds.count, length-append holds.payloads (payload ∷ []));
-  doubtful = refl;
-  stands = (adds holds.head holds.payloads (ready_of area end frames p holds)).leaves;
-}
+module _ (area : Area) (payload : List ℕ) (generation end frames : ℕ) (p q : Past) (holds : HoldsFrames area generation end frames false p) where
+  added_done : AddsFrame area true false payload end p q → HoldsFrames area generation (end + 3 + length payload) (frames + 1) false q
+  added_done adds = record {
+    gate = holds.gate;
+    is_open = holds.is_open;
+    head = holds.head;
+    payloads = holds.payloads ++ payload ∷ [];
+    doubt = None;
+    count = omega (arith, holds.count, length-append holds.payloads (payload ∷ []));
+    doubtful = refl;
+    stands = (adds (front_of holds) holds.payloads (ready_of area generation end frames p holds)).leaves;
+  }
 
-added_refused : (area : Area) (payload : List ℕ) (end frames : ℕ) (p q : Past) → HoldsFrames area end frames false p → AddsFrame area false false payload end p q → HoldsFrames area end frames false q
-added_refused area payload end frames p q holds adds = record {
-  head = holds.head;
-  payloads = holds.payloads;
-  doubt = None;
-  count = holds.count;
-  doubtful = refl;
-  stands = (adds holds.head holds.payloads (ready_of area end frames p holds)).leaves;
-}
+  added_refused : AddsFrame area false false payload end p q → HoldsFrames area generation end frames false q
+  added_refused adds = record {
+    gate = holds.gate;
+    is_open = holds.is_open;
+    head = holds.head;
+    payloads = holds.payloads;
+    doubt = None;
+    count = holds.count;
+    doubtful = refl;
+    stands = (adds (front_of holds) holds.payloads (ready_of area generation end frames p holds)).leaves;
+  }
 
-added_in_doubt : (area : Area) (payload : List ℕ) (end frames : ℕ) (p q : Past) → HoldsFrames area end frames false p → AddsFrame area false true payload end p q → HoldsFrames area end frames true q
-added_in_doubt area payload end frames p q holds adds = record {
-  head = holds.head;
-  payloads = holds.payloads;
-  doubt = Some payload;
-  count = holds.count;
-  doubtful = refl;
-  stands = (adds holds.head holds.payloads (ready_of area end frames p holds)).leaves;
-}
+  added_in_doubt : AddsFrame area false true payload end p q → HoldsFrames area generation end frames true q
+  added_in_doubt adds = record {
+    gate = holds.gate;
+    is_open = holds.is_open;
+    head = holds.head;
+    payloads = holds.payloads;
+    doubt = Some payload;
+    count = holds.count;
+    doubtful = refl;
+    stands = (adds (front_of holds) holds.payloads (ready_of area generation end frames p holds)).leaves;
+  }
 
--- an append leaves the other area as it was
-added_there : (area : Area) (ok waits : Bool) (payload : List ℕ) (end frames : ℕ) (p q : Past) → HoldsFrames area end frames false p → AddsFrame area ok waits payload end p q → now q (other area) ≡ now p (other area)
-added_there area ok waits payload end frames p q holds adds =
-    runs_there (BeforeOrAfter holds.head holds.payloads payload) area p q (adds holds.head holds.payloads (ready_of area end frames p holds)).runs
+  -- an append leaves the other area as it was
+  added_there : (ok waits : Bool) → AddsFrame area ok waits payload end p q → now q (other area) ≡ now p (other area)
+  added_there ok waits adds =
+      runs_there (BeforeOrAfter (front_of holds) holds.payloads payload) area p q (adds (front_of holds) holds.payloads (ready_of area generation end frames p holds)).runs
 
 module _ (t0 t1 : Option Past) (area : Area) (payload : List ℕ) (generation end frames : ℕ) (broken : Bool) (gate : OtherGate) (whole : broken ≡ false) where
-  kept_added : (ok waits : Bool) (end' frames' : ℕ) → ((p q : Past) → HoldsFrames area end frames false p → AddsFrame area ok waits payload end p q → HoldsFrames area end' frames' waits q)
-      → Goes t0 t1 (AddsFrame area ok waits payload end) → ForSome t0 (IsKept area generation end frames false broken gate) → ForSome t1 (IsKept area generation end' frames' waits broken gate)
-  kept_added ok waits end' frames' step goes kept =
-      tells_on t0 t1 (AddsFrame area ok waits payload end) (IsKept area generation end frames false broken gate) (IsKept area generation end' frames' waits broken gate)
+  pub kept_done : Goes t0 t1 (AddsFrame area true false payload end) → ForSome t0 (IsKept area generation end frames Nothing broken gate) → ForSome t1 (IsKept area generation (end + 3 + length payload) (frames + 1) Nothing broken gate)
+  kept_done goes kept =
+      tells_on t0 t1 (AddsFrame area true false payload end) (IsKept area generation end frames Nothing broken gate) (IsKept area generation (end + 3 + length payload) (frames + 1) Nothing broken gate)
       (λ p q adds kept. record {
-        holds = λ _. step p q (kept.holds whole) adds;
-        yields = subst (Has (Yields gate generation)) (sym (added_there area ok waits payload end frames p q (kept.holds whole) adds)) kept.yields;
+        holds = λ _. added_done area payload generation end frames p q (kept.holds whole) adds;
+        next = kept.next;
+        beside = subst (Has (IsBeside kept.next gate generation)) (sym (added_there area payload generation end frames p q (kept.holds whole) true false adds)) kept.beside;
       }) goes kept
 
-  pub kept_done : Goes t0 t1 (AddsFrame area true false payload end) → ForSome t0 (IsKept area generation end frames false broken gate) → ForSome t1 (IsKept area generation (end + 3 + length payload) (frames + 1) false broken gate)
-  kept_done goes kept = kept_added true false (end + 3 + length payload) (frames + 1) (added_done area payload end frames) goes kept
+  pub kept_refused : Goes t0 t1 (AddsFrame area false false payload end) → ForSome t0 (IsKept area generation end frames Nothing broken gate) → ForSome t1 (IsKept area generation end frames Nothing broken gate)
+  kept_refused goes kept =
+      tells_on t0 t1 (AddsFrame area false false payload end) (IsKept area generation end frames Nothing broken gate) (IsKept area generation end frames Nothing broken gate)
+      (λ p q adds kept. record {
+        holds = λ _. added_refused area payload generation end frames p q (kept.holds whole) adds;
+        next = kept.next;
+        beside = subst (Has (IsBeside kept.next gate generation)) (sym (added_there area payload generation end frames p q (kept.holds whole) false false adds)) kept.beside;
+      }) goes kept
 
-  pub kept_refused : Goes t0 t1 (AddsFrame area false false payload end) → ForSome t0 (IsKept area generation end frames false broken gate) → ForSome t1 (IsKept area generation end frames false broken gate)
-  kept_refused goes kept = kept_added false false end frames (added_refused area payload end frames) goes kept
-
-  pub kept_in_doubt : Goes t0 t1 (AddsFrame area false true payload end) → ForSome t0 (IsKept area generation end frames false broken gate) → ForSome t1 (IsKept area generation end frames true broken gate)
-  kept_in_doubt goes kept = kept_added false true end frames (added_in_doubt area payload end frames) goes kept
+  pub kept_in_doubt : Goes t0 t1 (AddsFrame area false true payload end) → ForSome t0 (IsKept area generation end frames Nothing broken gate) → ForSome t1 (IsKept area generation end frames Frame broken gate)
+  kept_in_doubt goes kept =
+      tells_on t0 t1 (AddsFrame area false true payload end) (IsKept area generation end frames Nothing broken gate) (IsKept area generation end frames Frame broken gate)
+      (λ p q adds kept. record {
+        holds = λ _. added_in_doubt area payload generation end frames p q (kept.holds whole) adds;
+        next = kept.next;
+        beside = subst (Has (IsBeside kept.next gate generation)) (sym (added_there area payload generation end frames p q (kept.holds whole) false true adds)) kept.beside;
+      }) goes kept
 
 -- a mend, by how it ends
-record Mended (area : Area) (ok : Bool) (end frames : ℕ) (p q : Past) : Type 0 where
-  holds : HoldsFrames area end frames (not ok) q
+record Mended (area : Area) (ok : Bool) (generation end frames : ℕ) (p q : Past) : Type 0 where
+  holds : HoldsFrames area generation end frames (not ok) q
   there : now q (other area) ≡ now p (other area)
 
-mended_so : (area : Area) (ok : Bool) (end frames : ℕ) (p q : Past) (head : List ℕ) (payloads : List (List ℕ)) (doubt : Option (List ℕ)) → frames ≡ length payloads → true ≡ is_some doubt → Stands head payloads doubt end (now p area)
-    → Closes area ok end p q → Mended area ok end frames p q
-mended_so area ok end frames p q head payloads None count is stands closes = absurd (cc)
-mended_so area true end frames p q head payloads (Some payload) count is stands closes =
-    let mends = closes head payloads payload stands in
+mended_so : (area : Area) (ok : Bool) (gate generation end frames : ℕ) (p q : Past) (head : List ℕ) (payloads : List (List ℕ)) (doubt : Option (List ℕ)) → 0 < gate → frames ≡ length payloads → true ≡ is_some doubt → Stands (gate ∷ heading generation head) payloads doubt end (now p area)
+    → Closes area ok end p q → Mended area ok generation end frames p q
+mended_so area ok gate generation end frames p q head payloads None is_open count is stands closes = absurd (cc)
+mended_so area true gate generation end frames p q head payloads (Some payload) is_open count is stands closes =
+    let mends = closes (gate ∷ heading generation head) payloads payload stands in
     record {
-      holds = record { head = head; payloads = payloads; doubt = None; count = count; doubtful = refl; stands = mends.leaves };
-      there = runs_there (BeforeOrAfter head payloads payload) area p q mends.runs;
+      holds = record { gate = gate; is_open = is_open; head = head; payloads = payloads; doubt = None; count = count; doubtful = refl; stands = mends.leaves };
+      there = runs_there (BeforeOrAfter (gate ∷ heading generation head) payloads payload) area p q mends.runs;
     }
-mended_so area false end frames p q head payloads (Some payload) count is stands closes =
-    let mends = closes head payloads payload stands in
+mended_so area false gate generation end frames p q head payloads (Some payload) is_open count is stands closes =
+    let mends = closes (gate ∷ heading generation head) payloads payload stands in
     record {
-      holds = record { head = head; payloads = payloads; doubt = Some payload; count = count; doubtful = refl; stands = mends.leaves };
-      there = runs_there (BeforeOrAfter head payloads payload) area p q mends.runs;
+      holds = record { gate = gate; is_open = is_open; head = head; payloads = payloads; doubt = Some payload; count = count; doubtful = refl; stands = mends.leaves };
+      there = runs_there (BeforeOrAfter (gate ∷ heading generation head) payloads payload) area p q mends.runs;
     }
 
-pub kept_mended : (t0 t1 : Option Past) (area : Area) (ok : Bool) (generation end frames : ℕ) (broken : Bool) (gate : OtherGate) → broken ≡ false → Goes t0 t1 (Closes area ok end) → ForSome t0 (IsKept area generation end frames true broken gate)
-    → ForSome t1 (IsKept area generation end frames (not ok) broken gate)
-kept_mended t0 t1 area ok generation end frames broken gate whole goes kept =
-    tells_on t0 t1 (Closes area ok end) (IsKept area generation end frames true broken gate) (IsKept area generation end frames (not ok) broken gate)
-    (λ p q closes kept. let holds = kept.holds whole in let after = mended_so area ok end frames p q holds.head holds.payloads holds.doubt holds.count holds.doubtful holds.stands closes in record {
-      holds = λ _. after.holds;
-      yields = subst (Has (Yields gate generation)) (sym after.there) kept.yields;
-    }) goes kept
+module _ (t0 t1 : Option Past) (area : Area) (generation end frames : ℕ) (broken : Bool) (gate : OtherGate) (whole : broken ≡ false) where
+  after_mend : (ok : Bool) (p q : Past) → Closes area ok end p q → IsKept area generation end frames Frame broken gate p → Mended area ok generation end frames p q
+  after_mend ok p q closes kept =
+      let h = kept.holds whole in mended_so area ok h.gate generation end frames p q h.head h.payloads h.doubt h.is_open h.count h.doubtful h.stands closes
+
+  pub kept_mended : Goes t0 t1 (Closes area true end) → ForSome t0 (IsKept area generation end frames Frame broken gate) → ForSome t1 (IsKept area generation end frames Nothing broken gate)
+  kept_mended goes kept =
+      tells_on t0 t1 (Closes area true end) (IsKept area generation end frames Frame broken gate) (IsKept area generation end frames Nothing broken gate)
+      (λ p q closes kept. let after = after_mend true p q closes kept in record {
+        holds = λ _. after.holds;
+        next = kept.next;
+        beside = subst (Has (IsBeside kept.next gate generation)) (sym after.there) kept.beside;
+      }) goes kept
+
+  pub kept_unmended : Goes t0 t1 (Closes area false end) → ForSome t0 (IsKept area generation end frames Frame broken gate) → ForSome t1 (IsKept area generation end frames Frame broken gate)
+  kept_unmended goes kept =
+      tells_on t0 t1 (Closes area false end) (IsKept area generation end frames Frame broken gate) (IsKept area generation end frames Frame broken gate)
+      (λ p q closes kept. let after = after_mend false p q closes kept in record {
+        holds = λ _. after.holds;
+        next = kept.next;
+        beside = subst (Has (IsBeside kept.next gate generation)) (sym after.there) kept.beside;
+      }) goes kept
 
 -- what is so of a value is so of the fields that it shows
 pub broken_inside : {D : Type 0} (inside value : View D) (broken : Bool) → inside ≡ value → value.broken ≡ broken → inside.broken ≡ broken
 broken_inside {D = D} inside value broken is here = ap (λ (v : View D). v.broken) is ∙ here
 
-pub waits_inside : {D : Type 0} (inside value : View D) (waits : Bool) → inside ≡ value → value.waits ≡ waits → inside.waits ≡ waits
-waits_inside {D = D} inside value waits is here = ap (λ (v : View D). v.waits) is ∙ here
+pub waiting_inside : {D : Type 0} (inside value : View D) (waiting : Waiting) → inside ≡ value → value.waiting ≡ waiting → inside.waiting ≡ waiting
+waiting_inside {D = D} inside value waiting is here = ap (λ (v : View D). v.waiting) is ∙ here
+
+pub gate_inside : {D : Type 0} (inside value : View D) (gate : OtherGate) → inside ≡ value → value.gate ≡ gate → inside.gate ≡ gate
+gate_inside {D = D} inside value gate is here = ap (λ (v : View D). v.gate) is ∙ here
+
+pub written_inside : {D : Type 0} (inside value : View D) → inside ≡ value → value.gate ≡ Written (size_written value.gate) → inside.gate ≡ Written (size_written inside.gate)
+written_inside {D = D} inside value is here = subst (λ (v : View D). v.gate ≡ Written (size_written v.gate)) (sym is) here
+
+pub generation_inside : {D : Type 0} (inside value : View D) → inside ≡ value → value.generation < 2 ^ 64 - 1 → inside.generation < 2 ^ 64 - 1
+generation_inside {D = D} inside value is here = subst (λ (v : View D). v.generation < 2 ^ 64 - 1) (sym is) here
 
 -- the moments of two calls that were both made
 two_calls : (ok : Bool) (a b c : ℕ) → Ticks true a b → Ticks ok b c → ok ≡ true → c ≡ a + 2
@@ -166,4 +214,21 @@ pub takes_two : (ok : Bool) (a b c : ℕ) → Ticks true a b → Ticks ok b c �
 takes_two ok a b c first second = record {
   done = two_calls ok a b c first second;
   most = omega (arith, ticks_most true a b first, ticks_most ok b c second);
+}
+
+-- two calls in front of others
+pub takes_four : (ok : Bool) (a b c d : ℕ) → Ticks true a b → Ticks true b c → TakesCalls ok 2 c d → TakesCalls ok 4 a d
+takes_four ok a b c d first second last = record {
+  done = λ is. omega (arith, two_calls true a b c first second refl, last.done is);
+  most = omega (arith, ticks_most true a b first, ticks_most true b c second, last.most);
+}
+
+-- the first or the second of four calls failed
+pub fails_one : (a b : ℕ) → Ticks false a b → TakesCalls false 4 a b
+fails_one a b first = record { done = λ is. absurd (cc (is)); most = omega (arith, ticks_most false a b first) }
+
+pub fails_two : (a b c : ℕ) → Ticks true a b → Ticks false b c → TakesCalls false 4 a c
+fails_two a b c first second = record {
+  done = λ is. absurd (cc (is));
+  most = omega (arith, ticks_most true a b first, ticks_most false b c second);
 }

@@ -11,9 +11,12 @@ mod Reading
 mod FrameAt
 mod NextFrame
 mod Pieces
-mod Opening
+pub mod Opening
 mod Choosing
 mod Loads
+mod Kept
+pub mod Sides
+mod AreaWriting
 pub mod Once
 pub mod Accepted
 pub mod Public

@@ -1,5 +1,5 @@
 -- When an image can be opened, and why not where it can't be.
-use Rattle.std.proofs.Common.{◌≡◌, ◌⊎◌, ⊎_elim, inl, inr, ℕ, zero, suc, ◌+◌, ◌<◌, ◌≤◌, Bool, true, false, List, [], ◌∷◌, length, take, drop, refl, sym, ap, ◌∙◌, subst, arith, Result, Ok, Err}
+use Rattle.std.proofs.Common.{◌≡◌, ◌⊎◌, ⊎_elim, inl, inr, ℕ, zero, suc, ◌+◌, ◌<◌, ◌≤◌, Bool, true, false, List, [], ◌∷◌, ◌++◌, length, take, drop, refl, sym, ap, ◌∙◌, subst, arith, Result, Ok, Err}
 use Rattle.std.specs.Prelude.{if◌then◌else◌, ◌==◌, nat_lt}
 use Rattle.std.proofs.lemmas.Bool.Decides.{nat_tests}
 use Rattle.disk_trait.specs.Past.{Image, other}
@@ -7,13 +7,14 @@ use Rattle.disk_trait.specs.declared.area.Area.{Area}
 use Rattle.disk_trait.specs.declared.area.Area.TheVariants.{A, B}
 use Rattle.bbs_journal.specs.Header.{front, header_of, behind_gate, gate_of}
 use Rattle.bbs_journal.specs.Other.{Yields}
+use Rattle.bbs_journal.specs.Beside.{unframed, IsBeside}
 use Rattle.bbs_journal.specs.Opening.{active_of, newer, size_of, Headed, headed, ◌>>=◌}
 use Rattle.bbs_journal.specs.LoadFaults.{IsFree, Fails}
 use Rattle.bbs_journal.specs.declared.active.Active.{Active}
 use Rattle.bbs_journal.specs.declared.header.Header.{Header}
 use Rattle.bbs_journal.specs.declared.header.Header.TheVariants.{Closed, Foreign, Cut, Open}
 use Rattle.bbs_journal.specs.declared.other_gate.OtherGate.{OtherGate}
-use Rattle.bbs_journal.specs.declared.other_gate.OtherGate.TheVariants.{Shut, Loose}
+use Rattle.bbs_journal.specs.declared.other_gate.OtherGate.TheVariants.{Shut, Loose, Written}
 use Rattle.bbs_journal.specs.declared.load_fault.LoadFault.{LoadFault}
 use Rattle.bbs_journal.specs.declared.load_fault.LoadFault.TheVariants.{Disk, NotABoard, Damaged, OutOfMemory}
 
@@ -218,13 +219,13 @@ length_front : (n : ℕ) (bytes : List ℕ) → length (take (suc n) bytes) ≡ 
 length_front n [] is = refl
 length_front n (x ∷ bytes) is = absurd (omega (arith, is))
 
-behind_yields : (gate generation : ℕ) (behind : List ℕ) (h : Header) → behind_gate (take 30 behind) ≡ h → GivesWay generation h → Yields (gate_of h) generation (gate ∷ behind)
-behind_yields gate generation behind (Closed x) is gives =
+behind_stands : (gate generation : ℕ) (behind : List ℕ) (h : Header) → behind_gate (take 30 behind) ≡ h → GivesWay generation h → IsBeside [] (gate_of h) generation (gate ∷ behind)
+behind_stands gate generation behind (Closed x) is gives =
     let closed = closed_behind (take 30 behind) x is in
-    subst (λ (y : OtherGate). Yields y generation (gate ∷ behind)) (sym closed.0) (inl (omega (arith, length_front 29 behind closed.1)))
-behind_yields gate generation behind Foreign is gives = absurd gives
-behind_yields gate generation behind (Cut at) is gives = absurd gives
-behind_yields gate generation behind (Open older) is gives = inr (record { gate = gate; behind = behind; older = older; parts = refl; header = is; below = gives })
+    subst (λ (y : OtherGate). IsBeside [] y generation (gate ∷ behind)) (sym closed.0) (inl (omega (arith, length_front 29 behind closed.1)))
+behind_stands gate generation behind Foreign is gives = absurd gives
+behind_stands gate generation behind (Cut at) is gives = absurd gives
+behind_stands gate generation behind (Open older) is gives = inr (record { gate = gate; behind = behind; older = older; parts = refl; header = is; below = gives })
 
 not_zero : (n : ℕ) → (suc n == 0) ≡ false
 not_zero n = grind (arith, nat_tests)
@@ -232,10 +233,19 @@ not_zero n = grind (arith, nat_tests)
 pub open_gate : (n : ℕ) (bytes : List ℕ) → header_of (suc n ∷ bytes) ≡ behind_gate bytes
 open_gate n bytes = ap (λ (b : Bool). if b then Closed Shut else behind_gate bytes) (not_zero n)
 
-pub front_yields : (generation : ℕ) (bytes : List ℕ) → GivesWay generation (header_of (front bytes)) → Yields (gate_of (header_of (front bytes))) generation bytes
-front_yields generation [] gives = inl (omega arith)
-front_yields generation (zero ∷ behind) gives = record { rest = behind; parts = refl }
-front_yields generation (suc n ∷ behind) gives =
+pub front_stands : (generation : ℕ) (bytes : List ℕ) → GivesWay generation (header_of (front bytes)) → IsBeside [] (gate_of (header_of (front bytes))) generation bytes
+front_stands generation [] gives = inl (omega arith)
+front_stands generation (zero ∷ behind) gives = record { rest = behind; parts = refl }
+front_stands generation (suc n ∷ behind) gives =
     let e = open_gate n (take 30 behind) in
-    subst (λ (h : Header). Yields (gate_of h) generation (suc n ∷ behind)) (sym e)
-    (behind_yields (suc n) generation behind (behind_gate (take 30 behind)) refl (subst (GivesWay generation) e gives))
+    subst (λ (h : Header). IsBeside [] (gate_of h) generation (suc n ∷ behind)) (sym e)
+    (behind_stands (suc n) generation behind (behind_gate (take 30 behind)) refl (subst (GivesWay generation) e gives))
+
+-- what stands beside an area gives way to it, while its gate isn't in doubt
+pub stands_yields : (next : List ℕ) (gate : OtherGate) (generation : ℕ) (bytes : List ℕ) → IsBeside next gate generation bytes → Yields gate generation bytes
+stands_yields next Shut generation bytes beside = beside
+stands_yields next Loose generation bytes beside = beside
+stands_yields next (Written size) generation bytes (len, begins) = record { rest = unframed (generation + 1) next ++ begins.rest; parts = begins.parts }
+
+pub front_yields : (generation : ℕ) (bytes : List ℕ) → GivesWay generation (header_of (front bytes)) → Yields (gate_of (header_of (front bytes))) generation bytes
+front_yields generation bytes gives = stands_yields [] (gate_of (header_of (front bytes))) generation bytes (front_stands generation bytes gives)

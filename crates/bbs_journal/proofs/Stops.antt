@@ -11,7 +11,8 @@ use Rattle.bbs_journal.specs.Stops.{OpensAs, StopsAreOpened, AcknowledgedAreOpen
 use Rattle.bbs_journal.specs.declared.other_gate.OtherGate.{OtherGate}
 use Rattle.bbs_journal.proofs.Accepted.{accepted}
 
-area_opens : (image : Image) (area : Area) (gate generation : ℕ) (head : List ℕ) (payloads : List (List ℕ)) (beside : OtherGate) → 0 < gate → GoesWith generation head → Yields beside generation (image (other area))
+-- an area that the grammar describes, beside one that gives way, is opened
+pub area_opens : (image : Image) (area : Area) (gate generation : ℕ) (head : List ℕ) (payloads : List (List ℕ)) (beside : OtherGate) → 0 < gate → GoesWith generation head → Yields beside generation (image (other area))
     → IsArea (gate ∷ heading generation head) payloads (image area) → OpensAs image area generation head payloads
 area_opens image area gate generation head payloads beside is_open goes yields area_is =
     accepted image area generation head payloads (record { gate = gate; is_open = is_open; goes_with = goes; area_is = area_is; beside = beside; yields = yields })

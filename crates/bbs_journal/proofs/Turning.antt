@@ -13,7 +13,7 @@ use Rattle.bbs_journal.specs.Calls.{WritesSynced, Appends, AddsFrame, Mends, Clo
 use Rattle.bbs_journal.proofs.Bytes.{begins_length, bears_begins, staged_length, staged_of, bears_staged, body_written, gate_written}
 use Rattle.bbs_journal.proofs.Frames.{whole_more, framed, closed, before_or_after, place_more}
 
-turned : (P Q : List ℕ → Type 0) (area : Area) (at : ℕ) (bytes : List ℕ) → Bears P (range_of at bytes) → (ok : Bool) (p q : Past) → WritesSynced ok area at bytes p q → at ≤ length (content p area) → Has P (now p area) → Q (overwritten at bytes (content p area))
+pub turned : (P Q : List ℕ → Type 0) (area : Area) (at : ℕ) (bytes : List ℕ) → Bears P (range_of at bytes) → (ok : Bool) (p q : Past) → WritesSynced ok area at bytes p q → at ≤ length (content p area) → Has P (now p area) → Q (overwritten at bytes (content p area))
     → Turns area ok P Q p q
 turned P Q area at bytes bears true p q (r, wrote, synced) within has becomes = write_syncs P Q area at bytes bears true p r q wrote synced within has becomes
 turned P Q area at bytes bears false p q (inl wrote) within has becomes = write_fails P Q area at bytes bears p q wrote within has
@@ -28,7 +28,7 @@ module _ (area : Area) (front body : List ℕ) (end : ℕ) (is : end ≡ length 
       (omega (arith, is, n, begins_length (front ++ 0 ∷ []) (content p area) has.reads)) has (body_written front body (content p area) end is has.reads)
 
   -- a gate is written before its body
-  gate_turn : (gate : ℕ) (ok : Bool) (p q : Past) → WritesSynced ok area end (gate ∷ []) p q → Has (Staged front body) (now p area) → Turns area ok (Staged front body) (Begins (front ++ gate ∷ body)) p q
+  pub gate_turn : (gate : ℕ) (ok : Bool) (p q : Past) → WritesSynced ok area end (gate ∷ []) p q → Has (Staged front body) (now p area) → Turns area ok (Staged front body) (Begins (front ++ gate ∷ body)) p q
   gate_turn gate ok p q writes has =
       turned (Staged front body) (Begins (front ++ gate ∷ body)) area end (gate ∷ []) (bears_staged front body (range_of end (gate ∷ [])) is refl) ok p q writes
       (omega (arith, is, staged_length front body (content p area) has.reads)) has (gate_written front body gate (content p area) end is has.reads)

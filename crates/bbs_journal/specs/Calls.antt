@@ -7,13 +7,17 @@ use Rattle.disk_trait.specs.Steps.{Changes, Wrote, Synced, overwritten}
 use Rattle.disk_trait.specs.declared.area.Area.{Area}
 use Rattle.bbs_journal.specs.Frames.{IsPayload}
 use Rattle.bbs_journal.specs.Areas.{BeforeOrAfter, Ready, Waits, Stands, body_of}
-use Rattle.bbs_journal.specs.View.{View}
+use Rattle.bbs_journal.specs.View.{View, is_waiting}
+use Rattle.bbs_journal.specs.declared.other_gate.OtherGate.{OtherGate}
+use Rattle.bbs_journal.specs.declared.other_gate.OtherGate.TheVariants.{Shut}
+use Rattle.bbs_journal.specs.declared.waiting.Waiting.{Waiting}
+use Rattle.bbs_journal.specs.declared.waiting.Waiting.TheVariants.{Nothing, Frame, Header}
 
 -- what an append asks: a payload, an area without a defect, nothing in doubt, and fewer frames than can be counted
 pub record Fits {D : Type 0} (bytes : List ℕ) (journal : View D) : Type 0 where
   pub payload : IsPayload bytes
   pub whole : journal.broken ≡ false
-  pub mended : journal.waits ≡ false
+  pub mended : journal.waiting ≡ Nothing
   pub frames : journal.frames < 2 ^ 48
 
 -- a step of so many device calls: it makes all of them where it succeeds, and no more where it fails
@@ -69,25 +73,35 @@ Closes area ok end p q =
     (head : List ℕ) (payloads : List (List ℕ)) (payload : List ℕ) → Waits head payloads payload end (now p area)
     → Mends area ok head payloads payload end p q
 
--- what no append and no mend changes: the area, its generation, that it has no defect, and the other gate
+-- what no append and no mend changes: the area, its generation, and that it has no defect
 pub record Stays {D : Type 0} (old new : View D) : Type 0 where
   pub area : new.area ≡ old.area
   pub generation : new.generation ≡ old.generation
   pub broken : new.broken ≡ old.broken
-  pub gate : new.gate ≡ old.gate
 
--- what a journal knows by itself after a payload of this length: where its area ends, and that only
--- a failed append leaves something to mend
+-- what a journal knows by itself after a payload of this length: where its area ends, that the other gate is as
+-- it was, and that only a failed append leaves something to mend, its own gate
 pub record GrowsBy {D : Type 0} (ok : Bool) (len : ℕ) (old new : View D) : Type 0 where
   pub stays : Stays old new
+  pub gate : new.gate ≡ old.gate
   pub end : new.end ≡ (if ok then old.end + 3 + len else old.end)
   pub frames : new.frames ≡ (if ok then old.frames + 1 else old.frames)
-  pub waits : ok ≡ true → new.waits ≡ false
+  pub waits : ok ≡ true → new.waiting ≡ Nothing
+  pub frame : new.waiting ≡ (if is_waiting new.waiting then Frame else Nothing)
 
--- after a mend nothing waits, and after one that failed what waited waits still; all else is as it was
+-- what is known of the other gate after a mend: one that waited is shut
+abbrev pub gate_mended : Waiting → OtherGate → OtherGate
+gate_mended Nothing gate = gate
+gate_mended Frame gate = gate
+gate_mended Header gate = Shut
+
+-- after a mend nothing waits, and after one that failed what waited waits still; all else is as it was, but for a
+-- header gate that was closed
 pub record Settles {D : Type 0} (ok : Bool) (old new : View D) : Type 0 where
   pub stays : Stays old new
   pub end : new.end ≡ old.end
   pub frames : new.frames ≡ old.frames
-  pub waits : new.waits ≡ (if ok then false else true)
-  pub idle : old.waits ≡ false → (ok ≡ true) × (new ≡ old)
+  pub waits : is_waiting new.waiting ≡ (if ok then false else true)
+  pub waiting : new.waiting ≡ (if ok then Nothing else old.waiting)
+  pub gate : new.gate ≡ (if ok then gate_mended old.waiting old.gate else old.gate)
+  pub idle : old.waiting ≡ Nothing → (ok ≡ true) × (new ≡ old)

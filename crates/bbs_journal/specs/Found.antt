@@ -1,5 +1,5 @@
 -- What a reader of a disk has found.
-use Rattle.std.specs.Prelude.{◌≡◌, ℕ, ◌+◌, ◌*◌, ◌^◌, ◌<◌, Option, false, is_some, length, take, Ok}
+use Rattle.std.specs.Prelude.{◌≡◌, ℕ, ◌+◌, ◌*◌, ◌^◌, ◌<◌, Option, is_some, length, take, Ok}
 use Rattle.disk_trait.specs.Past.{Image, other}
 use Rattle.disk_trait.specs.declared.area.Area.TheVariants.{A, B}
 use Rattle.bbs_journal.specs.Header.{front, header_of, gate_of}
@@ -9,6 +9,7 @@ use Rattle.bbs_journal.specs.View.{View}
 use Rattle.bbs_journal.specs.declared.active.Active.{Active}
 use Rattle.bbs_journal.specs.declared.find.Chosen.{Chosen}
 use Rattle.bbs_journal.specs.declared.find.Found.{Found}
+use Rattle.bbs_journal.specs.declared.waiting.Waiting.TheVariants.{Nothing}
 
 -- the area to be read of an image, its front, and what the front of the other area tells of its gate
 pub record IsChosen (c : Image) (chosen : Chosen) : Type 0 where
@@ -38,6 +39,6 @@ pub record IsCounted (found : Found) : Type 0 where
 -- a journal that was just loaded: it counts the frames that were read, and nothing is in doubt
 pub record IsJustLoaded {D : Type 0} (journal : View D) (frames : ℕ) (defect : Option ℕ) : Type 0 where
   pub count : journal.frames ≡ frames
-  pub mended : journal.waits ≡ false
+  pub mended : journal.waiting ≡ Nothing
   pub broken : journal.broken ≡ is_some defect
   pub end : journal.end < 2 ^ 64

@@ -2,8 +2,10 @@ pub mod Frames
 pub mod Areas
 pub mod Header
 pub mod Other
+pub mod Beside
 pub mod View
 pub mod Calls
+pub mod Switching
 pub mod Opening
 pub mod LoadFaults
 pub mod Reading

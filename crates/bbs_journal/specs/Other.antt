@@ -4,7 +4,7 @@ use Rattle.bbs_journal.specs.Areas.{Begins}
 use Rattle.bbs_journal.specs.Header.{behind_gate}
 use Rattle.bbs_journal.specs.declared.header.Header.TheVariants.{Open}
 use Rattle.bbs_journal.specs.declared.other_gate.OtherGate.{OtherGate}
-use Rattle.bbs_journal.specs.declared.other_gate.OtherGate.TheVariants.{Shut, Loose}
+use Rattle.bbs_journal.specs.declared.other_gate.OtherGate.TheVariants.{Shut, Loose, Written}
 
 -- behind its gate, open or closed, stands the header of an older generation
 pub record IsOlder (generation : ℕ) (bytes : List ℕ) : Type 0 where
@@ -23,3 +23,4 @@ IsLoose generation bytes = (length bytes ≤ 1) ⊎ IsOlder generation bytes
 abbrev pub Yields : OtherGate → ℕ → List ℕ → Type 0
 Yields Shut generation bytes = Begins (0 ∷ []) bytes
 Yields Loose generation bytes = IsLoose generation bytes
+Yields (Written size) generation bytes = Begins (0 ∷ []) bytes

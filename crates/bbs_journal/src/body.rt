@@ -13,13 +13,13 @@ pub(crate) const LONGEST: usize = 515;
 const CLOSED: u8 = 0;
 
 #[tactic(auto, unfolding(wire_fields::specs::Field::written))]
-/// Writes the payload's bytes, and gives the place after them.
-fn put_payload(out: &mut [u8], at: usize, payload: &[u8]) -> usize
-    requires { at + length payload.now ≤ length out.old }
-    ensures { PutsText out.old at payload.now out.new result }
+/// Writes bytes, and gives the place after them.
+pub(crate) fn put_bytes(out: &mut [u8], at: usize, bytes: &[u8]) -> usize
+    requires { at + length bytes.now ≤ length out.old }
+    ensures { PutsText out.old at bytes.now out.new result }
 {
-    let after = at + payload.len();
-    out[at..after].copy_from_slice(payload);
+    let after = at + bytes.len();
+    out[at..after].copy_from_slice(bytes);
     after
 }
 
@@ -31,6 +31,6 @@ pub(crate) fn put_body(out: &mut [u8], payload: &[u8]) -> usize
     ensures bytes { take result out.new ≡ body_of payload.now }
 {
     let at = put_u16(out, 0, payload.len() as u16);
-    let end = put_payload(out, at, payload);
+    let end = put_bytes(out, at, payload);
     put_u8(out, end, CLOSED)
 }

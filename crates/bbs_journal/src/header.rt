@@ -6,7 +6,7 @@ ghost use Rattle.bbs_journal.specs.Header.{header_of, behind_gate};
 use crate::OtherGate;
 
 /// The magic, and version 1 in two bytes.
-const MARK: [u8; 10] = [b'D', b'I', b'E', b'G', b'O', b'B', b'B', b'S', 0, 1];
+pub(crate) const MARK: [u8; 10] = [b'D', b'I', b'E', b'G', b'O', b'B', b'B', b'S', 0, 1];
 
 /// How many bytes of an area are looked at before its head is read.
 pub(crate) const FRONT: usize = 31;

@@ -5,34 +5,38 @@ ghost use Rattle.std.specs.Option.{ForSome};
 ghost use Rattle.byte_ports.specs.Cause.{HasCause};
 ghost use Rattle.disk_trait.specs.Steps.{Goes};
 ghost use Rattle.bbs_journal.specs.Frames.{IsPayload};
-ghost use Rattle.bbs_journal.specs.View.{IsKept};
+ghost use Rattle.bbs_journal.specs.View.{IsKept, is_waiting};
 ghost use Rattle.bbs_journal.specs.Calls.{AddsFrame, WritesFrame, Closes, GrowsBy, Settles, Fits, TakesCalls, mend_calls};
+ghost use Rattle.bbs_journal.specs.Switching.{ClosesHeader};
+ghost use Rattle.bbs_journal.specs.declared.waiting.Waiting.TheVariants.{Nothing, Frame, Header};
 
 use crate::body::{LONGEST, put_body};
 use crate::place::Place;
+use crate::switching::other;
 use crate::synced::write_synced;
-use crate::{DiskFault, OtherGate};
+use crate::waiting::is_waiting;
+use crate::{DiskFault, OtherGate, Waiting};
 use disk_trait::{Area, Disk};
 use std::marker::Model;
 
 /// An open gate. A reader takes any byte but 0 for one.
-const OPEN: [u8; 1] = [1];
+pub(crate) const OPEN: [u8; 1] = [1];
 
 /// A closed gate.
-const CLOSED: [u8; 1] = [0];
+pub(crate) const CLOSED: [u8; 1] = [0];
 
 /// The frames of one area, and where the next one goes. After a failed call a gate may have to be
-/// mended before the next append.
+/// mended before the next append or switch.
 #[derive(Drop)]
 pub struct Journal<D: Disk> {
-    disk: D,
-    area: Area,
-    generation: u64,
-    end: u64,
-    frames: u64,
-    waits: bool,
-    broken: bool,
-    gate: OtherGate,
+    pub(crate) disk: D,
+    pub(crate) area: Area,
+    pub(crate) generation: u64,
+    pub(crate) end: u64,
+    pub(crate) frames: u64,
+    pub(crate) waiting: Waiting,
+    pub(crate) broken: bool,
+    pub(crate) gate: OtherGate,
 }
 
 impl<D: Disk> Model for Journal<D> {
@@ -48,14 +52,14 @@ impl<D: Disk> Model for Journal<D> {
       generation = j.generation;
       end = j.end;
       frames = j.frames;
-      waits = j.waits;
+      waiting = j.waiting;
       broken = j.broken;
       gate = j.gate;
     } };
 
     ghost invariant = { λ j. (j.end < 2 ^ 33 + 515 * j.frames)
         × ForSome (D.told j.disk)
-        (IsKept j.area j.generation j.end j.frames j.waits j.broken j.gate) };
+        (IsKept j.area j.generation j.end j.frames j.waiting j.broken j.gate) };
 }
 
 impl<D: Disk> Journal<D> {
@@ -63,14 +67,14 @@ impl<D: Disk> Journal<D> {
     pub(crate) fn resume(disk: D, found: Place) -> Journal<D>
         requires small { found.end < 2 ^ 33 + 515 * found.frames }
         requires kept { ForSome (D.told disk) (IsKept found.area found.generation found.end
-            found.frames false found.broken found.gate) }
+            found.frames Nothing found.broken found.gate) }
         ensures { result ≡ record {
           disk = disk;
           area = found.area;
           generation = found.generation;
           end = found.end;
           frames = found.frames;
-          waits = false;
+          waiting = Nothing;
           broken = found.broken;
           gate = found.gate;
         } }
@@ -81,7 +85,7 @@ impl<D: Disk> Journal<D> {
             generation: found.generation,
             end: found.end,
             frames: found.frames,
-            waits: false,
+            waiting: Waiting::Nothing,
             broken: found.broken,
             gate: found.gate,
         }
@@ -93,7 +97,7 @@ impl<D: Disk> Journal<D> {
     pub fn append(&mut self, payload: &[u8]) -> Result<(), DiskFault>
         requires { Fits payload.now self.old }
         ensures does { Goes (D.told self.old.disk) (D.told self.new.disk)
-            (AddsFrame self.old.area (is_ok result) self.new.waits payload.now self.old.end) }
+            (AddsFrame self.old.area (is_ok result) (is_waiting self.new.waiting) payload.now self.old.end) }
         ensures bytes { is_ok result ≡ true → Goes (D.told self.old.disk) (D.told self.new.disk)
             (WritesFrame self.old.area self.old.end payload.now) }
         ensures calls { TakesCalls (is_ok result) 4
@@ -106,32 +110,68 @@ impl<D: Disk> Journal<D> {
         let len = put_body(&mut body, payload);
         write_synced(&mut self.disk, self.area, self.end + 1, &body[..len])?;
         // From here on a fault leaves the gate in doubt.
-        self.waits = true;
+        self.waiting = Waiting::Frame;
         write_synced(&mut self.disk, self.area, self.end, &OPEN)?;
-        self.waits = false;
+        self.waiting = Waiting::Nothing;
         self.end += len as u64;
         self.frames += 1;
         Ok(())
     }
 
-    /// Closes the gate that a failed append may have left open, by a write and a sync. It makes no
-    /// device call where nothing waits.
-    pub fn mend(&mut self) -> Result<(), DiskFault>
-        requires { self.old.broken ≡ false }
-        ensures does { self.old.waits ≡ true → Goes (D.told self.old.disk) (D.told self.new.disk)
+    // The gate behind the last frame waits.
+    fn mend_frame(&mut self) -> Result<(), DiskFault>
+        requires waits { self.old.waiting ≡ Frame }
+        requires whole { self.old.broken ≡ false }
+        ensures does { Goes (D.told self.old.disk) (D.told self.new.disk)
             (Closes self.old.area (is_ok result) self.old.end) }
+        ensures calls { TakesCalls (is_ok result) 2
+            (D.moment self.old.disk) (D.moment self.new.disk) }
         ensures cause { HasCause (is_err result)
             (D.fault_count self.old.disk) (D.fault_count self.new.disk) }
-        ensures calls { TakesCalls (is_ok result) (mend_calls self.old.waits)
+        ensures settles { Settles (is_ok result) self.old self.new }
+    {
+        write_synced(&mut self.disk, self.area, self.end, &CLOSED)?;
+        self.waiting = Waiting::Nothing;
+        Ok(())
+    }
+
+    // The header gate of the other area waits.
+    fn mend_header(&mut self) -> Result<(), DiskFault>
+        requires waits { self.old.waiting ≡ Header }
+        ensures does { Goes (D.told self.old.disk) (D.told self.new.disk)
+            (ClosesHeader self.old.area self.old.gate self.old.generation (is_ok result)) }
+        ensures calls { TakesCalls (is_ok result) 2
+            (D.moment self.old.disk) (D.moment self.new.disk) }
+        ensures cause { HasCause (is_err result)
+            (D.fault_count self.old.disk) (D.fault_count self.new.disk) }
+        ensures settles { Settles (is_ok result) self.old self.new }
+    {
+        write_synced(&mut self.disk, other(self.area), 0, &CLOSED)?;
+        self.waiting = Waiting::Nothing;
+        self.gate = OtherGate::Shut;
+        Ok(())
+    }
+
+    /// Closes the gate that a failed call may have left open, by a write and a sync: that behind the
+    /// last frame, or the header gate of the other area. It makes no device call where nothing waits.
+    pub fn mend(&mut self) -> Result<(), DiskFault>
+        requires { self.old.broken ≡ false }
+        ensures frame { self.old.waiting ≡ Frame → Goes (D.told self.old.disk)
+            (D.told self.new.disk) (Closes self.old.area (is_ok result) self.old.end) }
+        ensures header { self.old.waiting ≡ Header → Goes (D.told self.old.disk)
+            (D.told self.new.disk)
+            (ClosesHeader self.old.area self.old.gate self.old.generation (is_ok result)) }
+        ensures cause { HasCause (is_err result)
+            (D.fault_count self.old.disk) (D.fault_count self.new.disk) }
+        ensures calls { TakesCalls (is_ok result) (mend_calls (is_waiting self.old.waiting))
             (D.moment self.old.disk) (D.moment self.new.disk) }
         ensures settles { Settles (is_ok result) self.old self.new }
     {
-        if !self.waits {
-            return Ok(());
+        match self.waiting {
+            Waiting::Nothing => Ok(()),
+            Waiting::Frame => self.mend_frame(),
+            Waiting::Header => self.mend_header(),
         }
-        write_synced(&mut self.disk, self.area, self.end, &CLOSED)?;
-        self.waits = false;
-        Ok(())
     }
 
     /// The place of the gate behind the last frame.
@@ -169,11 +209,11 @@ impl<D: Disk> Journal<D> {
         self.disk.clock()
     }
 
-    /// Whether a gate has to be mended before the next append.
+    /// Whether a gate has to be mended before the next append or switch.
     pub fn waits(&self) -> bool
-        ensures { result ≡ self.now.waits }
+        ensures { result ≡ is_waiting self.now.waiting }
     {
-        self.waits
+        is_waiting(self.waiting)
     }
 
     /// Gives the disk back.
@@ -186,7 +226,7 @@ impl<D: Disk> Journal<D> {
             generation: _,
             end: _,
             frames: _,
-            waits: _,
+            waiting: _,
             broken: _,
             gate: _,
         } = self;

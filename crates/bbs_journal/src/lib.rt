@@ -2,6 +2,7 @@
 #![tactic(auto)]
 
 mod active;
+mod area_writing;
 mod body;
 mod fault;
 mod find;
@@ -19,7 +20,9 @@ mod other_gate;
 mod piece;
 mod place;
 mod preparing;
+mod switching;
 mod synced;
+mod waiting;
 
 pub use fault::DiskFault;
 pub use journal::Journal;
@@ -34,6 +37,7 @@ pub use loading::{Loaded, load};
 pub use memory_loading::load_from_memory;
 pub use other_gate::OtherGate;
 pub use preparing::{PrepareFault, prepare, what_is_prepared_is_opened};
+pub use waiting::Waiting;
 
 #[cfg(test)]
 mod tests;

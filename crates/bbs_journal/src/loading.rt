@@ -9,6 +9,7 @@ ghost use Rattle.bbs_journal.specs.Opening.{headed, IsOpening};
 ghost use Rattle.bbs_journal.specs.Reading.{payloads_of, bytes_of};
 ghost use Rattle.bbs_journal.specs.LoadFaults.{is_load_disk_fault, Fails, failed};
 ghost use Rattle.disk_trait.specs.Shows.{Shows, KeepsContent, Secures};
+ghost use Rattle.bbs_journal.specs.declared.waiting.Waiting.TheVariants.{Nothing};
 ghost use Rattle.bbs_journal.specs.Found.{IsFoundIn, IsCounted, IsJustLoaded};
 
 use crate::find::{Found, find};
@@ -31,7 +32,7 @@ fn read_disk<D: Disk>(alloc: Global, disk: &mut D) -> Result<Found, LoadFault>
     ensures shows { IfOk result (λ f. (c : Image) → Shows (D.told disk.new) c → IsFoundIn c f) }
     ensures counts { IfOk result IsCounted }
     ensures kept { IfOk result (λ f. ForSome (D.told disk.new) (IsKept f.place.area
-        f.place.generation f.place.end f.place.frames false f.place.broken f.place.gate)) }
+        f.place.generation f.place.end f.place.frames Nothing f.place.broken f.place.gate)) }
     ensures fault { IfErr result (λ e. (c : Image) → Shows (D.told disk.new) c →
         Fails e (headed c)) }
     ensures ok { IfOk result (λ f. Goes (D.told disk.old) (D.told disk.new) Secures) }

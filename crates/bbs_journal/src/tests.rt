@@ -1,9 +1,11 @@
 ghost use Rattle.std.specs.Prelude.{◌≡◌, false, IfOk};
+ghost use Rattle.bbs_journal.specs.declared.waiting.Waiting.TheVariants.{Nothing};
 
 mod failing;
 mod generations;
 mod preparing;
 mod stops;
+mod switching;
 
 use super::*;
 use disk_trait::{Area, Disk, MemoryDisk};
@@ -45,7 +47,7 @@ fn empty_journal(
     failing: &[u64],
 ) -> Result<Journal<MemoryDisk>, Fail>
     ensures { IfOk result (λ j.
-        (j.frames ≡ 0) × (j.waits ≡ false) × (j.broken ≡ false)) }
+        (j.frames ≡ 0) × (j.waiting ≡ Nothing) × (j.broken ≡ false)) }
 {
     match load(alloc, disk_of(alloc, &EMPTY, &[], failing)?) {
         Ok(loaded) => {

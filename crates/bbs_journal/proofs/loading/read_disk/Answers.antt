@@ -1,5 +1,5 @@
 use Rattle.bbs_journal.proofs.Peeking.{if_ok_both}
-use Rattle.bbs_journal.proofs.Loads.{kept_found}
+use Rattle.bbs_journal.proofs.Kept.{kept_found}
 use Rattle.bbs_journal.proofs.loading.read_disk.Goals as goal
 
 pub returns-clause-kept : goal.returns-clause-kept
