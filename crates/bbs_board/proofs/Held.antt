@@ -9,7 +9,7 @@ use Rattle.disk_trait.specs.declared.area.Area.{Area}
 use Rattle.bbs_codec.specs.Command.{spelled, FitsCommand}
 use Rattle.bbs_journal.specs.Calls.{GrowsBy}
 use Rattle.bbs_journal.specs.Grammar.{heading}
-use Rattle.bbs_journal.specs.View.{View as JournalView}
+use Rattle.bbs_journal.specs.View.{View as JournalView, is_waiting}
 use Rattle.bbs_model.specs.Replay.{replay_log, IsLawful, after_item, command_in}
 use Rattle.bbs_model.specs.Step.{IsLegal}
 use Rattle.bbs_model.specs.declared.command.Command.{Command}
@@ -133,7 +133,7 @@ puts_extend t0 t1 base log marks since area generation end frames waits holds ok
 pub sound_more : {D : Type 0} (told : D → Option Past) (fault_count : D → ℕ) (rows base : Rows) (log : List Item) (marks : List ℕ) (events : List (Option Events)) (since faults : ℕ) (journal later : JournalView D) → IsSound told fault_count rows base log marks events since faults journal
     → (by : ℕ) (c : Command) → FitsCommand c → IsLegal rows c → (ok : Bool) (rows' : Rows) (log' : List Item) (marks' : List ℕ) (events' : List (Option Events)) (mark : ℕ)
     → rows' ≡ after_item rows (item_of ok by c) → log' ≡ log ++ item_of ok by c ∷ [] → marks' ≡ marks ++ mark ∷ [] → events' ≡ events ++ told_by rows (item_of ok by c) ∷ [] → IsValid rows' → ((q : Past) → told later.disk ≡ Some q → q.clock ≡ mark)
-    → Goes (told journal.disk) (told later.disk) (Puts journal.area ok journal.waits later.waits (spelled c) journal.end) → GrowsBy ok (length (spelled c)) journal later
+    → Goes (told journal.disk) (told later.disk) (Puts journal.area ok (is_waiting journal.waiting) (is_waiting later.waiting) (spelled c) journal.end) → GrowsBy ok (length (spelled c)) journal later
     → HasCause (not ok) (fault_count journal.disk) (fault_count later.disk) → IsSound told fault_count rows' base log' marks' events' since faults later
 sound_more {D} told fault_count rows base log marks events since faults journal later sound by c fits legal ok rows' log' marks' events' mark rows_is log_is marks_is events_are valid timed puts grows cause =
     let law : IsLegal (replay_log base log) c = subst (λ (r : Rows). IsLegal r c) sound.rows_are legal in
@@ -148,11 +148,12 @@ sound_more {D} told fault_count rows base log marks events since faults journal 
           ∙ ap (λ (r : Rows). told_in base log ++ told_by r (item_of ok by c) ∷ []) sound.rows_are
           ∙ sym (told_in-one_more base log (item_of ok by c)) ∙ ap (told_in base) (sym log_is);
       whole = grows.stays.broken ∙ sound.whole;
+      own = grows.frame;
       counted = counts ok rows_is grows.frames;
       doubted = subst (λ (l : List Item). RoseForEach (doubts_in l) faults (fault_count later.disk)) (sym log_is)
           (rose_more log ok by c faults (fault_count journal.disk) (fault_count later.disk) sound.doubted cause);
       holds = rw (log_is, marks_is, grows.stays.area, grows.stays.generation, grows.end, grows.frames)
-          (holds_then (told journal.disk) (told later.disk) base log marks since journal.area journal.generation journal.end journal.frames journal.waits sound.holds sound.lawful by c fits law ok later.waits mark timed puts);
+          (holds_then (told journal.disk) (told later.disk) base log marks since journal.area journal.generation journal.end journal.frames (is_waiting journal.waiting) sound.holds sound.lawful by c fits law ok (is_waiting later.waiting) mark timed puts);
     }
   where
     legal_item : (done : Bool) → IsLegal (replay_log base log) (command_in (item_of done by c))

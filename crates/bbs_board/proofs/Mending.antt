@@ -1,5 +1,5 @@
 -- What mending and then appending come to together.
-use Rattle.std.proofs.Common.{◌≡◌, inl, inr, ⊎_elim, ℕ, Bool, true, false, Option, Some, None, List, length, refl, sym, ap, subst, ◌∙◌}
+use Rattle.std.proofs.Common.{◌≡◌, inl, inr, ⊎_elim, ℕ, ◌+◌, Bool, true, false, Option, Some, None, List, length, refl, sym, ap, subst, ◌∙◌}
 use Rattle.std.specs.Prelude.{is_some, not, if◌then◌else◌}
 use Rattle.disk_trait.specs.Held.{Held}
 use Rattle.disk_trait.specs.Past.{Past, now}
@@ -7,9 +7,12 @@ use Rattle.disk_trait.specs.Steps.{Goes}
 use Rattle.disk_trait.specs.declared.area.Area.{Area}
 use Rattle.disk_trait.proofs.Public.{runs_then, runs_weaker, goes_then, goes_weaker}
 use Rattle.bbs_journal.specs.Areas.{BeforeOrAfter, Stands}
-use Rattle.bbs_journal.specs.Calls.{Appended, Appends, AddsFrame, Mends, Closes, GrowsBy, Settles, left_of}
-use Rattle.bbs_journal.specs.View.{View as JournalView}
-use Rattle.bbs_board.specs.Puts.{MayHold, IsLeft, PutsOne, Puts}
+use Rattle.bbs_journal.specs.Calls.{Appended, Appends, AddsFrame, Mends, Closes, GrowsBy, Settles, gate_mended, left_of}
+use Rattle.bbs_journal.specs.View.{View as JournalView, is_waiting}
+use Rattle.bbs_journal.specs.declared.other_gate.OtherGate.{OtherGate}
+use Rattle.bbs_journal.specs.declared.waiting.Waiting.{Waiting}
+use Rattle.bbs_journal.specs.declared.waiting.Waiting.TheVariants.{Nothing, Frame, Header}
+use Rattle.bbs_board.specs.Puts.{OnlyFrameWaits, MayHold, IsLeft, PutsOne, Puts}
 
 module _ (area : Area) (head : List ℕ) (payloads : List (List ℕ)) (payload : List ℕ) (end : ℕ) where
   -- an append leaves the area as a put does
@@ -124,37 +127,95 @@ module _ (area : Area) (payload : List ℕ) (end : ℕ) where
       (subst (λ (t : Option Past). Goes t0 t (AddsFrame area false false payload end)) (sym (idle refl).1) adds)
   adds_closed t0 t1 t2 false false after is closes idle adds = absurd (let never = (idle refl).0 in cc)
 
+-- ---- what waits
+
+calm_nothing : (w : Waiting) → is_waiting w ≡ false → w ≡ Nothing
+calm_nothing Nothing is = refl
+calm_nothing Frame is = absurd (cc)
+calm_nothing Header is = absurd (cc)
+
+pub frame_only : (w : Waiting) → OnlyFrameWaits w → is_waiting w ≡ true → w ≡ Frame
+frame_only Nothing own is = absurd (cc)
+frame_only Frame own is = refl
+frame_only Header own is = absurd (cc)
+
+frame_gate : (w : Waiting) (gate : OtherGate) → OnlyFrameWaits w → gate_mended w gate ≡ gate
+frame_gate Nothing gate own = refl
+frame_gate Frame gate own = refl
+frame_gate Header gate own = absurd (cc)
+
+only_settled : (ok : Bool) (w later : Waiting) → OnlyFrameWaits w → later ≡ (if ok then Nothing else w) → OnlyFrameWaits later
+only_settled true w later own is = subst OnlyFrameWaits (sym is) refl
+only_settled false w later own is = subst OnlyFrameWaits (sym is) own
+
+gate_settled : (ok : Bool) (w : Waiting) (gate later : OtherGate) → OnlyFrameWaits w → later ≡ (if ok then gate_mended w gate else gate) → later ≡ gate
+gate_settled true w gate later own is = is ∙ frame_gate w gate own
+gate_settled false w gate later own is = is
+
+-- what a journal knows after a put, by the call that failed or after the last one
+module _ {D : Type 0} (v0 v1 : JournalView D) (len : ℕ) (own : OnlyFrameWaits v0.waiting) where
+  pub grows_not : Settles false v0 v1 → GrowsBy false len v0 v1
+  grows_not settles = record {
+    stays = settles.stays;
+    gate = settles.gate;
+    end = settles.end;
+    frames = settles.frames;
+    waits = λ never. absurd (cc (never));
+    frame = only_settled false v0.waiting v1.waiting own settles.waiting;
+  }
+
+  pub grows_on : (ok : Bool) (v2 : JournalView D) → Settles true v0 v1 → GrowsBy ok len v1 v2 → GrowsBy ok len v0 v2
+  grows_on ok v2 mended grows = record {
+    stays = record { area = grows.stays.area ∙ mended.stays.area; generation = grows.stays.generation ∙ mended.stays.generation; broken = grows.stays.broken ∙ mended.stays.broken };
+    gate = grows.gate ∙ gate_settled true v0.waiting v0.gate v1.gate own mended.gate;
+    end = grows.end ∙ ap (λ (n : ℕ). if ok then n + 3 + len else n) mended.end;
+    frames = grows.frames ∙ ap (λ (n : ℕ). if ok then n + 1 else n) mended.frames;
+    waits = grows.waits;
+    frame = grows.frame;
+  }
+
+-- a put that failed at its own gate, after a mend of it
+pub grows_closed : {D : Type 0} (v1 v2 v3 : JournalView D) (len : ℕ) (ok : Bool) → GrowsBy false len v1 v2 → Settles ok v2 v3 → GrowsBy false len v1 v3
+grows_closed v1 v2 v3 len ok grows settles = record {
+  stays = record { area = settles.stays.area ∙ grows.stays.area; generation = settles.stays.generation ∙ grows.stays.generation; broken = settles.stays.broken ∙ grows.stays.broken };
+  gate = gate_settled ok v2.waiting v2.gate v3.gate grows.frame settles.gate ∙ grows.gate;
+  end = settles.end ∙ grows.end;
+  frames = settles.frames ∙ grows.frames;
+  waits = λ never. absurd (cc (never));
+  frame = only_settled ok v2.waiting v3.waiting grows.frame settles.waiting;
+}
+
 -- ---- the calls of a put, each at the journal that the one before it left
 
-module _ {D : Type 0} (told : D → Option Past) (v0 v1 v2 : JournalView D) (payload : List ℕ) (mended : Settles true v0 v1) (closes : v0.waits ≡ true → Goes (told v0.disk) (told v1.disk) (Closes v0.area true v0.end)) where
+module _ {D : Type 0} (told : D → Option Past) (v0 v1 v2 : JournalView D) (payload : List ℕ) (mended : Settles true v0 v1) (closes : is_waiting v0.waiting ≡ true → Goes (told v0.disk) (told v1.disk) (Closes v0.area true v0.end)) where
   as_before : (ok waits : Bool) (t : Option Past) → Goes (told v1.disk) t (AddsFrame v1.area ok waits payload v1.end) → Goes (told v1.disk) t (AddsFrame v0.area ok waits payload v0.end)
   as_before ok waits t adds =
       subst (λ (a : Area). Goes (told v1.disk) t (AddsFrame a ok waits payload v0.end)) mended.stays.area
       (subst (λ (n : ℕ). Goes (told v1.disk) t (AddsFrame v1.area ok waits payload n)) mended.end adds)
 
-  idle_told : v0.waits ≡ false → told v1.disk ≡ told v0.disk
-  idle_told idle = let still = mended.idle idle in ap (λ (v : JournalView D). told v.disk) still.1
+  idle_told : is_waiting v0.waiting ≡ false → told v1.disk ≡ told v0.disk
+  idle_told idle = let still = mended.idle (calm_nothing v0.waiting idle) in ap (λ (v : JournalView D). told v.disk) still.1
 
-  pub put_made : (v2.waits ≡ false) → Goes (told v1.disk) (told v2.disk) (AddsFrame v1.area true v2.waits payload v1.end) → Goes (told v0.disk) (told v2.disk) (Puts v0.area true v0.waits v2.waits payload v0.end)
-  put_made calm adds = puts_both v0.area payload v0.end (told v0.disk) (told v1.disk) (told v2.disk) true v0.waits v2.waits (λ is. calm) closes idle_told (as_before true v2.waits (told v2.disk) adds)
+  pub put_made : (is_waiting v2.waiting ≡ false) → Goes (told v1.disk) (told v2.disk) (AddsFrame v1.area true (is_waiting v2.waiting) payload v1.end) → Goes (told v0.disk) (told v2.disk) (Puts v0.area true (is_waiting v0.waiting) (is_waiting v2.waiting) payload v0.end)
+  put_made calm adds = puts_both v0.area payload v0.end (told v0.disk) (told v1.disk) (told v2.disk) true (is_waiting v0.waiting) (is_waiting v2.waiting) (λ is. calm) closes idle_told (as_before true (is_waiting v2.waiting) (told v2.disk) adds)
 
-  module _ (v3 : JournalView D) (ok : Bool) (adds : Goes (told v1.disk) (told v2.disk) (AddsFrame v1.area false v2.waits payload v1.end)) (grows : GrowsBy false (length payload) v1 v2) (settles : Settles ok v2 v3)
-      (shuts : v2.waits ≡ true → Goes (told v2.disk) (told v3.disk) (Closes v2.area ok v2.end)) where
-    shuts_there : v2.waits ≡ true → Goes (told v2.disk) (told v3.disk) (Closes v1.area ok v1.end)
+  module _ (v3 : JournalView D) (ok : Bool) (adds : Goes (told v1.disk) (told v2.disk) (AddsFrame v1.area false (is_waiting v2.waiting) payload v1.end)) (grows : GrowsBy false (length payload) v1 v2) (settles : Settles ok v2 v3)
+      (shuts : is_waiting v2.waiting ≡ true → Goes (told v2.disk) (told v3.disk) (Closes v2.area ok v2.end)) where
+    shuts_there : is_waiting v2.waiting ≡ true → Goes (told v2.disk) (told v3.disk) (Closes v1.area ok v1.end)
     shuts_there is =
         subst (λ (a : Area). Goes (told v2.disk) (told v3.disk) (Closes a ok v1.end)) grows.stays.area
         (subst (λ (n : ℕ). Goes (told v2.disk) (told v3.disk) (Closes v2.area ok n)) grows.end (shuts is))
 
-    adds_there : Goes (told v1.disk) (told v3.disk) (AddsFrame v0.area false v3.waits payload v0.end)
-    adds_there = as_before false v3.waits (told v3.disk)
-        (adds_closed v1.area payload v1.end (told v1.disk) (told v2.disk) (told v3.disk) v2.waits ok v3.waits settles.waits shuts_there
-        (λ idle. let still = settles.idle idle in (still.0, ap (λ (v : JournalView D). told v.disk) still.1)) adds)
+    adds_there : Goes (told v1.disk) (told v3.disk) (AddsFrame v0.area false (is_waiting v3.waiting) payload v0.end)
+    adds_there = as_before false (is_waiting v3.waiting) (told v3.disk)
+        (adds_closed v1.area payload v1.end (told v1.disk) (told v2.disk) (told v3.disk) (is_waiting v2.waiting) ok (is_waiting v3.waiting) settles.waits shuts_there
+        (λ idle. let still = settles.idle (calm_nothing v2.waiting idle) in (still.0, ap (λ (v : JournalView D). told v.disk) still.1)) adds)
 
-    pub put_failed : Goes (told v0.disk) (told v3.disk) (Puts v0.area false v0.waits v3.waits payload v0.end)
-    put_failed = puts_both v0.area payload v0.end (told v0.disk) (told v1.disk) (told v3.disk) false v0.waits v3.waits (λ is. absurd (cc)) closes idle_told adds_there
+    pub put_failed : Goes (told v0.disk) (told v3.disk) (Puts v0.area false (is_waiting v0.waiting) (is_waiting v3.waiting) payload v0.end)
+    put_failed = puts_both v0.area payload v0.end (told v0.disk) (told v1.disk) (told v3.disk) false (is_waiting v0.waiting) (is_waiting v3.waiting) (λ is. absurd (cc)) closes idle_told adds_there
 
-    pub adds_failed : v0.waits ≡ false → Goes (told v0.disk) (told v3.disk) (AddsFrame v0.area false v3.waits payload v0.end)
-    adds_failed idle = subst (λ (t : Option Past). Goes t (told v3.disk) (AddsFrame v0.area false v3.waits payload v0.end)) (idle_told idle) adds_there
+    pub adds_failed : is_waiting v0.waiting ≡ false → Goes (told v0.disk) (told v3.disk) (AddsFrame v0.area false (is_waiting v3.waiting) payload v0.end)
+    adds_failed idle = subst (λ (t : Option Past). Goes t (told v3.disk) (AddsFrame v0.area false (is_waiting v3.waiting) payload v0.end)) (idle_told idle) adds_there
 
 -- ---- said of what was written
 

@@ -1,11 +1,18 @@
 -- What mending and then appending do to the area of a journal.
-use Rattle.std.specs.Prelude.{◌≡◌, ◌⊎◌, ℕ, ◌+◌, ◌≤◌, Bool, true, false, is_some, Option, Some, List, [], ◌∷◌, ◌++◌, length}
+use Rattle.std.specs.Prelude.{◌≡◌, ◌⊎◌, ℕ, ◌+◌, ◌≤◌, Bool, true, false, is_some, Option, Some, List, [], ◌∷◌, ◌++◌, length, if◌then◌else◌}
 use Rattle.disk_trait.specs.Held.{Held}
 use Rattle.disk_trait.specs.Past.{Past, now}
 use Rattle.disk_trait.specs.Runs.{Runs}
 use Rattle.disk_trait.specs.declared.area.Area.{Area}
 use Rattle.bbs_journal.specs.Areas.{IsArea, Ready, Stands}
 use Rattle.bbs_journal.specs.Calls.{mend_calls}
+use Rattle.bbs_journal.specs.View.{is_waiting}
+use Rattle.bbs_journal.specs.declared.waiting.Waiting.{Waiting}
+use Rattle.bbs_journal.specs.declared.waiting.Waiting.TheVariants.{Nothing, Frame}
+
+-- where a gate waits it is the one behind the last frame
+abbrev pub OnlyFrameWaits : Waiting → Type 0
+OnlyFrameWaits waiting = waiting ≡ (if is_waiting waiting then Frame else Nothing)
 
 -- this payload is the one in doubt, or the new one
 abbrev pub IsOneOf : Option (List ℕ) → List ℕ → List ℕ → Type 0

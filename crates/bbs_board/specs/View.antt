@@ -9,7 +9,7 @@ use Rattle.bbs_codec.specs.Command.{spelled, FitsCommand}
 use Rattle.bbs_journal.specs.Areas.{Stands}
 use Rattle.bbs_journal.specs.Grammar.{heading, GoesWith}
 use Rattle.bbs_journal.specs.Other.{Yields}
-use Rattle.bbs_journal.specs.View.{View as JournalView}
+use Rattle.bbs_journal.specs.View.{View as JournalView, is_waiting}
 use Rattle.bbs_journal.specs.declared.other_gate.OtherGate.{OtherGate}
 use Rattle.bbs_model.specs.Replay.{replay_log, rows_at, IsLawful}
 use Rattle.bbs_model.specs.Told.{told_in}
@@ -22,6 +22,7 @@ use Rattle.bbs_model.specs.declared.rows.Rows.{Rows}
 use Rattle.bbs_board.specs.Doubts.{doubts_in, RoseForEach}
 use Rattle.bbs_board.specs.Kept.{Kept}
 use Rattle.bbs_board.specs.Opening.{board_of}
+use Rattle.bbs_board.specs.Puts.{OnlyFrameWaits}
 
 -- its disk, the rows that it was opened with, the items since then with the disk's clock at the end of
 -- the call of each, the clock and the count of faults at the end of its load, whether a gate has to be
@@ -78,7 +79,7 @@ pub record Holds (base : Rows) (log : List Item) (marks : List ℕ) (since : ℕ
 
 -- so stands each board: it was opened with valid rows, its log is lawful and leads to its rows, which are
 -- valid, it is kept what each item told, each of its doubts has a fault for its cause, and its journal has
--- no defect and no more frames than the board has made transitions
+-- no defect, no more frames than the board has made transitions, and no other gate to mend than its last
 pub record IsSound {D : Type 0} (told : D → Option Past) (fault_count : D → ℕ) (rows base : Rows) (log : List Item)
     (marks : List ℕ) (events : List (Option Events)) (since faults : ℕ) (journal : JournalView D) : Type 0 where
   pub opened : IsValid base
@@ -87,7 +88,8 @@ pub record IsSound {D : Type 0} (told : D → Option Past) (fault_count : D → 
   pub rows_are : rows ≡ replay_log base log
   pub events_are : events ≡ told_in base log
   pub whole : journal.broken ≡ false
+  pub own : OnlyFrameWaits journal.waiting
   pub counted : journal.frames ≤ rows.next
   pub doubted : RoseForEach (doubts_in log) faults (fault_count journal.disk)
   pub holds : ForSome (told journal.disk)
-      (Holds base log marks since journal.area journal.generation journal.end journal.frames journal.waits)
+      (Holds base log marks since journal.area journal.generation journal.end journal.frames (is_waiting journal.waiting))

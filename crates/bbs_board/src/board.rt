@@ -41,6 +41,7 @@ pub struct Board<D: Disk> {
 }
 
 impl<D: Disk> Model for Board<D> {
+    ghost use Rattle.bbs_journal.specs.View.{is_waiting};
     ghost use Rattle.bbs_board.specs.History.{calls_for};
     ghost use Rattle.bbs_board.specs.View.{View, IsSound};
 
@@ -53,7 +54,7 @@ impl<D: Disk> Model for Board<D> {
       marks = b.history.marks;
       since = b.since;
       faults = b.faults;
-      waits = b.journal.waits;
+      waits = is_waiting b.journal.waiting;
       spare = calls_for b.index.spare b.history.room;
     } };
 

@@ -5,7 +5,8 @@ ghost use Rattle.disk_trait.specs.Steps.{Goes};
 ghost use Rattle.bbs_journal.specs.Calls.{AddsFrame, GrowsBy};
 ghost use Rattle.bbs_journal.specs.Frames.{IsPayload};
 ghost use Rattle.bbs_board.specs.Doubts.{RoseForEach};
-ghost use Rattle.bbs_board.specs.Puts.{Puts, PutTakes};
+ghost use Rattle.bbs_board.specs.Puts.{OnlyFrameWaits, Puts, PutTakes};
+ghost use Rattle.bbs_journal.specs.View.{is_waiting};
 
 use bbs_journal::{DiskFault, Journal};
 use disk_trait::Disk;
@@ -17,16 +18,18 @@ use disk_trait::Disk;
 pub fn put<D: Disk>(journal: &mut Journal<D>, payload: &[u8]) -> Result<(), DiskFault>
     requires payload { IsPayload payload.now }
     requires whole { journal.old.broken ≡ false }
+    requires own { OnlyFrameWaits journal.old.waiting }
     requires frames { journal.old.frames < 2 ^ 48 }
     ensures does { Goes (D.told journal.old.disk) (D.told journal.new.disk)
-        (Puts journal.old.area (is_ok result) journal.old.waits journal.new.waits payload.now
-        journal.old.end) }
-    ensures appends { journal.old.waits ≡ false → Goes (D.told journal.old.disk)
+        (Puts journal.old.area (is_ok result) (is_waiting journal.old.waiting)
+        (is_waiting journal.new.waiting) payload.now journal.old.end) }
+    ensures appends { is_waiting journal.old.waiting ≡ false → Goes (D.told journal.old.disk)
         (D.told journal.new.disk)
-        (AddsFrame journal.old.area (is_ok result) journal.new.waits payload.now journal.old.end) }
-    ensures closes { journal.old.waits ≡ false → journal.new.waits ≡ true →
+        (AddsFrame journal.old.area (is_ok result) (is_waiting journal.new.waiting) payload.now
+        journal.old.end) }
+    ensures closes { is_waiting journal.old.waiting ≡ false → is_waiting journal.new.waiting ≡ true →
         RoseForEach 2 (D.fault_count journal.old.disk) (D.fault_count journal.new.disk) }
-    ensures calls { PutTakes (is_ok result) journal.old.waits
+    ensures calls { PutTakes (is_ok result) (is_waiting journal.old.waiting)
         (D.moment journal.old.disk) (D.moment journal.new.disk) }
     ensures cause { HasCause (is_err result)
         (D.fault_count journal.old.disk) (D.fault_count journal.new.disk) }

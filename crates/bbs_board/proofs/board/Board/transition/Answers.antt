@@ -3,6 +3,7 @@ use Rattle.std.specs.Prelude.{is_err}
 use Rattle.byte_ports.specs.Cause.{HasCause}
 use Rattle.disk_trait.specs.Steps.{Goes}
 use Rattle.bbs_codec.proofs.Public.{command_least, command_most}
+use Rattle.bbs_journal.specs.View.{is_waiting}
 use Rattle.bbs_model.specs.Replay.{replay_log}
 use Rattle.bbs_model.specs.Step.{IsLegal, rows_after, events_of}
 use Rattle.bbs_model.specs.declared.event.Events.{Events}
@@ -27,7 +28,7 @@ pub returns-then-is_err-clause-does : goal.returns-then-is_err-clause-does
 returns-then-is_err-clause-does g c =
     let law : IsLegal (replay_log c.self.inside.base.value.rows c.self.inside.history.log) c.args.command.now = subst (λ (v : View g.row.D.Denot). IsLegal (rows_of v) c.args.command.now) (sym c.self.view_is) c.requires in
     let still = passes_nothing (g.D.Disk.told c.self.inside.journal.disk) c.self.inside.base.value.rows c.self.inside.history.log c.self.inside.history.marks c.self.inside.since
-    c.self.inside.journal.area c.self.inside.journal.generation c.self.inside.journal.end c.self.inside.journal.frames c.self.inside.journal.waits c.self.invariant.holds c.args.command.now c.write_command-len.ensures.fits law in
+    c.self.inside.journal.area c.self.inside.journal.generation c.self.inside.journal.end c.self.inside.journal.frames (is_waiting c.self.inside.journal.waiting) c.self.invariant.holds c.args.command.now c.write_command-len.ensures.fits law in
     subst (λ (v : View g.row.D.Denot). Goes (g.D.Disk.told v.disk) (g.D.Disk.told c.self.inside.journal.disk) (Passes v.waits verdict.Ok false (rows_of v) c.args.command.now)) c.self.view_is still
 
 pub invariant_of-self-then-is_err-2 : goal.invariant_of-self-then-is_err-2
@@ -57,10 +58,10 @@ returns-then-is_err-2-clause-does g c =
     let bytes = c.write_command-len.ensures.bytes in
     let puts = puts_as (is_ok c.put-stored.result) false _ _ failed bytes _ _ _ _ _ _ c.put-stored.ensures.does in
     let extends = puts_extend _ _ c.self.inside.base.value.rows c.self.inside.history.log c.self.inside.history.marks c.self.inside.since
-    c.self.inside.journal.area c.self.inside.journal.generation c.self.inside.journal.end c.self.inside.journal.frames c.self.inside.journal.waits c.self.invariant.holds false _ _ puts in
+    c.self.inside.journal.area c.self.inside.journal.generation c.self.inside.journal.end c.self.inside.journal.frames (is_waiting c.self.inside.journal.waiting) c.self.invariant.holds false _ _ puts in
     let does = passes_by (g.D.Disk.told c.self.inside.journal.disk) c.self.inside.base.value.rows c.self.inside.history.log c.self.inside.history.marks c.self.inside.since
-    c.self.inside.journal.area c.self.inside.journal.generation c.self.inside.journal.end c.self.inside.journal.frames c.self.inside.journal.waits c.self.invariant.holds c.args.command.now c.write_command-len.ensures.fits law
-    (g.D.Disk.told c.put-stored.new.journal.disk) false c.put-stored.new.journal.waits extends
+    c.self.inside.journal.area c.self.inside.journal.generation c.self.inside.journal.end c.self.inside.journal.frames (is_waiting c.self.inside.journal.waiting) c.self.invariant.holds c.args.command.now c.write_command-len.ensures.fits law
+    (g.D.Disk.told c.put-stored.new.journal.disk) false (is_waiting c.put-stored.new.journal.waiting) extends
     (λ calm. adds_as (is_ok c.put-stored.result) false _ _ failed bytes _ _ _ _ _ (c.put-stored.ensures.appends calm)) in
     subst (λ (v : View g.row.D.Denot). Goes (g.D.Disk.told v.disk) (g.D.Disk.told c.put-stored.new.journal.disk) (Passes v.waits verdict.Ok false (rows_of v) c.args.command.now)) c.self.view_is does
 
@@ -92,9 +93,9 @@ returns-clause-does g c =
     let bytes = c.write_command-len.ensures.bytes in
     let puts = puts_as (is_ok c.put-stored.result) true _ _ made bytes _ _ _ _ _ _ c.put-stored.ensures.does in
     let extends = puts_extend _ _ c.self.inside.base.value.rows c.self.inside.history.log c.self.inside.history.marks c.self.inside.since
-    c.self.inside.journal.area c.self.inside.journal.generation c.self.inside.journal.end c.self.inside.journal.frames c.self.inside.journal.waits c.self.invariant.holds true _ _ puts in
+    c.self.inside.journal.area c.self.inside.journal.generation c.self.inside.journal.end c.self.inside.journal.frames (is_waiting c.self.inside.journal.waiting) c.self.invariant.holds true _ _ puts in
     let does = passes_by (g.D.Disk.told c.self.inside.journal.disk) c.self.inside.base.value.rows c.self.inside.history.log c.self.inside.history.marks c.self.inside.since
-    c.self.inside.journal.area c.self.inside.journal.generation c.self.inside.journal.end c.self.inside.journal.frames c.self.inside.journal.waits c.self.invariant.holds c.args.command.now c.write_command-len.ensures.fits law
-    (g.D.Disk.told c.put-stored.new.journal.disk) true c.put-stored.new.journal.waits extends
+    c.self.inside.journal.area c.self.inside.journal.generation c.self.inside.journal.end c.self.inside.journal.frames (is_waiting c.self.inside.journal.waiting) c.self.invariant.holds c.args.command.now c.write_command-len.ensures.fits law
+    (g.D.Disk.told c.put-stored.new.journal.disk) true (is_waiting c.put-stored.new.journal.waiting) extends
     (λ calm. adds_as (is_ok c.put-stored.result) true _ _ made bytes _ _ _ _ _ (c.put-stored.ensures.appends calm)) in
     subst (λ (v : View g.row.D.Denot). Goes (g.D.Disk.told v.disk) (g.D.Disk.told c.put-stored.new.journal.disk) (Passes v.waits verdict.Ok true (rows_of v) c.args.command.now)) c.self.view_is does
