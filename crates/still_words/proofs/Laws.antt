@@ -1,14 +1,14 @@
 -- What each status says, from how the words end that ask for no run.
-use Rattle.std.proofs.Common.{◌≡◌, ◌⊎◌, ◌≤◌, true, [], Option, Some, None, Err, refl, ap, subst, inl, inr, arith}
+use Rattle.std.proofs.Common.{◌≡◌, ◌⊎◌, ◌∙◌, ◌≤◌, ℕ, true, [], Option, Some, None, Ok, Err, refl, sym, ap, subst, inl, inr, arith}
 use Rattle.byte_ports.specs.Cause.{Rose}
 use Rattle.disk_trait.proofs.Public.{goes_weaker}
 use Rattle.disk_trait.specs.Past.{Past, Image}
 use Rattle.disk_trait.specs.Shows.{Shows}
 use Rattle.disk_trait.specs.Steps.{Goes}
 use Rattle.disk_trait.specs.declared.area.Area.TheVariants.{A, B}
-use Rattle.bbs_board.specs.Opening.{IsRefused}
+use Rattle.bbs_board.specs.Opening.{IsBoard, IsRefused}
 use Rattle.bbs_board.proofs.Public.{not_refused}
-use Rattle.bbs_journal.specs.Preparing.{FindsBytes, PreparesBy}
+use Rattle.bbs_journal.specs.Preparing.{FindsBytes, Prepares, PreparesBy}
 use Rattle.bbs_journal.specs.declared.load_fault.LoadFault.{LoadFault}
 use Rattle.bbs_journal.specs.declared.load_fault.LoadFault.TheVariants as fault
 use Rattle.bbs_journal.specs.declared.preparing.PrepareFault.TheVariants.{NotEmpty}
@@ -17,7 +17,8 @@ use Rattle.program_edge.specs.Opening.{EndsUnopened, is_before_board}
 use Rattle.program_edge.specs.Ports.{Ports, IsTold}
 use Rattle.program_edge.specs.declared.ending.Ending.{Ending}
 use Rattle.program_edge.specs.declared.ending.Ending.TheVariants as ending
-use Rattle.still_words.specs.Still.{StillEnds, RecordsEnds, CheckEnds, PrepareEnds, UsageEnds, MeetsBoard, MeetsStill}
+use Rattle.bbs_model.specs.declared.rows.Rows.{Rows}
+use Rattle.still_words.specs.Still.{StillEnds, RecordsEnds, CheckEnds, PrepareEnds, UsageEnds, MeetsBoard, MeetsBytes, MeetsNoBoard, MeetsObstacle, MeetsStill, IsStopped}
 use Rattle.still_words.specs.declared.words.Asked.{Asked}
 use Rattle.still_words.specs.declared.words.Asked.TheVariants as asked
 
@@ -213,3 +214,51 @@ module _ (v w : Ports) where
   complete_from (ending.Script why) what h m told sink disk = absurd (grammar_met (ending.Script why) what refl h m)
   complete_from ending.Read what h m told sink disk = absurd (grammar_met ending.Read what refl h m)
   complete_from ending.TooLong what h m told sink disk = absurd (grammar_met ending.TooLong what refl h m)
+
+  -- ---- what stops a word
+
+  -- areas that were prepared had no bytes
+  none_prepared : (told told' : Option Past) → Goes told told' Prepares → MeetsBytes told → IsTold told' → ⊥
+  none_prepared None told' goes m is = absurd m.shows
+  none_prepared (Some p) None goes m is = absurd is
+  none_prepared (Some p) (Some q) goes m is = elim m.bytes [
+    | inl some ↦ some (sym (m.shows A) ∙ goes.a_was)
+    | inr some ↦ some (sym (m.shows B) ∙ goes.b_was)
+  ]
+
+  prepare_stopped : (how : Ending) → PrepareEnds how v w → MeetsBytes v.told → IsTold w.told → (Rose v.disk_faults w.disk_faults → ⊥) → status_of how ≡ 9
+  prepare_stopped ending.Exists h m told disk = refl
+  prepare_stopped ending.Done h m told disk = absurd (none_prepared v.told w.told h.does m told)
+  prepare_stopped ending.Unopened h m told disk = absurd (disk (h.cause.rose refl))
+  prepare_stopped how h m told disk = absurd h
+
+  no_board_met : (m : MeetsNoBoard v.told) → (rows : Rows) → IsBoard rows m.image → ⊥
+  no_board_met m rows board = not_refused rows m.why m.image board m.refused
+
+  unopened_stopped : (how : Ending) → EndsUnopened how v w → (Rose v.disk_faults w.disk_faults → ⊥) → (status_of how ≡ 6) ⊎ (status_of how ≡ 7)
+  unopened_stopped (ending.NotABoard area) h disk = inl refl
+  unopened_stopped (ending.Damaged area at) h disk = inl refl
+  unopened_stopped ending.OutOfMemory h disk = inr refl
+  unopened_stopped ending.Unopened h disk = absurd (disk (h.cause.rose refl))
+  unopened_stopped how h disk = absurd h
+
+  records_stopped : (how : Ending) → RecordsEnds how v w → MeetsNoBoard v.told → IsTold w.told → (Rose v.disk_faults w.disk_faults → ⊥) → (status_of how ≡ 6) ⊎ (status_of how ≡ 7)
+  records_stopped ending.Done (rows, s) m told disk = absurd (no_board_met m rows (s.found m.image m.shows told))
+  records_stopped ending.Unwritten (rows, s) m told disk = absurd (no_board_met m rows (s.found m.image m.shows told))
+  records_stopped how h m told disk = unopened_stopped how h disk
+
+  check_stopped : (how : Ending) → CheckEnds how v w → MeetsNoBoard v.told → IsTold w.told → (Rose v.disk_faults w.disk_faults → ⊥) → (status_of how ≡ 6) ⊎ (status_of how ≡ 7)
+  check_stopped ending.Done (check, s) m told disk = let c = s.found m.image m.shows told in absurd (no_board_met m c.rows c.board)
+  check_stopped ending.Unwritten (check, s) m told disk = let c = s.found m.image m.shows told in absurd (no_board_met m c.rows c.board)
+  check_stopped how h m told disk = unopened_stopped how h disk
+
+  pub stopped_from : (how : Ending) (what : Option Asked) (n : ℕ) → n ≡ status_of how → StillEnds how what v w → MeetsObstacle what v.told → IsTold w.told
+      → (Rose v.disk_faults w.disk_faults → ⊥) → IsStopped what n
+  stopped_from how what n is h m told disk = subst (λ (k : ℕ). IsStopped what k) (sym is) (by_word what h m)
+    where
+      by_word : (x : Option Asked) → StillEnds how x v w → MeetsObstacle x v.told → IsStopped x (status_of how)
+      by_word (Some asked.Run) h m = absurd m
+      by_word (Some asked.Prepare) h m = prepare_stopped how h m told disk
+      by_word (Some asked.Records) h m = records_stopped how h m told disk
+      by_word (Some asked.Check) h m = check_stopped how h m told disk
+      by_word None h m = absurd m

@@ -1,14 +1,16 @@
 -- How the words end that ask for no run, by what the sink and the disk did.
-use Rattle.std.specs.Prelude.{◌≡◌, Bool, true, false, List, [], Option, Some, None, Result, Ok, Err, ℕ}
+use Rattle.std.specs.Prelude.{◌≡◌, ◌≢◌, ◌⊎◌, Bool, true, false, List, [], Option, Some, None, Result, Ok, Err, ℕ}
 use Rattle.byte_ports.specs.Cause.{HasCause}
 use Rattle.disk_trait.specs.Past.{Past, Image}
 use Rattle.disk_trait.specs.Shows.{Shows, Secures}
 use Rattle.disk_trait.specs.Steps.{Goes}
+use Rattle.disk_trait.specs.declared.area.Area.TheVariants.{A, B}
 use Rattle.bbs_journal.specs.Preparing.{PreparesBy}
+use Rattle.bbs_journal.specs.declared.load_fault.LoadFault.{LoadFault}
 use Rattle.bbs_journal.specs.declared.preparing.PrepareFault.{PrepareFault}
 use Rattle.bbs_journal.specs.declared.preparing.PrepareFault.TheVariants.{Disk, NotEmpty}
 use Rattle.bbs_model.specs.declared.rows.Rows.{Rows}
-use Rattle.bbs_board.specs.Opening.{IsBoard}
+use Rattle.bbs_board.specs.Opening.{IsBoard, IsRefused}
 use Rattle.record_print.specs.declared.check.Check.{Check}
 use Rattle.program_edge.specs.Ending.{line_of}
 use Rattle.program_edge.specs.Opening.{EndsUntouched, EndsUnopened}
@@ -88,3 +90,32 @@ MeetsStill (Some asked.Prepare) told = Shows told (λ area. [])
 MeetsStill (Some asked.Records) told = MeetsBoard told
 MeetsStill (Some asked.Check) told = MeetsBoard told
 MeetsStill None told = ⊥
+
+-- the disk tells that it holds no board, with this first defect
+pub record MeetsNoBoard (told : Option Past) : Type 0 where
+  pub why : LoadFault
+  pub image : Image
+  pub shows : Shows told image
+  pub refused : IsRefused why image
+
+-- the disk tells that an area isn't empty
+pub record MeetsBytes (told : Option Past) : Type 0 where
+  pub image : Image
+  pub shows : Shows told image
+  pub bytes : (image A ≢ []) ⊎ (image B ≢ [])
+
+-- the disk tells what stops the word: an area that isn't empty, or no board
+abbrev pub MeetsObstacle : Option Asked → Option Past → Type 0
+MeetsObstacle (Some asked.Run) told = ⊥
+MeetsObstacle (Some asked.Prepare) told = MeetsBytes told
+MeetsObstacle (Some asked.Records) told = MeetsNoBoard told
+MeetsObstacle (Some asked.Check) told = MeetsNoBoard told
+MeetsObstacle None told = ⊥
+
+-- the word ends with the status of what stops it; the line of a defect may want memory
+abbrev pub IsStopped : Option Asked → ℕ → Type 0
+IsStopped (Some asked.Run) status = ⊥
+IsStopped (Some asked.Prepare) status = status ≡ 9
+IsStopped (Some asked.Records) status = (status ≡ 6) ⊎ (status ≡ 7)
+IsStopped (Some asked.Check) status = (status ≡ 6) ⊎ (status ≡ 7)
+IsStopped None status = ⊥

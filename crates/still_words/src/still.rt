@@ -11,7 +11,7 @@ ghost use Rattle.program_edge.specs.Ending.{status_of};
 ghost use Rattle.program_edge.specs.Opening.{is_before_board};
 ghost use Rattle.program_edge.specs.Ports.{IsTold, ports_of};
 ghost use Rattle.program_edge.specs.declared.ending.Ending.{Ending as AnEnding};
-ghost use Rattle.still_words.specs.Still.{StillEnds, MeetsStill};
+ghost use Rattle.still_words.specs.Still.{StillEnds, MeetsStill, MeetsObstacle, IsStopped};
 ghost use Rattle.still_words.specs.Words.{asked_of};
 ghost use Rattle.still_words.specs.declared.words.Asked.TheVariants as wanted;
 
@@ -78,6 +78,12 @@ pub fn still_top<S: Source, K: Sink, D: Disk>(
         × ((image : Image) → Shows (D.told disk) image → IsTold (D.told result.disk)
         → IsRefused why image) }
     ensures exists { result.status ≡ 9 → Goes (D.told disk) (D.told result.disk) FindsBytes }
+
+    // Where the disk holds what stops the word, and doesn't fail, it is 9 or 6.
+    ensures stopped { MeetsObstacle (asked_of (map (λ w. string_bytes w) words.now)) (D.told disk)
+        → IsTold (D.told result.disk)
+        → (Rose (D.fault_count disk) (D.fault_count result.disk) → ⊥)
+        → IsStopped (asked_of (map (λ w. string_bytes w) words.now)) result.status }
 
     // With what the word asks for, and without a fault, all is done unless memory runs out.
     ensures complete { MeetsStill (asked_of (map (λ w. string_bytes w) words.now)) (D.told disk)

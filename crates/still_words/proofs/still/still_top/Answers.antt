@@ -1,6 +1,6 @@
 use Rattle.std.proofs.Common.{◌∙◌, sym, ap, inl, inr}
 use Rattle.program_edge.specs.Opening.{is_before_board}
-use Rattle.still_words.proofs.Laws.{opens_from, usage_from, usage_to, unwritten_from, unstored_from, refused_from, exists_from, complete_from, asked_as}
+use Rattle.still_words.proofs.Laws.{opens_from, usage_from, usage_to, unwritten_from, unstored_from, refused_from, exists_from, complete_from, stopped_from, asked_as}
 use Rattle.still_words.proofs.still.still_top.Goals as goal
 
 pub returns-clause-ends : goal.returns-clause-ends
@@ -34,3 +34,7 @@ returns-clause-complete g c meets told sink disk =
       | inl n ↦ inl (c.number_of.ensures ∙ n)
       | inr n ↦ inr (c.number_of.ensures ∙ n)
     ]
+
+pub returns-clause-stopped : goal.returns-clause-stopped
+returns-clause-stopped g c meets told disk =
+    stopped_from _ _ c.still-ending.result.0 _ _ c.number_of.ensures (asked_as _ _ c.still-ending.result.0 _ _ c.read_words.ensures c.still-ending.ensures.ends) meets told disk
