@@ -4,3 +4,4 @@ pub mod SinceEntry
 pub mod Spoken
 pub mod TopLaws
 pub mod Serial
+pub mod Exactly

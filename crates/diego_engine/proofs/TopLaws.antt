@@ -71,9 +71,9 @@ module _ {D : Type 0} (told : D → Option Past) (faults moment : D → ℕ) (e 
   run_unstored how n h = absurd (omega (arith, n))
 
   run_refused : (how : Ending) → status_of how ≡ 6 → RunEnds told faults moment how e left left' v w
-      → (why : LoadFault) × ((image : Image) → Shows v.told image → IsTold w.told → IsRefused why image)
-  run_refused (ending.NotABoard area) n runs = (fault.NotABoard area, runs.ends.1.refused)
-  run_refused (ending.Damaged area at) n runs = (fault.Damaged area at, runs.ends.1.refused)
+      → (why : LoadFault) × (w.disk_faults ≡ v.disk_faults) × ((image : Image) → Shows v.told image → IsTold w.told → IsRefused why image)
+  run_refused (ending.NotABoard area) n runs = (fault.NotABoard area, runs.ends.1.early.cause.stood refl, runs.ends.1.refused)
+  run_refused (ending.Damaged area at) n runs = (fault.Damaged area at, runs.ends.1.early.cause.stood refl, runs.ends.1.refused)
   run_refused how n h = absurd (omega (arith, n))
 
   run_too_long : (how : Ending) → status_of how ≡ 8 → RunEnds told faults moment how e left left' v w → Lost left left' (limit + 1)
@@ -131,7 +131,7 @@ module _ {D : Type 0} (told : D → Option Past) (faults moment : D → ℕ) (e 
   unstored_from how (Some asked.Check) n h = still.unstored_from v w how (Some asked.Check) n h.still
   unstored_from how None n h = still.unstored_from v w how None n h.still
 
-  pub refused_from : (how : Ending) (what : Option Asked) → status_of how ≡ 6 → ProgramEnds told faults moment how what e left left' v w → (why : LoadFault) × ((image : Image) → Shows v.told image → IsTold w.told → IsRefused why image)
+  pub refused_from : (how : Ending) (what : Option Asked) → status_of how ≡ 6 → ProgramEnds told faults moment how what e left left' v w → (why : LoadFault) × (w.disk_faults ≡ v.disk_faults) × ((image : Image) → Shows v.told image → IsTold w.told → IsRefused why image)
   refused_from how (Some asked.Run) n h = run_refused how n h
   refused_from how (Some asked.Prepare) n h = still.refused_from v w how (Some asked.Prepare) n h.still
   refused_from how (Some asked.Records) n h = still.refused_from v w how (Some asked.Records) n h.still
@@ -145,7 +145,8 @@ module _ {D : Type 0} (told : D → Option Past) (faults moment : D → ℕ) (e 
   too_long_from how (Some asked.Check) n h = absurd (not_here how (Some asked.Check) 8 (λ never. omega (arith, never)) refl n h.still)
   too_long_from how None n h = absurd (not_here how None 8 (λ never. omega (arith, never)) refl n h.still)
 
-  pub exists_from : (how : Ending) (what : Option Asked) → status_of how ≡ 9 → ProgramEnds told faults moment how what e left left' v w → Goes v.told w.told FindsBytes
+  pub exists_from : (how : Ending) (what : Option Asked) → status_of how ≡ 9 → ProgramEnds told faults moment how what e left left' v w
+      → (what ≡ Some asked.Prepare) × (w.disk_faults ≡ v.disk_faults) × Goes v.told w.told FindsBytes
   exists_from how (Some asked.Run) n h = absurd (run_exists how n h)
   exists_from how (Some asked.Prepare) n h = still.exists_from v w how (Some asked.Prepare) n h.still
   exists_from how (Some asked.Records) n h = still.exists_from v w how (Some asked.Records) n h.still
@@ -170,7 +171,7 @@ module _ {D : Type 0} (told : D → Option Past) (faults moment : D → ℕ) (e 
   -- ---- completeness
 
   -- what was read of a source that tells its bytes is what it tells
-  as_told : (said said' : Result Script ScriptFault) → TellsAs said left → ReadsAs said' left left' → said ≡ said'
+  pub as_told : (said said' : Result Script ScriptFault) → TellsAs said left → ReadsAs said' left left' → said ≡ said'
   as_told said said' tells reads = by_left left left' tells.left_is reads.consumes reads.end
     where
       by_left : (l l' : Option (List ℕ)) → l ≡ Some tells.bytes → Consumes l l' reads.bytes → IsAtEnd l' → said ≡ said'
@@ -182,7 +183,7 @@ module _ {D : Type 0} (told : D → Option Past) (faults moment : D → ℕ) (e 
           sym tells.says ∙ ap script_of (sym all) ∙ reads.says
 
   -- no more can be taken than there is
-  not_more : (bytes : List ℕ) (n : ℕ) → left ≡ Some bytes → Lost left left' n → n ≤ length bytes
+  pub not_more : (bytes : List ℕ) (n : ℕ) → left ≡ Some bytes → Lost left left' n → n ≤ length bytes
   not_more bytes n is (read, len, consumes) = by_left left left' is consumes
     where
       by_left : (l l' : Option (List ℕ)) → l ≡ Some bytes → Consumes l l' read → n ≤ length bytes
@@ -192,13 +193,13 @@ module _ {D : Type 0} (told : D → Option Past) (faults moment : D → ℕ) (e 
           let same : xs ≡ bytes = cc in
           omega (arith, len, ap length same, ap length consumes, length-append read ys)
 
-  not_too_long : (said : Result Script ScriptFault) → TellsAs said left → Lost left left' (limit + 1) → ⊥
+  pub not_too_long : (said : Result Script ScriptFault) → TellsAs said left → Lost left left' (limit + 1) → ⊥
   not_too_long said tells lost =
       let more = not_more tells.bytes (limit + 1) tells.left_is lost in
       let few = tells.few in
       omega (arith, more, few)
 
-  not_both : (script : Script) (fault : ScriptFault) → Ok script ≡ Err fault → ⊥
+  pub not_both : (script : Script) (fault : ScriptFault) → Ok script ≡ Err fault → ⊥
   not_both script fault same = cc
 
   run_complete : (how : Ending) → RunEnds told faults moment how e left left' v w → Meets left v.told → IsTold w.told

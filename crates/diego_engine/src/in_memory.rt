@@ -1,5 +1,5 @@
 //! The whole of what the program does, over a disk in memory, which tells its past at every moment.
-ghost use Rattle.std.specs.Prelude.{◌≡◌, ◌⊎◌, ◌+◌, ◌==◌, ◌↔◌, true, None, Some, Err, Bool, map, string_bytes};
+ghost use Rattle.std.specs.Prelude.{◌≡◌, ◌⊎◌, ◌+◌, ◌==◌, ◌↔◌, true, None, Some, Ok, Err, Bool, map, string_bytes};
 ghost use Rattle.byte_ports.specs.Cause.{HasCause, Rose};
 ghost use Rattle.byte_ports.specs.Content.{Lost};
 ghost use Rattle.disk_trait.specs.Memory.{memory_past, calls_of, faults_of};
@@ -13,9 +13,11 @@ ghost use Rattle.program_edge.specs.Ending.{script_line, status_of};
 ghost use Rattle.program_edge.specs.Opening.{is_before_board};
 ghost use Rattle.program_edge.specs.Ports.{PrintsTo, ports_of};
 ghost use Rattle.program_edge.specs.declared.ending.Ending.{Ending as AnEnding};
+ghost use Rattle.still_words.specs.Still.{IsStopped, MeetsNoBoard, MeetsObstacle};
 ghost use Rattle.still_words.specs.Words.{asked_of};
 ghost use Rattle.still_words.specs.declared.words.Asked.TheVariants as wanted;
-ghost use Rattle.program_run.specs.Reading.{ReadsAs, TellsAs, limit};
+ghost use Rattle.program_run.specs.Reading.{ReadsAs, TellsAs, TellsTooMuch, limit};
+ghost use Rattle.scenario_lines.specs.declared.script.Script.{Script as AScript};
 ghost use Rattle.scenario_reader.specs.declared.fault.ScriptFault.{ScriptFault as AFault};
 ghost use Rattle.diego_engine.specs.InMemory.{EndsInMemory, RunsWholeInMemory};
 ghost use Rattle.diego_engine.specs.Top.{Meets};
@@ -64,10 +66,25 @@ pub fn diego_top_in_memory<S: Source, K: Sink, G: Gate>(
     ensures unwritten { result.status ≡ 4 → Rose (K.faults sink) (K.faults result.sink) }
     ensures unstored { result.status ≡ 5 → Rose (faults_of disk) (faults_of result.disk) }
     ensures refused { result.status ≡ 6 → (why : Why)
+        × (faults_of result.disk ≡ faults_of disk)
         × ((image : Image) → Shows (Some (memory_past disk)) image → IsRefused why image) }
     ensures too_long { result.status ≡ 8 → Lost (S.left source) (S.left result.source) (limit + 1) }
-    ensures exists { result.status ≡ 9 → Goes (Some (memory_past disk))
-        (Some (memory_past result.disk)) FindsBytes }
+    ensures exists { result.status ≡ 9
+        → (asked_of (map (λ w. string_bytes w) words.now) ≡ Some wanted.Prepare)
+        × (faults_of result.disk ≡ faults_of disk)
+        × Goes (Some (memory_past disk)) (Some (memory_past result.disk)) FindsBytes }
+    ensures no_board { (script : AScript) → asked_of (map (λ w. string_bytes w) words.now) ≡ Some wanted.Run
+        → TellsAs (Ok script) (S.left source) → MeetsNoBoard (Some (memory_past disk))
+        → (Rose (S.faults source) (S.faults result.source) → ⊥)
+        → (Rose (faults_of disk) (faults_of result.disk) → ⊥)
+        → (result.status ≡ 6) ⊎ (result.status ≡ 7) }
+    ensures too_much { asked_of (map (λ w. string_bytes w) words.now) ≡ Some wanted.Run
+        → TellsTooMuch (S.left source)
+        → (Rose (S.faults source) (S.faults result.source) → ⊥)
+        → (result.status ≡ 8) ⊎ (result.status ≡ 7) }
+    ensures stopped { MeetsObstacle (asked_of (map (λ w. string_bytes w) words.now)) (Some (memory_past disk))
+        → (Rose (faults_of disk) (faults_of result.disk) → ⊥)
+        → IsStopped (asked_of (map (λ w. string_bytes w) words.now)) result.status }
     ensures untouched { is_before_board result.status ≡ true
         → (Some (memory_past result.disk) ≡ Some (memory_past disk))
         × (faults_of result.disk ≡ faults_of disk) }

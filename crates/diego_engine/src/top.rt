@@ -1,5 +1,5 @@
 //! The whole of what the program does.
-ghost use Rattle.std.specs.Prelude.{◌≡◌, ◌≢◌, ◌⊎◌, ◌+◌, ◌==◌, ◌↔◌, true, None, Some, Err, Bool, IsTrue, List, ℕ, map, string_bytes};
+ghost use Rattle.std.specs.Prelude.{◌≡◌, ◌≢◌, ◌⊎◌, ◌+◌, ◌==◌, ◌↔◌, true, None, Some, Ok, Err, Bool, IsTrue, List, ℕ, map, string_bytes};
 ghost use Rattle.byte_ports.specs.Cause.{HasCause, Rose};
 ghost use Rattle.byte_ports.specs.Content.{Lost};
 ghost use Rattle.disk_trait.specs.Past.{Image};
@@ -13,12 +13,14 @@ ghost use Rattle.program_edge.specs.Ending.{script_line, status_of};
 ghost use Rattle.program_edge.specs.Opening.{is_before_board};
 ghost use Rattle.program_edge.specs.Ports.{IsTold, PrintsTo, ports_of};
 ghost use Rattle.program_edge.specs.declared.ending.Ending.{Ending as AnEnding};
+ghost use Rattle.still_words.specs.Still.{IsStopped, MeetsNoBoard, MeetsObstacle};
 ghost use Rattle.still_words.specs.Words.{asked_of};
 ghost use Rattle.still_words.specs.declared.words.Asked.TheVariants as wanted;
 ghost use Rattle.diego_engine.specs.Headline.{Headline};
 ghost use Rattle.diego_engine.specs.Serial.{RunsSerially};
 ghost use Rattle.diego_engine.specs.Top.{ProgramEnds, Meets, RunsWhole};
-ghost use Rattle.program_run.specs.Reading.{ReadsAs, TellsAs, limit};
+ghost use Rattle.program_run.specs.Reading.{ReadsAs, TellsAs, TellsTooMuch, limit};
+ghost use Rattle.scenario_lines.specs.declared.script.Script.{Script as AScript};
 ghost use Rattle.scenario_reader.specs.declared.fault.ScriptFault.{ScriptFault as AFault};
 
 use byte_ports::{Gate, Sink, Source};
@@ -146,10 +148,28 @@ pub fn diego_top<S: Source, K: Sink, D: Disk, G: Gate>(
     ensures unwritten { result.status ≡ 4 → Rose (K.faults sink) (K.faults result.sink) }
     ensures unstored { result.status ≡ 5 → Rose (D.fault_count disk) (D.fault_count result.disk) }
     ensures refused { result.status ≡ 6 → (why : Why)
+        × (D.fault_count result.disk ≡ D.fault_count disk)
         × ((image : Image) → Shows (D.told disk) image → IsTold (D.told result.disk)
         → IsRefused why image) }
     ensures too_long { result.status ≡ 8 → Lost (S.left source) (S.left result.source) (limit + 1) }
-    ensures exists { result.status ≡ 9 → Goes (D.told disk) (D.told result.disk) FindsBytes }
+    ensures exists { result.status ≡ 9
+        → (asked_of (map (λ w. string_bytes w) words.now) ≡ Some wanted.Prepare)
+        × (D.fault_count result.disk ≡ D.fault_count disk)
+        × Goes (D.told disk) (D.told result.disk) FindsBytes }
+    ensures no_board { (script : AScript) → asked_of (map (λ w. string_bytes w) words.now) ≡ Some wanted.Run
+        → TellsAs (Ok script) (S.left source) → MeetsNoBoard (D.told disk)
+        → IsTold (D.told result.disk)
+        → (Rose (S.faults source) (S.faults result.source) → ⊥)
+        → (Rose (D.fault_count disk) (D.fault_count result.disk) → ⊥)
+        → (result.status ≡ 6) ⊎ (result.status ≡ 7) }
+    ensures too_much { asked_of (map (λ w. string_bytes w) words.now) ≡ Some wanted.Run
+        → TellsTooMuch (S.left source)
+        → (Rose (S.faults source) (S.faults result.source) → ⊥)
+        → (result.status ≡ 8) ⊎ (result.status ≡ 7) }
+    ensures stopped { MeetsObstacle (asked_of (map (λ w. string_bytes w) words.now)) (D.told disk)
+        → IsTold (D.told result.disk)
+        → (Rose (D.fault_count disk) (D.fault_count result.disk) → ⊥)
+        → IsStopped (asked_of (map (λ w. string_bytes w) words.now)) result.status }
     ensures untouched { is_before_board result.status ≡ true
         → (D.told result.disk ≡ D.told disk) × (D.fault_count result.disk ≡ D.fault_count disk) }
 

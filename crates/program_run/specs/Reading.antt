@@ -1,5 +1,5 @@
 -- What a run reads: the whole of its source, which is a scenario or has a first fault.
-use Rattle.std.specs.Prelude.{◌≡◌, ℕ, ◌+◌, ◌≤◌, Bool, true, false, List, length, Option, Some, Result, Ok, Err}
+use Rattle.std.specs.Prelude.{◌≡◌, ℕ, ◌+◌, ◌<◌, ◌≤◌, Bool, true, false, List, length, Option, Some, Result, Ok, Err}
 use Rattle.std.specs.Io.KnownBytes.{Consumes, IsAtEnd}
 use Rattle.byte_ports.specs.Content.{Lost, LostAtMost}
 use Rattle.program_edge.specs.declared.ending.Ending.{Ending}
@@ -27,6 +27,12 @@ pub record TellsAs (said : Result Script ScriptFault) (left : Option (List ℕ))
   pub left_is : left ≡ Some bytes
   pub few : length bytes ≤ limit
   pub says : script_of bytes ≡ said
+
+-- the source tells more bytes than a scenario may have
+pub record TellsTooMuch (left : Option (List ℕ)) : Type 0 where
+  pub bytes : List ℕ
+  pub left_is : left ≡ Some bytes
+  pub many : limit < length bytes
 
 -- how a run ends whose bytes have this fault: want of memory is none of theirs
 abbrev pub ending_for : ScriptFault → Ending

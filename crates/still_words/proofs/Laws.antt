@@ -1,5 +1,5 @@
 -- What each status says, from how the words end that ask for no run.
-use Rattle.std.proofs.Common.{◌≡◌, ◌⊎◌, ◌∙◌, ◌≤◌, ℕ, true, [], Option, Some, None, Ok, Err, refl, sym, ap, subst, inl, inr, arith}
+use Rattle.std.proofs.Common.{◌≡◌, ◌⊎◌, ◌∙◌, ◌≤◌, ℕ, true, [], Option, Some, None, Err, refl, sym, ap, subst, inl, inr, arith}
 use Rattle.byte_ports.specs.Cause.{Rose}
 use Rattle.disk_trait.proofs.Public.{goes_weaker}
 use Rattle.disk_trait.specs.Past.{Past, Image}
@@ -97,21 +97,23 @@ module _ (v w : Ports) where
   unstored_from how what n h = absurd (omega (arith, n))
 
   pub refused_from : (how : Ending) (what : Option Asked) → status_of how ≡ 6 → StillEnds how what v w
-      → (why : LoadFault) × ((image : Image) → Shows v.told image → IsTold w.told → IsRefused why image)
-  refused_from (ending.NotABoard area) (Some asked.Records) n h = (fault.NotABoard area, h.refused)
-  refused_from (ending.NotABoard area) (Some asked.Check) n h = (fault.NotABoard area, h.refused)
+      → (why : LoadFault) × (w.disk_faults ≡ v.disk_faults) × ((image : Image) → Shows v.told image → IsTold w.told → IsRefused why image)
+  refused_from (ending.NotABoard area) (Some asked.Records) n h = (fault.NotABoard area, h.early.cause.stood refl, h.refused)
+  refused_from (ending.NotABoard area) (Some asked.Check) n h = (fault.NotABoard area, h.early.cause.stood refl, h.refused)
   refused_from (ending.NotABoard area) (Some asked.Prepare) n h = absurd h
   refused_from (ending.NotABoard area) (Some asked.Run) n h = absurd h
   refused_from (ending.NotABoard area) None n h = absurd h
-  refused_from (ending.Damaged area at) (Some asked.Records) n h = (fault.Damaged area at, h.refused)
-  refused_from (ending.Damaged area at) (Some asked.Check) n h = (fault.Damaged area at, h.refused)
+  refused_from (ending.Damaged area at) (Some asked.Records) n h = (fault.Damaged area at, h.early.cause.stood refl, h.refused)
+  refused_from (ending.Damaged area at) (Some asked.Check) n h = (fault.Damaged area at, h.early.cause.stood refl, h.refused)
   refused_from (ending.Damaged area at) (Some asked.Prepare) n h = absurd h
   refused_from (ending.Damaged area at) (Some asked.Run) n h = absurd h
   refused_from (ending.Damaged area at) None n h = absurd h
   refused_from how what n h = absurd (omega (arith, n))
 
-  pub exists_from : (how : Ending) (what : Option Asked) → status_of how ≡ 9 → StillEnds how what v w → Goes v.told w.told FindsBytes
-  exists_from ending.Exists (Some asked.Prepare) n h = goes_weaker v.told w.told (PreparesBy (Err NotEmpty)) FindsBytes (λ p q i j finds. finds) h.does
+  pub exists_from : (how : Ending) (what : Option Asked) → status_of how ≡ 9 → StillEnds how what v w
+      → (what ≡ Some asked.Prepare) × (w.disk_faults ≡ v.disk_faults) × Goes v.told w.told FindsBytes
+  exists_from ending.Exists (Some asked.Prepare) n h =
+      (refl, h.cause.stood refl, goes_weaker v.told w.told (PreparesBy (Err NotEmpty)) FindsBytes (λ p q i j finds. finds) h.does)
   exists_from ending.Exists (Some asked.Records) n h = absurd h
   exists_from ending.Exists (Some asked.Check) n h = absurd h
   exists_from ending.Exists (Some asked.Run) n h = absurd h
@@ -186,11 +188,11 @@ module _ (v w : Ports) where
       no_refusal (ending.NotABoard area) n h = h
       no_refusal (ending.Damaged area at) n h = h
       no_refusal x n h = absurd (omega (arith, n))
-  refusal_met how (Some asked.Records) n h m told = let (why, refused) = refused_from how (Some asked.Records) n h in board_met m told why refused
-  refusal_met how (Some asked.Check) n h m told = let (why, refused) = refused_from how (Some asked.Check) n h in board_met m told why refused
+  refusal_met how (Some asked.Records) n h m told = let (why, stood, refused) = refused_from how (Some asked.Records) n h in board_met m told why refused
+  refusal_met how (Some asked.Check) n h m told = let (why, stood, refused) = refused_from how (Some asked.Check) n h in board_met m told why refused
 
   bytes_met : (what : Option Asked) → StillEnds ending.Exists what v w → MeetsStill what v.told → IsTold w.told → ⊥
-  bytes_met (Some asked.Prepare) h m told = none_found v.told w.told (exists_from ending.Exists (Some asked.Prepare) refl h) m told
+  bytes_met (Some asked.Prepare) h m told = let (is, stood, finds) = exists_from ending.Exists (Some asked.Prepare) refl h in none_found v.told w.told finds m told
   bytes_met (Some asked.Records) h m told = h
   bytes_met (Some asked.Check) h m told = h
   bytes_met (Some asked.Run) h m told = h

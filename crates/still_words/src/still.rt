@@ -75,9 +75,13 @@ pub fn still_top<S: Source, K: Sink, D: Disk>(
     ensures unwritten { result.status ≡ 4 → Rose (K.faults sink) (K.faults result.sink) }
     ensures unstored { result.status ≡ 5 → Rose (D.fault_count disk) (D.fault_count result.disk) }
     ensures refused { result.status ≡ 6 → (why : Why)
+        × (D.fault_count result.disk ≡ D.fault_count disk)
         × ((image : Image) → Shows (D.told disk) image → IsTold (D.told result.disk)
         → IsRefused why image) }
-    ensures exists { result.status ≡ 9 → Goes (D.told disk) (D.told result.disk) FindsBytes }
+    ensures exists { result.status ≡ 9
+        → (asked_of (map (λ w. string_bytes w) words.now) ≡ Some wanted.Prepare)
+        × (D.fault_count result.disk ≡ D.fault_count disk)
+        × Goes (D.told disk) (D.told result.disk) FindsBytes }
 
     // Where the disk holds what stops the word, and doesn't fail, it is 9 or 6.
     ensures stopped { MeetsObstacle (asked_of (map (λ w. string_bytes w) words.now)) (D.told disk)

@@ -1,6 +1,7 @@
 use Rattle.std.proofs.Common.{sym, ◌∙◌, ap, ℕ, inl, inr}
 use Rattle.std.specs.Prelude.{◌==◌}
 use Rattle.program_edge.specs.Opening.{is_before_board}
+use Rattle.diego_engine.proofs.Exactly.{stopped_from, no_board_from, too_much_from}
 use Rattle.diego_engine.proofs.Faithful.{headline_from}
 use Rattle.diego_engine.proofs.Recoveries.{doubts_from}
 use Rattle.diego_engine.proofs.Serial.{serially}
@@ -64,6 +65,28 @@ pub returns-clause-no_script : goal.returns-clause-no_script
 returns-clause-no_script g c fault is tells source =
     let (how, status, ends) = c.whole_top.ensures.ends in
     elim (no_script_from g.D.Disk.told g.D.Disk.fault_count g.D.Disk.moment _ _ _ _ _ how _ fault is ends tells
+    (λ n. source (c.whole_top.ensures.read.rose (ap (λ (m : ℕ). m == 3) (status ∙ n))))) [
+      | inl n ↦ inl (status ∙ n)
+      | inr n ↦ inr (status ∙ n)
+    ]
+
+pub returns-clause-stopped : goal.returns-clause-stopped
+returns-clause-stopped g c meets told disk =
+    let (how, status, ends) = c.whole_top.ensures.ends in stopped_from g.D.Disk.told g.D.Disk.fault_count g.D.Disk.moment _ _ _ _ _ how _ _ status ends meets told disk
+
+pub returns-clause-no_board : goal.returns-clause-no_board
+returns-clause-no_board g c script is tells meets told source disk =
+    let (how, status, ends) = c.whole_top.ensures.ends in
+    elim (no_board_from g.D.Disk.told g.D.Disk.fault_count g.D.Disk.moment _ _ _ _ _ how _ script is ends tells meets told
+    (λ n. source (c.whole_top.ensures.read.rose (ap (λ (m : ℕ). m == 3) (status ∙ n)))) disk) [
+      | inl n ↦ inl (status ∙ n)
+      | inr n ↦ inr (status ∙ n)
+    ]
+
+pub returns-clause-too_much : goal.returns-clause-too_much
+returns-clause-too_much g c is tells source =
+    let (how, status, ends) = c.whole_top.ensures.ends in
+    elim (too_much_from g.D.Disk.told g.D.Disk.fault_count g.D.Disk.moment _ _ _ _ _ how _ is ends tells
     (λ n. source (c.whole_top.ensures.read.rose (ap (λ (m : ℕ). m == 3) (status ∙ n))))) [
       | inl n ↦ inl (status ∙ n)
       | inr n ↦ inr (status ∙ n)

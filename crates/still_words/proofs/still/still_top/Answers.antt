@@ -26,7 +26,8 @@ pub returns-clause-refused : goal.returns-clause-refused
 returns-clause-refused g c n = refused_from _ _ c.still-ending.result.0 _ (sym c.number_of.ensures ∙ n) c.still-ending.ensures.ends
 
 pub returns-clause-exists : goal.returns-clause-exists
-returns-clause-exists g c n = exists_from _ _ c.still-ending.result.0 _ (sym c.number_of.ensures ∙ n) c.still-ending.ensures.ends
+returns-clause-exists g c n =
+    exists_from _ _ c.still-ending.result.0 _ (sym c.number_of.ensures ∙ n) (asked_as _ _ c.still-ending.result.0 _ _ c.read_words.ensures c.still-ending.ensures.ends)
 
 pub returns-clause-complete : goal.returns-clause-complete
 returns-clause-complete g c meets told sink disk =

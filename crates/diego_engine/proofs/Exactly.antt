@@ -1,0 +1,99 @@
+-- What gives 6, 8 or 9 comes to it, from each way in which the program ends.
+use Rattle.std.proofs.Common.{◌≡◌, ◌⊎◌, ℕ, ◌+◌, ◌<◌, ◌≤◌, List, ◌++◌, length, Option, Some, None, Result, Ok, Err, refl, sym, ap, subst, ◌∙◌, arith, inl, inr, append-nil}
+use Rattle.std.specs.Io.KnownBytes.{Consumes, IsAtEnd}
+use Rattle.byte_ports.specs.Cause.{Rose}
+use Rattle.disk_trait.specs.Past.{Past}
+use Rattle.bbs_board.proofs.Public.{not_refused}
+use Rattle.program_edge.specs.Ending.{status_of}
+use Rattle.program_edge.specs.Ports.{Ports, IsTold}
+use Rattle.program_edge.specs.declared.ending.Ending.{Ending}
+use Rattle.program_edge.specs.declared.ending.Ending.TheVariants as ending
+use Rattle.program_run.specs.Reading.{ReadsAs, TellsAs, TellsTooMuch}
+use Rattle.program_run.specs.Runs.{EndsLate, RunEnds, RunsScript}
+use Rattle.program_run.specs.declared.ended.Ended.{Ended}
+use Rattle.scenario_lines.specs.declared.script.Script.{Script}
+use Rattle.scenario_reader.specs.declared.fault.ScriptFault.{ScriptFault}
+use Rattle.still_words.specs.Still.{IsStopped, MeetsNoBoard, MeetsObstacle}
+use Rattle.still_words.specs.declared.words.Asked.{Asked}
+use Rattle.still_words.specs.declared.words.Asked.TheVariants as asked
+use Rattle.still_words.proofs.Public as still
+use Rattle.diego_engine.specs.Top.{ProgramEnds}
+use Rattle.diego_engine.proofs.Recoveries.{opened}
+use Rattle.diego_engine.proofs.TopLaws.{as_told, not_both, not_too_long}
+
+module _ {D : Type 0} (told : D → Option Past) (faults moment : D → ℕ) (e : Ended) (left left' : Option (List ℕ)) (v w : Ports) where
+  abbrev pub Ran : Ending → Type 0
+  Ran how = RunEnds told faults moment how e left left' v w
+
+  abbrev pub Ends : Ending → Option Asked → Type 0
+  Ends how what = ProgramEnds told faults moment how what e left left' v w
+
+  ran : (how : Ending) (what : Option Asked) → what ≡ Some asked.Run → Ends how what → Ran how
+  ran how what is h = subst (λ (x : Option Asked). Ends how x) is h
+
+  -- ---- words that ask for no run
+
+  pub stopped_from : (how : Ending) (what : Option Asked) (n : ℕ) → n ≡ status_of how → Ends how what → MeetsObstacle what v.told → IsTold w.told
+      → (Rose v.disk_faults w.disk_faults → ⊥) → IsStopped what n
+  stopped_from how (Some asked.Run) n is h m told disk = absurd m
+  stopped_from how (Some asked.Prepare) n is h m told disk = still.stopped_from v w how (Some asked.Prepare) n is h.still m told disk
+  stopped_from how (Some asked.Records) n is h m told disk = still.stopped_from v w how (Some asked.Records) n is h.still m told disk
+  stopped_from how (Some asked.Check) n is h m told disk = still.stopped_from v w how (Some asked.Check) n is h.still m told disk
+  stopped_from how None n is h m told disk = absurd m
+
+  -- ---- a scenario, and no board
+
+  no_board : (script : Script) (how : Ending) → MeetsNoBoard v.told → IsTold w.told → EndsLate told faults moment script how e v w → ⊥
+  no_board script how m is late =
+      not_refused late.rows m.why m.image (opened told faults moment e v w script how late m.image m.shows is) m.refused
+
+  run_no_board : (script : Script) → TellsAs (Ok script) left → MeetsNoBoard v.told → IsTold w.told → (Rose v.disk_faults w.disk_faults → ⊥)
+      → (how : Ending) → (status_of how ≡ 3 → ⊥) → Ran how → (status_of how ≡ 6) ⊎ (status_of how ≡ 7)
+  run_no_board script tells m is disk (ending.NotABoard area) read runs = inl refl
+  run_no_board script tells m is disk (ending.Damaged area at) read runs = inl refl
+  run_no_board script tells m is disk ending.OutOfMemory read h = inr refl
+  run_no_board script tells m is disk ending.Read read h = absurd (read refl)
+  run_no_board script tells m is disk ending.Unopened read runs = absurd (disk (runs.ends.1.cause.rose refl))
+  run_no_board script tells m is disk ending.Done read runs = absurd (no_board runs.script ending.Done m is runs.ends)
+  run_no_board script tells m is disk ending.Doubt read runs = absurd (no_board runs.script ending.Doubt m is runs.ends)
+  run_no_board script tells m is disk ending.Unwritten read runs = absurd (no_board runs.script ending.Unwritten m is runs.ends)
+  run_no_board script tells m is disk ending.TooLong read h = absurd (not_too_long told faults moment e left left' v w (Ok script) tells h.1)
+  run_no_board script tells m is disk (ending.Script why) read h =
+      absurd (not_both told faults moment e left left' v w script why (as_told told faults moment e left left' v w (Ok script) (Err why) tells h.1))
+  run_no_board script tells m is disk ending.Usage read runs = absurd runs.ends.1
+  run_no_board script tells m is disk ending.Exists read runs = absurd runs.ends.1
+
+  pub no_board_from : (how : Ending) (what : Option Asked) (script : Script) → what ≡ Some asked.Run → Ends how what → TellsAs (Ok script) left → MeetsNoBoard v.told
+      → IsTold w.told → (status_of how ≡ 3 → ⊥) → (Rose v.disk_faults w.disk_faults → ⊥) → (status_of how ≡ 6) ⊎ (status_of how ≡ 7)
+  no_board_from how what script is h tells m is_told read disk = run_no_board script tells m is_told disk how read (ran how what is h)
+
+  -- ---- a byte too much
+
+  -- what was read whole isn't too much
+  not_whole : TellsTooMuch left → (said : Result Script ScriptFault) → ReadsAs said left left' → ⊥
+  not_whole tells said reads = by_left left left' tells.left_is reads.consumes reads.end
+    where
+      by_left : (l l' : Option (List ℕ)) → l ≡ Some tells.bytes → Consumes l l' reads.bytes → IsAtEnd l' → ⊥
+      by_left None l' is consumes end = cc
+      by_left (Some xs) None is consumes end = absurd consumes
+      by_left (Some xs) (Some ys) is consumes end =
+          let same : xs ≡ tells.bytes = cc in
+          let all : reads.bytes ≡ tells.bytes = sym (append-nil reads.bytes) ∙ ap (λ (l : List ℕ). reads.bytes ++ l) (sym end) ∙ sym consumes ∙ same in
+          let len = ap length all in
+          let few = reads.few in
+          let many = tells.many in
+          omega (arith, len, few, many)
+
+  unread : TellsTooMuch left → (how : Ending) → RunsScript told faults moment how e left left' v w → ⊥
+  unread tells how runs = not_whole tells (Ok runs.script) runs.reads
+
+  run_too_much : TellsTooMuch left → (how : Ending) → (status_of how ≡ 3 → ⊥) → Ran how → (status_of how ≡ 8) ⊎ (status_of how ≡ 7)
+  run_too_much tells ending.TooLong read h = inl refl
+  run_too_much tells ending.OutOfMemory read h = inr refl
+  run_too_much tells ending.Read read h = absurd (read refl)
+  run_too_much tells (ending.Script why) read h = absurd (not_whole tells (Err why) h.1)
+  run_too_much tells how read runs = absurd (unread tells how runs)
+
+  pub too_much_from : (how : Ending) (what : Option Asked) → what ≡ Some asked.Run → Ends how what → TellsTooMuch left → (status_of how ≡ 3 → ⊥)
+      → (status_of how ≡ 8) ⊎ (status_of how ≡ 7)
+  too_much_from how what is h tells read = run_too_much tells how read (ran how what is h)
