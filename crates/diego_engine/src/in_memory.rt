@@ -73,7 +73,8 @@ pub fn diego_top_in_memory<S: Source, K: Sink, G: Gate>(
         → (asked_of (map (λ w. string_bytes w) words.now) ≡ Some wanted.Prepare)
         × (faults_of result.disk ≡ faults_of disk)
         × Goes (Some (memory_past disk)) (Some (memory_past result.disk)) FindsBytes }
-    ensures no_board { (script : AScript) → asked_of (map (λ w. string_bytes w) words.now) ≡ Some wanted.Run
+    ensures no_board { (script : AScript)
+        → asked_of (map (λ w. string_bytes w) words.now) ≡ Some wanted.Run
         → TellsAs (Ok script) (S.left source) → MeetsNoBoard (Some (memory_past disk))
         → (Rose (S.faults source) (S.faults result.source) → ⊥)
         → (Rose (faults_of disk) (faults_of result.disk) → ⊥)
@@ -82,7 +83,8 @@ pub fn diego_top_in_memory<S: Source, K: Sink, G: Gate>(
         → TellsTooMuch (S.left source)
         → (Rose (S.faults source) (S.faults result.source) → ⊥)
         → (result.status ≡ 8) ⊎ (result.status ≡ 7) }
-    ensures stopped { MeetsObstacle (asked_of (map (λ w. string_bytes w) words.now)) (Some (memory_past disk))
+    ensures stopped { MeetsObstacle (asked_of (map (λ w. string_bytes w) words.now))
+        (Some (memory_past disk))
         → (Rose (faults_of disk) (faults_of result.disk) → ⊥)
         → IsStopped (asked_of (map (λ w. string_bytes w) words.now)) result.status }
     ensures untouched { is_before_board result.status ≡ true

@@ -156,7 +156,8 @@ pub fn diego_top<S: Source, K: Sink, D: Disk, G: Gate>(
         → (asked_of (map (λ w. string_bytes w) words.now) ≡ Some wanted.Prepare)
         × (D.fault_count result.disk ≡ D.fault_count disk)
         × Goes (D.told disk) (D.told result.disk) FindsBytes }
-    ensures no_board { (script : AScript) → asked_of (map (λ w. string_bytes w) words.now) ≡ Some wanted.Run
+    ensures no_board { (script : AScript)
+        → asked_of (map (λ w. string_bytes w) words.now) ≡ Some wanted.Run
         → TellsAs (Ok script) (S.left source) → MeetsNoBoard (D.told disk)
         → IsTold (D.told result.disk)
         → (Rose (S.faults source) (S.faults result.source) → ⊥)

@@ -57,9 +57,11 @@ returns-clause-done g c n is = let (how, status, ends) = c.whole_top.ensures.end
 
 pub returns-clause-serial : goal.returns-clause-serial
 returns-clause-serial g c n is =
-    let (how, status, ends) = c.whole_top.ensures.ends in
-    (how, serially g.D.Disk.told g.D.Disk.fault_count g.D.Disk.moment c.runs_are_alone.ensures _ _ _ _ _
-    (done_from g.D.Disk.told g.D.Disk.fault_count g.D.Disk.moment _ _ _ _ _ how _ (sym status ∙ n) is ends))
+    let (how, status, ends) = c.whole_top.ensures.ends in (
+      how,
+      serially g.D.Disk.told g.D.Disk.fault_count g.D.Disk.moment c.runs_are_alone.ensures _ _ _ _ _
+          (done_from g.D.Disk.told g.D.Disk.fault_count g.D.Disk.moment _ _ _ _ _ how _ (sym status ∙ n) is ends),
+    )
 
 pub returns-clause-no_script : goal.returns-clause-no_script
 returns-clause-no_script g c fault is tells source =
