@@ -1,6 +1,6 @@
 -- How the program ends over a disk that never falls silent: as over any disk, but that what is opened, or refused, is
 -- what the disk held at entry, with no premise on its end.
-use Rattle.std.specs.Prelude.{◌⊎◌, ℕ, ◌+◌, false, List, Option, Some, None, Ok, Err}
+use Rattle.std.specs.Prelude.{◌≡◌, ◌⊎◌, ℕ, ◌+◌, false, List, Option, Some, None, Ok, Err}
 use Rattle.byte_ports.specs.Content.{Lost, LostAtMost}
 use Rattle.disk_trait.specs.Memory.{memory_past, calls_of, faults_of}
 use Rattle.disk_trait.specs.Past.{Past, Image}
@@ -10,10 +10,12 @@ use Rattle.bbs_model.specs.declared.rows.Rows.{Rows}
 use Rattle.bbs_board.specs.Opening.{IsBoard, IsRefused}
 use Rattle.bbs_journal.specs.declared.load_fault.LoadFault.{LoadFault}
 use Rattle.bbs_journal.specs.declared.load_fault.LoadFault.TheVariants as why
+use Rattle.program_edge.specs.Ending.{status_of}
 use Rattle.program_edge.specs.Opening.{EndsEarly, Opens}
 use Rattle.program_edge.specs.Ports.{Ports}
 use Rattle.program_edge.specs.declared.ending.Ending.{Ending}
 use Rattle.program_edge.specs.declared.ending.Ending.TheVariants as ending
+use Rattle.program_edge.specs.declared.top_end.TopEnd.{TopEnd}
 use Rattle.program_run.specs.Reading.{ReadsAs, limit}
 use Rattle.program_run.specs.Runs.{EndsIdle, EndsUnseen, IsEmpty, PlaysOn}
 use Rattle.program_run.specs.declared.ended.Ended.{Ended}
@@ -21,7 +23,7 @@ use Rattle.scenario_lines.specs.declared.script.Script.{Script}
 use Rattle.scenario_reader.specs.Facts.{IsScript}
 use Rattle.still_words.specs.declared.words.Asked.{Asked}
 use Rattle.still_words.specs.declared.words.Asked.TheVariants as asked
-use Rattle.diego_engine.specs.Top.{EndsWithoutRun}
+use Rattle.diego_engine.specs.Top.{EndsWithoutRun, run_of, seen}
 
 -- what the disk tells, at every moment
 abbrev pub memory_told : MemoryDisk → Option Past
@@ -80,3 +82,20 @@ EndsInMemory how None e left left' v w = EndsWithoutRun how None e left left' v 
 -- was written
 abbrev pub RunsWholeInMemory : Ended → Option (List ℕ) → Option (List ℕ) → Ports → Ports → Type 0
 RunsWholeInMemory e left left' v w = RunsScriptInMemory ending.Done e left left' v w
+
+-- what is told of a source and a sink
+module _ {S K : Type 0} (left : S → Option (List ℕ)) (held : K → Option (List ℕ)) (write_faults : K → ℕ) where
+  abbrev pub seen_in_memory : K → MemoryDisk → Ports
+  seen_in_memory sink disk = seen held write_faults memory_told faults_of calls_of sink disk
+
+  -- how the program ends that was asked for this and was given these, by what it hands back
+  abbrev pub EndsInMemoryAt : Option Asked → S → K → MemoryDisk → TopEnd S K MemoryDisk → Type 0
+  EndsInMemoryAt what source sink disk end =
+      (how : Ending) × (end.status ≡ status_of how) × EndsInMemory how what (run_of how end)
+      (left source) (left end.source) (seen_in_memory sink disk) (seen_in_memory end.sink end.disk)
+
+  -- a run that was given these did all of its scenario, by what it hands back
+  abbrev pub RunsWholeInMemoryAt : S → K → MemoryDisk → TopEnd S K MemoryDisk → Type 0
+  RunsWholeInMemoryAt source sink disk end =
+      (how : Ending) × RunsWholeInMemory (run_of how end)
+      (left source) (left end.source) (seen_in_memory sink disk) (seen_in_memory end.sink end.disk)

@@ -1,18 +1,21 @@
 -- A run whose phases are serial, each with one actor or a round alone: what it does and tells is a function of the
 -- scenario and of the board.
 use Rattle.std.specs.Prelude.{◌≡◌, true, ℕ, List, [], Option, Ok}
-use Rattle.disk_trait.specs.Past.{Image}
+use Rattle.disk_trait.specs.Past.{Past, Image}
 use Rattle.disk_trait.specs.Shows.{Shows}
 use Rattle.disk_trait.specs.Steps.{Goes}
 use Rattle.bbs_board.specs.Opening.{IsBoard}
 use Rattle.bbs_board.specs.Written.{WritesOn}
 use Rattle.bbs_model.specs.declared.rows.Rows.{Rows}
 use Rattle.program_edge.specs.Ports.{IsTold, Ports, Prints}
+use Rattle.program_edge.specs.declared.ending.Ending.{Ending}
+use Rattle.program_edge.specs.declared.top_end.TopEnd.{TopEnd}
 use Rattle.program_run.specs.Reading.{ReadsAs}
 use Rattle.program_run.specs.declared.ended.Ended.{Ended}
 use Rattle.scenario_lines.specs.declared.script.Script.{Script}
 use Rattle.serial_runs.specs.Boards.{SoleBoard}
 use Rattle.serial_runs.specs.Scripts.{IsSerialScript, SoleCourse, script_alone, words_alone}
+use Rattle.diego_engine.specs.Top.{run_of, seen}
 
 -- a board with these rows, on which nothing was done yet
 abbrev pub opened_with : Rows → SoleBoard
@@ -38,3 +41,13 @@ pub record RunsSerially (e : Ended) (left left' : Option (List ℕ)) (v w : Port
   pub reads : ReadsAs (Ok script) left left'
   pub opened : (image : Image) → Shows v.told image → IsTold w.told → IsBoard rows image
   pub serial : IsSerialScript script → IsSerialRun script rows e v w
+
+-- what is told of a source, a sink and a disk
+module _ {S K D : Type 0} (left : S → Option (List ℕ)) (held : K → Option (List ℕ)) (write_faults : K → ℕ)
+    (told : D → Option Past) (faults moment : D → ℕ) where
+  -- so did a run that was given these, by what it hands back
+  abbrev pub RunsSeriallyAt : S → K → D → TopEnd S K D → Type 0
+  RunsSeriallyAt source sink disk end =
+      (how : Ending) × RunsSerially (run_of how end)
+      (left source) (left end.source) (seen held write_faults told faults moment sink disk)
+      (seen held write_faults told faults moment end.sink end.disk)

@@ -4,9 +4,11 @@ use Rattle.disk_trait.specs.Past.{Past, Image}
 use Rattle.disk_trait.specs.Shows.{Shows}
 use Rattle.bbs_model.specs.declared.rows.Rows.{Rows}
 use Rattle.bbs_board.specs.Opening.{IsBoard}
-use Rattle.program_edge.specs.Ports.{Ports}
+use Rattle.program_edge.specs.Ending.{status_of}
+use Rattle.program_edge.specs.Ports.{Ports, ports_of}
 use Rattle.program_edge.specs.declared.ending.Ending.{Ending}
 use Rattle.program_edge.specs.declared.ending.Ending.TheVariants as ending
+use Rattle.program_edge.specs.declared.top_end.TopEnd.{TopEnd}
 use Rattle.program_run.specs.Reading.{TellsAs}
 use Rattle.program_run.specs.Runs.{IsEmpty, RunEnds, RunsScript}
 use Rattle.program_run.specs.declared.ended.Ended.{Ended}
@@ -43,3 +45,35 @@ pub record Meets (left : Option (List ℕ)) (told : Option Past) : Type 0 where
 abbrev pub RunsWhole : {D : Type 0} → (D → Option Past) → (D → ℕ) → (D → ℕ) → Ended →
     Option (List ℕ) → Option (List ℕ) → Ports → Ports → Type 0
 RunsWhole told faults moment e left left' v w = RunsScript told faults moment ending.Done e left left' v w
+
+-- what the program handed back of its run
+abbrev pub run_of : {S K D : Type 0} → Ending → TopEnd S K D → Ended
+run_of how end = record {
+  ending = how;
+  log = end.log;
+  marks = end.marks;
+  answers = end.answers;
+  reports = end.reports;
+}
+
+-- what a sink and a disk tell of themselves
+abbrev pub seen : {K D : Type 0} → (K → Option (List ℕ)) → (K → ℕ) → (D → Option Past) → (D → ℕ) → (D → ℕ) → K → D → Ports
+seen held write_faults told faults moment sink disk =
+    ports_of (held sink) (write_faults sink) (told disk) (faults disk) (moment disk)
+
+-- what is told of a source, a sink and a disk
+module _ {S K D : Type 0} (left : S → Option (List ℕ)) (held : K → Option (List ℕ)) (write_faults : K → ℕ)
+    (told : D → Option Past) (faults moment : D → ℕ) where
+  -- how the program ends that was asked for this and was given these, by what it hands back
+  abbrev pub EndsAt : Option Asked → S → K → D → TopEnd S K D → Type 0
+  EndsAt what source sink disk end =
+      (how : Ending) × (end.status ≡ status_of how) × ProgramEnds told faults moment how what (run_of how end)
+      (left source) (left end.source) (seen held write_faults told faults moment sink disk)
+      (seen held write_faults told faults moment end.sink end.disk)
+
+  -- a run that was given these did all of its scenario, by what it hands back
+  abbrev pub RunsWholeAt : S → K → D → TopEnd S K D → Type 0
+  RunsWholeAt source sink disk end =
+      (how : Ending) × RunsWhole told faults moment (run_of how end)
+      (left source) (left end.source) (seen held write_faults told faults moment sink disk)
+      (seen held write_faults told faults moment end.sink end.disk)

@@ -2,24 +2,23 @@
 ghost use Rattle.std.specs.Prelude.{◌≡◌, ◌⊎◌, ◌+◌, ◌==◌, ◌↔◌, true, None, Some, Ok, Err, Bool, map, string_bytes};
 ghost use Rattle.byte_ports.specs.Cause.{HasCause, Rose};
 ghost use Rattle.byte_ports.specs.Content.{Lost};
-ghost use Rattle.disk_trait.specs.Memory.{memory_past, calls_of, faults_of};
+ghost use Rattle.disk_trait.specs.Memory.{memory_past, faults_of};
 ghost use Rattle.disk_trait.specs.Past.{Image};
 ghost use Rattle.disk_trait.specs.Steps.{Goes};
 ghost use Rattle.bbs_board.specs.Opening.{IsRefused};
 ghost use Rattle.disk_trait.specs.Shows.{Shows};
 ghost use Rattle.bbs_journal.specs.Preparing.{FindsBytes};
 ghost use Rattle.bbs_journal.specs.declared.load_fault.LoadFault.{LoadFault as Why};
-ghost use Rattle.program_edge.specs.Ending.{script_line, status_of};
+ghost use Rattle.program_edge.specs.Ending.{script_line};
 ghost use Rattle.program_edge.specs.Opening.{is_before_board};
-ghost use Rattle.program_edge.specs.Ports.{PrintsTo, ports_of};
-ghost use Rattle.program_edge.specs.declared.ending.Ending.{Ending as AnEnding};
+ghost use Rattle.program_edge.specs.Ports.{PrintsTo};
 ghost use Rattle.still_words.specs.Still.{IsStopped, MeetsNoBoard, MeetsObstacle};
 ghost use Rattle.still_words.specs.Words.{asked_of};
 ghost use Rattle.still_words.specs.declared.words.Asked.TheVariants as wanted;
 ghost use Rattle.program_run.specs.Reading.{ReadsAs, TellsAs, TellsTooMuch, limit};
 ghost use Rattle.scenario_lines.specs.declared.script.Script.{Script as AScript};
 ghost use Rattle.scenario_reader.specs.declared.fault.ScriptFault.{ScriptFault as AFault};
-ghost use Rattle.diego_engine.specs.InMemory.{EndsInMemory, RunsWholeInMemory};
+ghost use Rattle.diego_engine.specs.InMemory.{EndsInMemoryAt, RunsWholeInMemoryAt};
 ghost use Rattle.diego_engine.specs.Top.{Meets};
 
 use crate::{TopEnd, diego_top};
@@ -37,20 +36,8 @@ pub fn diego_top_in_memory<S: Source, K: Sink, G: Gate>(
     disk: MemoryDisk,
     gate: &G,
 ) -> TopEnd<S, K, MemoryDisk>
-    ensures ends { (how : AnEnding) × (result.status ≡ status_of how)
-        × EndsInMemory how (asked_of (map (λ w. string_bytes w) words.now))
-        (record {
-          ending = how;
-          log = result.log;
-          marks = result.marks;
-          answers = result.answers;
-          reports = result.reports;
-        })
-        (S.left source) (S.left result.source)
-        (ports_of (K.held sink) (K.faults sink)
-        (Some (memory_past disk)) (faults_of disk) (calls_of disk))
-        (ports_of (K.held result.sink) (K.faults result.sink)
-        (Some (memory_past result.disk)) (faults_of result.disk) (calls_of result.disk)) }
+    ensures ends { EndsInMemoryAt S.left K.held K.faults
+        (asked_of (map (λ w. string_bytes w) words.now)) source sink disk result }
 
     // Each status exactly where, or only where, this holds.
     ensures usage { (result.status ≡ 1) ↔ (asked_of (map (λ w. string_bytes w) words.now) ≡ None) }
@@ -96,19 +83,7 @@ pub fn diego_top_in_memory<S: Source, K: Sink, G: Gate>(
     // written.
     ensures done { result.status ≡ 0
         → asked_of (map (λ w. string_bytes w) words.now) ≡ Some wanted.Run
-        → (how : AnEnding) × RunsWholeInMemory
-        (record {
-          ending = how;
-          log = result.log;
-          marks = result.marks;
-          answers = result.answers;
-          reports = result.reports;
-        })
-        (S.left source) (S.left result.source)
-        (ports_of (K.held sink) (K.faults sink)
-        (Some (memory_past disk)) (faults_of disk) (calls_of disk))
-        (ports_of (K.held result.sink) (K.faults result.sink)
-        (Some (memory_past result.disk)) (faults_of result.disk) (calls_of result.disk)) }
+        → RunsWholeInMemoryAt S.left K.held K.faults source sink disk result }
 
     // With a scenario and a board, and without a fault, all is done unless memory runs out.
     ensures complete { asked_of (map (λ w. string_bytes w) words.now) ≡ Some wanted.Run

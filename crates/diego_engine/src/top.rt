@@ -11,14 +11,14 @@ ghost use Rattle.bbs_journal.specs.Preparing.{FindsBytes};
 ghost use Rattle.bbs_journal.specs.declared.load_fault.LoadFault.{LoadFault as Why};
 ghost use Rattle.program_edge.specs.Ending.{script_line, status_of};
 ghost use Rattle.program_edge.specs.Opening.{is_before_board};
-ghost use Rattle.program_edge.specs.Ports.{IsTold, PrintsTo, ports_of};
+ghost use Rattle.program_edge.specs.Ports.{IsTold, PrintsTo};
 ghost use Rattle.program_edge.specs.declared.ending.Ending.{Ending as AnEnding};
 ghost use Rattle.still_words.specs.Still.{IsStopped, MeetsNoBoard, MeetsObstacle};
 ghost use Rattle.still_words.specs.Words.{asked_of};
 ghost use Rattle.still_words.specs.declared.words.Asked.TheVariants as wanted;
 ghost use Rattle.diego_engine.specs.Headline.{Headline};
-ghost use Rattle.diego_engine.specs.Serial.{RunsSerially};
-ghost use Rattle.diego_engine.specs.Top.{ProgramEnds, Meets, RunsWhole};
+ghost use Rattle.diego_engine.specs.Serial.{RunsSeriallyAt};
+ghost use Rattle.diego_engine.specs.Top.{EndsAt, Meets, RunsWholeAt};
 ghost use Rattle.program_run.specs.Reading.{ReadsAs, TellsAs, TellsTooMuch, limit};
 ghost use Rattle.scenario_lines.specs.declared.script.Script.{Script as AScript};
 ghost use Rattle.scenario_reader.specs.declared.fault.ScriptFault.{ScriptFault as AFault};
@@ -71,20 +71,8 @@ fn whole_top<S: Source, K: Sink, D: Disk, G: Gate>(
     disk: D,
     gate: &G,
 ) -> TopEnd<S, K, D>
-    ensures ends { (how : AnEnding) × (result.status ≡ status_of how)
-        × ProgramEnds D.told D.fault_count D.moment how
-        (asked_of (map (λ w. string_bytes w) words.now))
-        (record {
-          ending = how;
-          log = result.log;
-          marks = result.marks;
-          answers = result.answers;
-          reports = result.reports;
-        })
-        (S.left source) (S.left result.source)
-        (ports_of (K.held sink) (K.faults sink) (D.told disk) (D.fault_count disk) (D.moment disk))
-        (ports_of (K.held result.sink) (K.faults result.sink)
-        (D.told result.disk) (D.fault_count result.disk) (D.moment result.disk)) }
+    ensures ends { EndsAt S.left K.held K.faults D.told D.fault_count D.moment
+        (asked_of (map (λ w. string_bytes w) words.now)) source sink disk result }
     ensures read { HasCause (result.status == 3) (S.faults source) (S.faults result.source) }
     ensures unread { asked_of (map (λ w. string_bytes w) words.now) ≢ Some wanted.Run
         → result.source ≡ source }
@@ -119,20 +107,8 @@ pub fn diego_top<S: Source, K: Sink, D: Disk, G: Gate>(
     ensures doubts { RoseForEach (doubts_in result.log.items)
         (D.fault_count disk) (D.fault_count result.disk) }
 
-    ensures ends { (how : AnEnding) × (result.status ≡ status_of how)
-        × ProgramEnds D.told D.fault_count D.moment how
-        (asked_of (map (λ w. string_bytes w) words.now))
-        (record {
-          ending = how;
-          log = result.log;
-          marks = result.marks;
-          answers = result.answers;
-          reports = result.reports;
-        })
-        (S.left source) (S.left result.source)
-        (ports_of (K.held sink) (K.faults sink) (D.told disk) (D.fault_count disk) (D.moment disk))
-        (ports_of (K.held result.sink) (K.faults result.sink)
-        (D.told result.disk) (D.fault_count result.disk) (D.moment result.disk)) }
+    ensures ends { EndsAt S.left K.held K.faults D.told D.fault_count D.moment
+        (asked_of (map (λ w. string_bytes w) words.now)) source sink disk result }
 
     // Each status exactly where, or only where, this holds.
     ensures usage { (result.status ≡ 1) ↔ (asked_of (map (λ w. string_bytes w) words.now) ≡ None) }
@@ -184,35 +160,15 @@ pub fn diego_top<S: Source, K: Sink, D: Disk, G: Gate>(
     // reports, the log and the disk are those of these phases, and the whole text of them was written.
     ensures done { result.status ≡ 0
         → asked_of (map (λ w. string_bytes w) words.now) ≡ Some wanted.Run
-        → (how : AnEnding) × RunsWhole D.told D.fault_count D.moment
-        (record {
-          ending = how;
-          log = result.log;
-          marks = result.marks;
-          answers = result.answers;
-          reports = result.reports;
-        })
-        (S.left source) (S.left result.source)
-        (ports_of (K.held sink) (K.faults sink) (D.told disk) (D.fault_count disk) (D.moment disk))
-        (ports_of (K.held result.sink) (K.faults result.sink)
-        (D.told result.disk) (D.fault_count result.disk) (D.moment result.disk)) }
+        → RunsWholeAt S.left K.held K.faults D.told D.fault_count D.moment
+        source sink disk result }
 
     // Where each phase has one actor or a round alone, all of that is a function of the scenario and the
     // board: the answers, the reports, the log, the text, and what the disk reads afterwards.
     ensures serial { result.status ≡ 0
         → asked_of (map (λ w. string_bytes w) words.now) ≡ Some wanted.Run
-        → (how : AnEnding) × RunsSerially
-        (record {
-          ending = how;
-          log = result.log;
-          marks = result.marks;
-          answers = result.answers;
-          reports = result.reports;
-        })
-        (S.left source) (S.left result.source)
-        (ports_of (K.held sink) (K.faults sink) (D.told disk) (D.fault_count disk) (D.moment disk))
-        (ports_of (K.held result.sink) (K.faults result.sink)
-        (D.told result.disk) (D.fault_count result.disk) (D.moment result.disk)) }
+        → RunsSeriallyAt S.left K.held K.faults D.told D.fault_count D.moment
+        source sink disk result }
 
     // With a scenario and a board, and without a fault, all is done unless memory runs out.
     ensures complete { asked_of (map (λ w. string_bytes w) words.now) ≡ Some wanted.Run
