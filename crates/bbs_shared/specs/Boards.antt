@@ -1,25 +1,38 @@
 -- What a desk takes for a board's history and for its origin, and what a job does there that only reads.
 use Rattle.std.specs.Prelude.{◌≡◌, ◌<◌, ◌^◌, List, length, Option, Some, None}
+use Rattle.disk_trait.specs.Past.{Past}
 use Rattle.bbs_board.specs.View.{View}
 use Rattle.bbs_model.specs.Tables.{no_rows}
 use Rattle.bbs_model.specs.declared.item.Item.{Item}
 use Rattle.bbs_model.specs.declared.rows.Rows.{Rows}
+use Rattle.sole_port.specs.Going.{GoesOn}
 use Rattle.bbs_shared.specs.declared.origin.Origin.{Origin}
 
--- the log of a board is its history
-abbrev pub log_of : {D : Type 0} → View D → List Item
-log_of board = board.log
+-- a board that is shared, and how it was when it was first shared
+pub record Standing (D : Type 0) : Type 0 where
+  pub board : View D
+  pub start : View D
 
--- no call changes these
-abbrev pub origin_of : {D : Type 0} → View D → Origin
-origin_of board = record { base = board.base; since = board.since; faults = board.faults }
+-- the board went on from its start, by some items
+pub record HasGone {D : Type 0} (told : D → Option Past) (v w : View D) : Type 0 where
+  pub fresh : List Item
+  pub goes : GoesOn told fresh v w
 
 -- the rows that the board of an origin was loaded with
-abbrev pub base_of : Option Origin → Rows
+abbrev pub base_of : {S : Type 0} → Option (Origin S) → Rows
 base_of (Some o) = o.base
 base_of None = no_rows
 
--- the board was read and is as it was
-pub record IsRead {D : Type 0} (before after : View D) : Type 0 where
-  pub same : after ≡ before
-  pub few : length before.log < 2 ^ 64
+module _ {D : Type 0} where
+  -- the log of the board is the history
+  abbrev pub log_of : Standing D → List Item
+  log_of at = at.board.log
+
+  -- no call changes these
+  abbrev pub origin_of : Standing D → Origin (View D)
+  origin_of at = record { base = at.board.base; since = at.board.since; faults = at.board.faults; start = at.start }
+
+  -- the board was read and is as it was
+  pub record IsRead (before after : Standing D) : Type 0 where
+    pub same : after ≡ before
+    pub few : length before.board.log < 2 ^ 64

@@ -4,20 +4,25 @@ use bbs_board::Board;
 use bbs_model::Item;
 use disk_trait::Disk;
 use std::marker::Model;
+use std::snapshot::Snapshot;
 use ticket_desk::History;
 
-/// A board whose history is its log. Clauses see the board.
+/// A board whose history is its log, and how it was when it was first shared. It went on from there.
 #[derive(Drop)]
 pub struct AtDesk<D: Disk> {
     pub(crate) board: Board<D>,
+    // For clauses alone: it has no bytes.
+    pub(crate) start: Snapshot<Board<D>>,
 }
 
 impl<D: Disk> Model for AtDesk<D> {
-    ghost use Rattle.bbs_board.specs.View.{View};
+    ghost use Rattle.bbs_shared.specs.Boards.{Standing, HasGone};
 
-    ghost Value = { View D };
+    ghost Value = { Standing D };
 
-    ghost view = { λ at. at.board };
+    ghost view = { λ at. record { board = at.board; start = at.start.value } };
+
+    ghost invariant = { λ at. HasGone D.told at.start.value at.board };
 }
 
 impl<D: Disk> History for AtDesk<D> {
@@ -26,7 +31,7 @@ impl<D: Disk> History for AtDesk<D> {
 
     type Item = Item;
 
-    type Origin = Origin;
+    type Origin = Origin<Board<D>>;
 
     ghost items = { log_of };
 
@@ -37,17 +42,20 @@ impl<D: Disk> History for AtDesk<D> {
 
 impl<D: Disk> AtDesk<D> {
     ghost use Rattle.std.specs.Prelude.{◌≡◌};
+    ghost use Rattle.bbs_shared.specs.Boards.{HasGone};
 
     pub(crate) fn new(board: Board<D>) -> AtDesk<D>
-        ensures { result ≡ board }
+        ensures { result ≡ record { board = board; start = board } }
     {
-        AtDesk { board }
+        let start = Snapshot::of(&board);
+        AtDesk { board, start }
     }
 
     pub(crate) fn into_board(self) -> Board<D>
-        ensures { result ≡ self }
+        ensures board { result ≡ self.board }
+        ensures gone { HasGone D.told self.start result }
     {
-        let AtDesk { board } = self;
+        let AtDesk { board, start: _ } = self;
         board
     }
 }

@@ -9,9 +9,8 @@ use ticket_desk::Desk;
 
 impl<D: Disk> SharedBoard<D> {
     ghost use Rattle.std.specs.Prelude.{◌≡◌, ◌<◌, ◌≤◌, IfOk, IfErr};
-    ghost use Rattle.bbs_model.specs.Calls.{by_of};
-    ghost use Rattle.ticket_desk.specs.Passes.{AreAll, AreDealt, IsClosed};
-    ghost use Rattle.bbs_shared.specs.Boards.{log_of, origin_of};
+    ghost use Rattle.ticket_desk.specs.Passes.{AreAll};
+    ghost use Rattle.bbs_shared.specs.Sharings.{AreHanded, CameBack};
 
     /// Shares a board among so many callers, 1 to 4,096, each of which gets a pass with a number of
     /// its own, counted from 0. The board comes back as it was where memory runs out.
@@ -21,8 +20,8 @@ impl<D: Disk> SharedBoard<D> {
         passes: u32,
     ) -> Result<(SharedBoard<D>, Vec<BoardPass<D>>), (Board<D>, OutOfMemory)>
         requires { (0 < passes) × (passes ≤ 4096) }
-        ensures board { IfOk result (λ r. r.0.desk.table.shared.key.value ≡ board) }
-        ensures passes { IfOk result (λ r. AreDealt log_of origin_of board
+        ensures board { IfOk result (λ r. r.0.desk.table.shared.key.value.start ≡ board) }
+        ensures passes { IfOk result (λ r. AreHanded board
             r.0.desk.table.shared.table_id passes r.1.items) }
         ensures err { IfErr result (λ e. e.0 ≡ board) }
     {
@@ -35,11 +34,7 @@ impl<D: Disk> SharedBoard<D> {
     /// The board, after all turns. `passes` are all that `start` gave, in order of number.
     pub fn close(self, passes: Vec<BoardPass<D>>) -> Board<D>
         requires { AreAll self.desk.table.shared.table_id passes.items }
-        ensures closed { IsClosed log_of origin_of by_of self.desk.table.shared.key.value result
-            passes.items }
-        ensures same { let started = self.desk.table.shared.key.value in
-            (result.base ≡ started.base) × (result.since ≡ started.since)
-            × (result.faults ≡ started.faults) }
+        ensures { CameBack D.told self.desk.table.shared.key.value.start result passes.items }
     {
         self.into_desk().close(passes).into_board()
     }

@@ -20,11 +20,11 @@ pub(crate) fn call_once<D: Disk>(
     by: u32,
     command: Command,
 ) -> Result<Reply, CallFault>
-    ensures ends { Ends (verdict_of (rows_of at.old) command) (length at.old.log)
-        (rows_of at.old).next result }
-    ensures log { at.new.log ≡ at.old.log ++ added result by command }
+    ensures ends { Ends (verdict_of (rows_of at.old.board) command) (length at.old.board.log)
+        (rows_of at.old.board).next result }
+    ensures log { at.new.board.log ≡ at.old.board.log ++ added result by command }
     ensures origin { origin_of at.new ≡ origin_of at.old }
-    ensures few { length at.new.log < 2 ^ 64 }
+    ensures few { length at.new.board.log < 2 ^ 64 }
 {
     let end = at.board.call(by, command);
     at.board.holds();
@@ -33,8 +33,8 @@ pub(crate) fn call_once<D: Disk>(
 
 pub(crate) fn read_rows<D: Disk>(at: &mut AtDesk<D>, alloc: Global) -> Result<Rows, OutOfMemory>
     ensures read { IsRead at.old at.new }
-    ensures rows { IfOk result (λ rows. rows ≡ rows_of at.old) }
-    ensures valid { IsValid (rows_of at.old) }
+    ensures rows { IfOk result (λ rows. rows ≡ rows_of at.old.board) }
+    ensures valid { IsValid (rows_of at.old.board) }
 {
     at.board.holds();
     at.board.rows(alloc)
@@ -46,7 +46,7 @@ pub(crate) fn read_work<D: Disk>(
     now: Moment,
 ) -> Result<List<Command>, OutOfMemory>
     ensures read { IsRead at.old at.new }
-    ensures work { IfOk result (λ list. list ≡ asked.work (rows_of at.old) now) }
+    ensures work { IfOk result (λ list. list ≡ asked.work (rows_of at.old.board) now) }
 {
     at.board.holds();
     at.board.work(alloc, now)
@@ -58,9 +58,9 @@ pub(crate) fn read_events<D: Disk>(
     from: u64,
     max: u32,
 ) -> Result<Heard, OutOfMemory>
-    requires { from ≤ length at.old.log }
+    requires { from ≤ length at.old.board.log }
     ensures read { IsRead at.old at.new }
-    ensures heard { IfOk result (IsHeard at.old.base at.old.log from max) }
+    ensures heard { IfOk result (IsHeard at.old.board.base at.old.board.log from max) }
 {
     at.board.holds();
     at.board.events(alloc, from, max)
@@ -68,7 +68,7 @@ pub(crate) fn read_events<D: Disk>(
 
 pub(crate) fn read_place<D: Disk>(at: &mut AtDesk<D>) -> u64
     ensures read { IsRead at.old at.new }
-    ensures place { result ≡ length at.old.log }
+    ensures place { result ≡ length at.old.board.log }
 {
     at.board.holds();
     at.board.place()

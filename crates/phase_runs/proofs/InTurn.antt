@@ -18,7 +18,7 @@ use Rattle.actor_runs.proofs.Public.{one_same}
 use Rattle.sole_port.specs.Went.{seen_of, Went}
 use Rattle.phase_runs.specs.Actors.{ActorsCut, AreByFirst, AreSame, CanAllDo, FirstRan, PartCut, PartRan}
 use Rattle.phase_runs.specs.Boards.{IsAlone}
-use Rattle.phase_runs.proofs.Going.{goes_as, goes_further, goes_nowhere}
+use Rattle.sole_port.proofs.Public.{goes_as, goes_further, goes_nowhere}
 use Rattle.phase_runs.proofs.Parts.{by_both, not_begun, part_cut, part_ran, ran_on, ran_whole}
 use Rattle.phase_runs.proofs.Places.{at_last, at_set, before_last, beside_set, one_of}
 

@@ -1,4 +1,3 @@
-mod Going
 mod Parts
 mod Places
 mod InTurn

@@ -1,4 +1,6 @@
 -- The lemmas that other crates may cite.
-pub use Rattle.phase_runs.proofs.Going.{goes_further, goes_nowhere}
-pub use Rattle.phase_runs.proofs.Parts.{by_both}
-pub use Rattle.phase_runs.proofs.PutBack.{same_as, same_then}
+pub use Rattle.sole_port.proofs.Public.{goes_further, goes_nowhere}
+pub use Rattle.phase_runs.proofs.Parts.{by_both, not_begun, ran_whole}
+pub use Rattle.phase_runs.proofs.Places.{one_of}
+pub use Rattle.phase_runs.proofs.PutBack.{put_back, same_as, same_put, same_then}
+pub use Rattle.phase_runs.proofs.WholePhases.{not_begun_round, same_held}

@@ -22,7 +22,7 @@ use Rattle.sole_port.specs.Went.{seen_of}
 use Rattle.phase_runs.specs.Boards.{IsAlone}
 use Rattle.phase_runs.specs.Phases.{CutAlone, IsToldBy, RoundAlone}
 use Rattle.phase_runs.specs.Reps.{reps_of, with_reps}
-use Rattle.phase_runs.proofs.Going.{goes_as, goes_nowhere}
+use Rattle.sole_port.proofs.Public.{goes_as, goes_nowhere}
 use Rattle.phase_runs.proofs.Parts.{own_sees}
 
 module _ {D : Type 0} (told : D → Option Past) (now : Moment) (v : View D) where

@@ -21,18 +21,18 @@ use Rattle.phase_runs.specs.Actors.{ActorsCut, ActorsRan, AreSame, PartCut, Part
 use Rattle.phase_runs.specs.Boards.{GoesOn}
 use Rattle.phase_runs.specs.Phases.{CutAlone, IsRoundCut, IsToldBy, PhaseCut, PhaseRan, RoundAlone, RoundRan}
 use Rattle.phase_runs.specs.Reps.{reps_of}
-use Rattle.phase_runs.proofs.Going.{goes_further}
+use Rattle.sole_port.proofs.Public.{goes_further}
 use Rattle.phase_runs.proofs.Parts.{by_both, ran_on, ran_whole, sees_behind}
 use Rattle.phase_runs.proofs.PutBack.{same_as, same_put, same_then}
 
 -- each is the client or the cell that it was
-same_held : (round : Option RoundLine) (base : Rows) (before fresh : List Item) (now : Moment) (mids news : List ActorState)
+pub same_held : (round : Option RoundLine) (base : Rows) (before fresh : List Item) (now : Moment) (mids news : List ActorState)
     (report : Option Report) → RoundRan round base before fresh now mids news report → AreSame mids news
 same_held None base before fresh now mids news report ran = same_as mids news ran.1.0
 same_held (Some line) base before fresh now mids news report ran =
     subst (AreSame mids) (sym ran.news_are) (same_put mids ran.reps ran.kept)
 
-not_begun_round : (round : Option RoundLine) (base : Rows) (before fresh : List Item) (now : Moment) → by_number 0 fresh ≡ []
+pub not_begun_round : (round : Option RoundLine) (base : Rows) (before fresh : List Item) (now : Moment) → by_number 0 fresh ≡ []
     → IsRoundCut round base before fresh now
 not_begun_round None base before fresh now none = none
 not_begun_round (Some line) base before fresh now none = inl none

@@ -11,4 +11,4 @@ mod rounds;
 pub use actors::run_actors;
 pub use phases::{Ran, run_phase};
 pub use reps::{put_reps, take_reps};
-pub use rounds::round_on;
+pub use rounds::{round_on, round_over};

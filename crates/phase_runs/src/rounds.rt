@@ -1,4 +1,4 @@
-//! The round of a phase, on a board that nobody else calls meanwhile.
+//! The round of a phase: over any port, and on a board that nobody else calls meanwhile.
 ghost use Rattle.std.specs.Prelude.{◌≡◌, IfErr, IfOk};
 ghost use Rattle.converge_round.specs.Faults.{IsCausedBy};
 ghost use Rattle.converge_round.specs.Items.{HasItems};
@@ -10,7 +10,7 @@ ghost use Rattle.phase_runs.specs.Rounds.{RoundOf};
 use crate::round_wire::RoundWire;
 use actor_runs::GatedPort;
 use bbs_board::Board;
-use bbs_model::CallFault;
+use bbs_model::{CallFault, Port};
 use byte_ports::Gate;
 use cell_rep::CellRep;
 use convergence::Report;
@@ -23,6 +23,26 @@ use std::alloc::Global;
 
 /// The number of the round's caller, which is no actor's.
 const ROUND: u32 = 0;
+
+/// A round over these reps and any port of the number 0, with what its line loses.
+pub fn round_over<P: Port>(
+    alloc: Global,
+    port: &mut P,
+    cells: &mut [CellRep],
+    line: &RoundLine,
+    now: Moment,
+) -> Result<Report, CallFault>
+    requires { P.number port.old ≡ 0 }
+    ensures keeps { (P.keeps port.old port.new) × (P.number port.new ≡ 0) }
+    ensures items { HasItems 0 now (P.view port.old) (P.view port.new) }
+    ensures cause { IfErr result (IsCausedBy 0 (P.view port.old) (P.view port.new)) }
+    ensures cells { KeepReps cells.old cells.new }
+    ensures account { IfOk result (RoundOf now line.now cells.old cells.new
+        (P.view port.old) (P.view port.new)) }
+{
+    let mut wire = RoundWire::new(line);
+    converge(alloc, port, cells, &mut wire, now, line.line)
+}
 
 /// A round over these reps, as the number 0, with what its line loses.
 pub fn round_on<D: Disk, G: Gate>(
@@ -40,11 +60,10 @@ pub fn round_on<D: Disk, G: Gate>(
     ensures account { IfOk result (RoundOf now line.now cells.old cells.new
         (seen_of 0 board.old) (seen_of 0 board.new)) }
 {
-    let mut wire = RoundWire::new(line);
     let mut port = GatedPort {
         port: SolePort { board, by: ROUND },
         gate,
         actor: ROUND,
     };
-    converge(alloc, &mut port, cells, &mut wire, now, line.line)
+    round_over(alloc, &mut port, cells, line, now)
 }

@@ -1,1 +1,3 @@
-pub mod Sole
+mod Sole
+mod Going
+pub mod Public

@@ -16,6 +16,6 @@ returns-clause-heard g c =
     let t = c.turn.ensures.turn in
     let before = t.ran.shown.now in
     let read : IsRead before t.ran.left.now = search rules in
-    let is : IfOk c.turn.result (IsHeard before.base before.log c.args.from c.args.max) = search rules in
+    let is : IfOk c.turn.result (IsHeard before.board.base before.board.log c.args.from c.args.max) = search rules in
     of_seen _ _ _ _ (turn_at _ _ _ _ _ _ t) read
     (λ base log. IfOk c.turn.result (IsHeard base log c.args.from c.args.max)) is

@@ -15,6 +15,6 @@ returns-clause-place g c =
     let t = c.turn.ensures.turn in
     let before = t.ran.shown.now in
     let read : IsRead before t.ran.left.now = search rules in
-    let is : c.turn.result ≡ length before.log = search rules in
+    let is : c.turn.result ≡ length before.board.log = search rules in
     of_seen _ _ _ _ (turn_at _ _ _ _ _ _ t) read
     (λ base log. c.turn.result ≡ length log) is

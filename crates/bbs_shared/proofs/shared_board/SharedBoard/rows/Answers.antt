@@ -18,7 +18,7 @@ returns-clause-rows g c =
     let t = c.turn.ensures.turn in
     let before = t.ran.shown.now in
     let read : IsRead before t.ran.left.now = search rules in
-    let is : IfOk c.turn.result (λ rows. rows ≡ rows_of before) = search rules in
+    let is : IfOk c.turn.result (λ rows. rows ≡ rows_of before.board) = search rules in
     of_seen _ _ _ _ (turn_at _ _ _ _ _ _ t) read
     (λ base log. IfOk c.turn.result (λ rows. rows ≡ replay_log base log)) is
 
@@ -27,6 +27,6 @@ returns-clause-valid g c =
     let t = c.turn.ensures.turn in
     let before = t.ran.shown.now in
     let read : IsRead before t.ran.left.now = search rules in
-    let is : IsValid (rows_of before) = search rules in
+    let is : IsValid (rows_of before.board) = search rules in
     of_seen _ _ _ _ (turn_at _ _ _ _ _ _ t) read
     (λ base log. IsValid (replay_log base log)) is

@@ -1,10 +1,13 @@
 -- What stands at the desk is the board that was handed in.
-use Rattle.std.proofs.Common.{subst}
-use Rattle.ticket_desk.specs.Passes.{AreDealt}
-use Rattle.bbs_shared.specs.Boards.{log_of, origin_of}
+use Rattle.std.proofs.Common.{ap, subst}
+use Rattle.bbs_board.specs.View.{View}
+use Rattle.bbs_shared.specs.Boards.{Standing}
+use Rattle.bbs_shared.specs.Sharings.{AreHanded}
+use Rattle.bbs_shared.proofs.Sharing.{handed}
 use Rattle.bbs_shared.proofs.shared_board.SharedBoard.start.Goals as goal
 
 pub returns-in-Ok-clause-passes : goal.returns-in-Ok-clause-passes
 returns-in-Ok-clause-passes g c =
     let z = c.in-Ok.desk.table.shared.table_id in
-    subst (λ b. AreDealt log_of origin_of b z c.args.passes c.in-Ok.dealt.items) c.new.ensures c.in-Ok.ensures.ok.1
+    subst (λ (b : View g.row.D.Denot). AreHanded b z c.args.passes c.in-Ok.dealt.items) (ap (λ (at : Standing g.row.D.Denot). at.board) c.new.ensures)
+    (handed c.new.result z c.args.passes c.in-Ok.dealt.items c.in-Ok.ensures.ok.1)

@@ -18,6 +18,6 @@ returns-clause-work g c =
     let t = c.turn.ensures.turn in
     let before = t.ran.shown.now in
     let read : IsRead before t.ran.left.now = search rules in
-    let is : IfOk c.turn.result (λ list. list ≡ asked.work (rows_of before) c.args.now) = search rules in
+    let is : IfOk c.turn.result (λ list. list ≡ asked.work (rows_of before.board) c.args.now) = search rules in
     of_seen _ _ _ _ (turn_at _ _ _ _ _ _ t) read
     (λ base log. IfOk c.turn.result (λ list. list ≡ asked.work (replay_log base log) c.args.now)) is

@@ -9,7 +9,7 @@ use Rattle.bbs_board.specs.Written.{WritesOn}
 use Rattle.bbs_board.proofs.Public.{no_doubts, writes_nothing, writes_then}
 use Rattle.bbs_model.specs.declared.item.Item.{Item}
 use Rattle.sole_port.specs.Went.{Went}
-use Rattle.phase_runs.specs.Boards.{GoesOn}
+use Rattle.sole_port.specs.Going.{GoesOn}
 
 module _ {D : Type 0} (told : D → Option Past) where
   -- nothing was done
