@@ -1,5 +1,5 @@
 -- What a pass of a shared board knows, and what calls and looks leave of it.
-use Rattle.std.specs.Prelude.{◌≡◌, ℕ, List, refl}
+use Rattle.std.specs.Prelude.{◌≡◌, List, refl}
 use Rattle.std.proofs.Common.{◌∙◌}
 use Rattle.bbs_model.specs.PortView.{PortView, after_others}
 use Rattle.bbs_model.specs.declared.item.Item.{Item}
@@ -31,20 +31,11 @@ module _ {V S : Type 0} where
     pub pass : IsSamePass p q
     pub origin : (view_of q).origin ≡ (view_of p).origin
 
-  -- still the same reference, to the same pass of the same board
-  pub record KeepsPass (name name' : ℕ) (p q : Pass V Item (Origin S)) : Type 0 where
-    pub name_is : name' ≡ name
-    pub same : IsSame p q
+  pub pass_same : (p : Pass V Item (Origin S)) → IsSame p p
+  pass_same p = record { pass = same_pass p; origin = refl }
 
-  pub pass_kept : (name : ℕ) (p : Pass V Item (Origin S)) → KeepsPass name name p p
-  pass_kept name p = record { name_is = refl; same = record { pass = same_pass p; origin = refl } }
-
-  pub pass_kept_then : (name name' name'' : ℕ) (p q r : Pass V Item (Origin S))
-      → KeepsPass name name' p q → KeepsPass name' name'' q r → KeepsPass name name'' p r
-  pass_kept_then name name' name'' p q r f g = record {
-    name_is = g.name_is ∙ f.name_is;
-    same = record {
-      pass = same_then p q r f.same.pass g.same.pass;
-      origin = g.same.origin ∙ f.same.origin;
-    };
+  pub pass_same_then : (p q r : Pass V Item (Origin S)) → IsSame p q → IsSame q r → IsSame p r
+  pass_same_then p q r first second = record {
+    pass = same_then p q r first.pass second.pass;
+    origin = second.origin ∙ first.origin;
   }
