@@ -9,19 +9,27 @@ use Rattle.bbs_model.specs.Work.{work}
 use Rattle.bbs_model.specs.declared.command.Command.{Command}
 use Rattle.bbs_model.specs.declared.item.Item.{Item}
 use Rattle.bbs_model.specs.declared.rows.Rows.{Rows}
-use Rattle.bbs_model.proofs.Public.{later_same, later_then}
+use Rattle.bbs_model.specs.declared.reply.CallFault.{CallFault}
+use Rattle.bbs_model.proofs.Public.{later_looks, later_same, later_then}
 use Rattle.cell_records.specs.declared.answer.Answer.{Answer}
 use Rattle.cell_rep.specs.declared.rep.CellRep.{CellRep}
 use Rattle.convergence.specs.Plans.{plan_of_answers}
 use Rattle.crash_backoff.specs.declared.moment.Moment.{Moment}
 use Rattle.converge_round.specs.Callings.{Calling, calling, IsNoted, AreOf}
 use Rattle.converge_round.specs.Each.{Each}
-use Rattle.converge_round.specs.Items.{IsAskedBetween, AreAsked, IsClaimIn, IsOfTable, HasFirstItems, HasItems}
-use Rattle.converge_round.specs.Phases.{AreCalledBy, ArePlaced, IsClaimFor, fails_in}
+use Rattle.converge_round.specs.Items.{IsAskedBetween, AreAsked, IsClaimIn, IsOfTable, WasSeen, AreHeard, AreLeft, WereLeft, AreFirstItems, HasFirstItems, HasItems}
+use Rattle.converge_round.specs.Phases.{AreCalledBy, ArePlaced, AreStopped, IsClaimFor, IsHearing, fails_in}
 use Rattle.converge_round.specs.Places.{placements, jobs_on, unplaced, fails_of}
+use Rattle.converge_round.specs.Reps.{KeepReps}
+use Rattle.converge_round.specs.Sendings.{WireAt}
 use Rattle.converge_round.specs.Starts.{IsClaimOfOne}
+use Rattle.converge_round.specs.Stops.{stops_at}
+use Rattle.converge_round.specs.declared.opening.Hearing.{Hearing}
+use Rattle.converge_round.specs.declared.opening.Opening.{Opening}
 use Rattle.converge_round.specs.declared.placing.Places.{Places}
+use Rattle.converge_round.specs.declared.stopping.Stops.{Stops}
 use Rattle.converge_round.specs.declared.tally.Tally.{Tally}
+use Rattle.converge_round.proofs.GotLaws.{heard_in}
 use Rattle.converge_round.proofs.Owns.{own_looks, own_weaker, own_then}
 
 -- what holds where something is there
@@ -126,73 +134,160 @@ pub fail_in : (now : Moment) (rows : Rows) (reps : List CellRep) (got : List Ans
 fail_in now rows reps got p c is h =
     subst (λ list. Contains (fails_of rows now (unplaced list)) c) is.placed (subst (λ rs. Contains (fails_of rs now (unplaced p.placements)) c) is.rows_are h)
 
--- the items up to the claims are of a round
-pub first_items : (by : ℕ) (now : Moment) (u v w : PortView) → Looks u v → HasFirstItems by now v w → HasItems by now u w
-first_items by now u v w looks h = record {
-  got = h.got;
-  roomy = [];
-  asked = asked_then by (IsOfTable h.got [] now) u v w (asked_looks by (IsOfTable h.got [] now) u v looks)
-      (asked_weaker by _ (IsOfTable h.got [] now) v w (λ rows c x. ⊎_elim (λ a. inl a) (λ b. inr (inl b)) x) h.asked);
+-- rows that were seen in between were so in a longer stretch
+pub seen_then : (Of : Rows → Type 0) (u v w x : PortView) → IsLater u v → IsLater w x → WasSeen Of v w → WasSeen Of u x
+seen_then Of u v w x f g h = record {
+  read = h.read;
+  before = later_then u v h.read f h.before;
+  after = later_then h.read w x h.after g;
+  holds = h.holds;
 }
 
-pub no_items : (by : ℕ) (now : Moment) (u v : PortView) → Looks u v → HasItems by now u v
-no_items by now u v looks = record { got = []; roomy = []; asked = asked_looks by (IsOfTable [] [] now) u v looks }
+pub left_then : (reps : List CellRep) (got roomy : List Answer) (u v w x : PortView) → IsLater u v → IsLater w x → WereLeft reps got roomy v w → WereLeft reps got roomy u x
+left_then reps got roomy u v w x f g h = record {
+  read = h.read;
+  before = later_then u v h.read f h.before;
+  after = later_then h.read w x h.after g;
+  holds = seen_then (AreLeft reps got roomy (rows_seen h.read)) u v w x f g h.holds;
+}
+
+-- no answers were heard
+pub heard_none : (reps : List CellRep) (now : Moment) (v w : PortView) → IsLater v w → WasSeen (AreHeard reps now []) v w
+heard_none reps now v w later = record {
+  read = v;
+  before = later_same v;
+  after = later;
+  holds = λ a inside. absurd (omega (arith, inside.1));
+}
+
+-- the items up to the claims are of a round
+pub first_items : (by : ℕ) (now : Moment) (reps : List CellRep) (u v w : PortView) (r : Result Opening CallFault) → Looks u v → HasFirstItems by now reps v w r → HasItems by now reps u w
+first_items by now reps u v w r looks h = record {
+  got = h.got;
+  roomy = [];
+  heard = seen_then (AreHeard reps now h.got) u v w w (later_looks u v looks) (later_same w) h.items.heard;
+  left = inl refl;
+  asked = asked_then by (IsOfTable h.got [] now) u v w (asked_looks by (IsOfTable h.got [] now) u v looks)
+      (asked_weaker by _ (IsOfTable h.got [] now) v w (λ rows c x. ⊎_elim (λ a. inl a) (λ b. inr (inl b)) x) h.items.asked);
+}
+
+pub no_items : (by : ℕ) (now : Moment) (reps : List CellRep) (u v : PortView) → Looks u v → HasItems by now reps u v
+no_items by now reps u v looks = record {
+  got = [];
+  roomy = [];
+  heard = heard_none reps now u v (later_looks u v looks);
+  left = inl refl;
+  asked = asked_looks by (IsOfTable [] [] now) u v looks;
+}
+
+-- and those that its auction asked for
+auction_items : (by : ℕ) (now : Moment) (cells : List CellRep) (u v m w : PortView) (o : Opening) → Looks u v → (h : HasFirstItems by now cells v m (Ok o))
+    → AreOf by (λ c. IsOfTable h.got o.places.roomy now (rows_seen m) c) m w → HasItems by now cells u w
+auction_items by now cells u v m w o looks h f =
+    let T : Rows → Command → Type 0 = IsOfTable h.got o.places.roomy now in
+    record {
+      got = h.got;
+      roomy = o.places.roomy;
+      heard = seen_then (AreHeard cells now h.got) u v m w (later_looks u v looks) f.later h.items.heard;
+      left = inr (left_then cells h.got o.places.roomy u v m w (later_looks u v looks) f.later h.left);
+      asked = asked_then by T u v w (asked_looks by T u v looks)
+          (asked_then by T v m w (asked_weaker by _ T v m (λ rows c x. ⊎_elim (λ a. inl a) (λ b. inr (inl b)) x) h.items.asked) (asked_here by T m w f));
+    }
 
 -- and those of the claims
-pub claim_items : (by : ℕ) (now : Moment) (u v m w : PortView) (reps : List CellRep) (got : List Answer) (p : Places) → Looks u v → HasFirstItems by now v m
-    → ArePlaced (rows_seen m) reps got p → AreOf by (IsClaimFor now p p.roomy) m w → HasItems by now u w
-claim_items by now u v m w reps got p looks h is f =
-    let T : Rows → Command → Type 0 = IsOfTable h.got p.roomy now in
-    record {
-      got = h.got;
-      roomy = p.roomy;
-      asked = asked_then by T u v w (asked_looks by T u v looks)
-          (asked_then by T v m w (asked_weaker by _ T v m (λ rows c x. ⊎_elim (λ a. inl a) (λ b. inr (inl b)) x) h.asked)
-          (asked_here by T m w (own_weaker by (IsClaimFor now p p.roomy) (T (rows_seen m)) m w (λ c x. inr (inr (inl (claim_in now (rows_seen m) reps got p c is x)))) f)));
-    }
+pub claim_items : (by : ℕ) (now : Moment) (cells : List CellRep) (u v m w : PortView) (reps : List CellRep) (got : List Answer) (o : Opening) → Looks u v → HasFirstItems by now cells v m (Ok o)
+    → ArePlaced (rows_seen m) reps got o.places → AreOf by (IsClaimFor now o.places o.places.roomy) m w → HasItems by now cells u w
+claim_items by now cells u v m w reps got o looks h is f =
+    let T : Command → Type 0 = IsOfTable h.got o.places.roomy now (rows_seen m) in
+    auction_items by now cells u v m w o looks h
+    (own_weaker by (IsClaimFor now o.places o.places.roomy) T m w (λ c x. inr (inr (inl (claim_in now (rows_seen m) reps got o.places c is x)))) f)
 
 -- and of the notes
-pub note_items : (by : ℕ) (now : Moment) (u v m k w : PortView) (reps : List CellRep) (got : List Answer) (p : Places) → Looks u v → HasFirstItems by now v m
-    → ArePlaced (rows_seen m) reps got p → AreOf by (IsClaimFor now p p.roomy) m k → AreOf by (Contains (fails_in now p)) k w → HasItems by now u w
-note_items by now u v m k w reps got p looks h is f g =
-    let T : Rows → Command → Type 0 = IsOfTable h.got p.roomy now in
-    record {
-      got = h.got;
-      roomy = p.roomy;
-      asked = asked_then by T u v w (asked_looks by T u v looks)
-          (asked_then by T v m w (asked_weaker by _ T v m (λ rows c x. ⊎_elim (λ a. inl a) (λ b. inr (inl b)) x) h.asked)
-          (asked_here by T m w (own_then by (T (rows_seen m)) m k w
-          (own_weaker by (IsClaimFor now p p.roomy) (T (rows_seen m)) m k (λ c x. inr (inr (inl (claim_in now (rows_seen m) reps got p c is x)))) f)
-          (own_weaker by (Contains (fails_in now p)) (T (rows_seen m)) k w (λ c x. inr (inr (inr (fail_in now (rows_seen m) reps got p c is x)))) g))));
-    }
+pub note_items : (by : ℕ) (now : Moment) (cells : List CellRep) (u v m k w : PortView) (reps : List CellRep) (got : List Answer) (o : Opening) → Looks u v → HasFirstItems by now cells v m (Ok o)
+    → ArePlaced (rows_seen m) reps got o.places → AreOf by (IsClaimFor now o.places o.places.roomy) m k → AreOf by (Contains (fails_in now o.places)) k w → HasItems by now cells u w
+note_items by now cells u v m k w reps got o looks h is f g =
+    let T : Command → Type 0 = IsOfTable h.got o.places.roomy now (rows_seen m) in
+    auction_items by now cells u v m w o looks h (own_then by T m k w
+    (own_weaker by (IsClaimFor now o.places o.places.roomy) T m k (λ c x. inr (inr (inl (claim_in now (rows_seen m) reps got o.places c is x)))) f)
+    (own_weaker by (Contains (fails_in now o.places)) T k w (λ c x. inr (inr (inr (fail_in now (rows_seen m) reps got o.places c is x)))) g))
 
 -- a look adds no items
-pub items_look : (by : ℕ) (now : Moment) (u v w : PortView) → HasItems by now u v → Looks v w → HasItems by now u w
-items_look by now u v w h looks = record {
+pub items_look : (by : ℕ) (now : Moment) (reps : List CellRep) (u v w : PortView) → HasItems by now reps u v → Looks v w → HasItems by now reps u w
+items_look by now reps u v w h looks = record {
   got = h.got;
   roomy = h.roomy;
+  heard = seen_then (AreHeard reps now h.got) u u v w (later_same u) (later_looks v w looks) h.heard;
+  left = ⊎_elim (λ none. inl none) (λ some. inr (left_then reps h.got h.roomy u u v w (later_same u) (later_looks v w looks) some)) h.left;
   asked = asked_then by (IsOfTable h.got h.roomy now) u v w h.asked (asked_looks by (IsOfTable h.got h.roomy now) v w looks);
 }
 
 -- items up to the claims, phase by phase
-pub first_none : (by : ℕ) (now : Moment) (v w : PortView) → Looks v w → HasFirstItems by now v w
-first_none by now v w looks = record { got = []; asked = asked_looks by _ v w looks }
+pub first_none : (by : ℕ) (now : Moment) (reps : List CellRep) (v w : PortView) → Looks v w → AreFirstItems by now reps [] v w
+first_none by now reps v w looks = record { heard = heard_none reps now v w (later_looks v w looks); asked = asked_looks by _ v w looks }
 
-pub first_look : (by : ℕ) (now : Moment) (u v w : PortView) → HasFirstItems by now u v → Looks v w → HasFirstItems by now u w
-first_look by now u v w h looks = record { got = h.got; asked = asked_then by _ u v w h.asked (asked_looks by _ v w looks) }
+pub first_look : (by : ℕ) (now : Moment) (reps : List CellRep) (got : List Answer) (u v w : PortView) → AreFirstItems by now reps got u v → Looks v w → AreFirstItems by now reps got u w
+first_look by now reps got u v w h looks = record {
+  heard = seen_then (AreHeard reps now got) u u v w (later_same u) (later_looks v w looks) h.heard;
+  asked = asked_then by _ u v w h.asked (asked_looks by _ v w looks);
+}
 
-pub first_work : (by by' : ℕ) (now : Moment) (v m w : PortView) → by' ≡ by → Looks v m → AreAsked by' (λ rows c. Contains (work rows now) c) m w → HasFirstItems by now v w
-first_work by by' now v m w same looks f = record {
-  got = [];
+pub first_work : (by by' : ℕ) (now : Moment) (reps : List CellRep) (v m w : PortView) → by' ≡ by → Looks v m → AreAsked by' (λ rows c. Contains (work rows now) c) m w
+    → AreFirstItems by now reps [] v w
+first_work by by' now reps v m w same looks f = record {
+  heard = heard_none reps now v w (later_then v m w (later_looks v m looks) f.later);
   asked = asked_then by _ v m w (asked_looks by _ v m looks)
       (asked_weaker by (λ rows c. Contains (work rows now) c) _ m w (λ rows c x. inl x) (asked_by by by' _ m w same f));
 }
 
-pub first_plan : (by by' by'' : ℕ) (now : Moment) (got : List Answer) (v m k w : PortView) → by' ≡ by → by'' ≡ by → Looks v m → AreAsked by' (λ rows c. Contains (work rows now) c) m k
-    → AreAsked by'' (λ rows c. Contains (plan_of_answers rows got now) c) k w → HasFirstItems by now v w
-first_plan by by' by'' now got v m k w same same' looks f g = record {
-  got = got;
+-- the same items by the answers that were heard
+plan_asked : (by by' : ℕ) (now : Moment) (got got' : List Answer) (v w : PortView) → by' ≡ by → got' ≡ got → AreAsked by' (λ rows c. Contains (plan_of_answers rows got' now) c) v w
+    → AreAsked by (λ rows c. Contains (plan_of_answers rows got now) c) v w
+plan_asked by by' now got got' v w same is f =
+    subst (λ (xs : List Answer). AreAsked by (λ rows c. Contains (plan_of_answers rows xs now) c) v w) is (asked_by by by' _ v w same f)
+
+pub first_plan : (by by' by'' : ℕ) (now : Moment) (reps : List CellRep) (s s' : WireAt) (hearing : Hearing) (got : List Answer) (v m k w : PortView) → by' ≡ by → by'' ≡ by → Looks v m
+    → IsHearing reps (rows_seen m) now s s' hearing → got ≡ hearing.got → AreAsked by' (λ rows c. Contains (work rows now) c) m k
+    → AreAsked by'' (λ rows c. Contains (plan_of_answers rows got now) c) k w → AreFirstItems by now reps hearing.got v w
+first_plan by by' by'' now reps s s' hearing got v m k w same same' looks heard is f g = record {
+  heard = record {
+    read = m;
+    before = later_looks v m looks;
+    after = later_then m k w f.later g.later;
+    holds = heard_in reps (rows_seen m) now s s' hearing heard;
+  };
   asked = asked_then by _ v m w (asked_looks by _ v m looks) (asked_then by _ m k w
       (asked_weaker by (λ rows c. Contains (work rows now) c) _ m k (λ rows c x. inl x) (asked_by by by' _ m k same f))
-      (asked_weaker by (λ rows c. Contains (plan_of_answers rows got now) c) _ k w (λ rows c x. inr x) (asked_by by by'' _ k w same' g)));
+      (asked_weaker by (λ rows c. Contains (plan_of_answers rows hearing.got now) c) _ k w (λ rows c x. inr x) (plan_asked by by'' now hearing.got got k w same' is g)));
+}
+
+-- they ended so
+pub first_ended : (by : ℕ) (now : Moment) (reps : List CellRep) (got : List Answer) (v w : PortView) (why : CallFault) → AreFirstItems by now reps got v w → HasFirstItems by now reps v w (Err why)
+first_ended by now reps got v w why h = record { got = got; items = h; left = tt }
+
+-- or the auction was held
+pub first_opened : (by : ℕ) (now : Moment) (reps left : List CellRep) (got : List Answer) (v w x y : PortView) (s s' : WireAt) (stops : Stops) (o : Opening) → AreFirstItems by now reps got v w
+    → Looks w x → Looks x y → KeepReps reps left → AreStopped (rows_seen x) got (stops_at s reps) (stops_at s' left) stops → ArePlaced (rows_seen y) left got o.places
+    → HasFirstItems by now reps v y (Ok o)
+first_opened by now reps left got v w x y s s' stops o h third last kept stopped placed = record {
+  got = got;
+  items = first_look by now reps got v x y (first_look by now reps got v w x h third) last;
+  left = record {
+    read = x;
+    before = later_then v w x h.asked.later (later_looks w x third);
+    after = later_looks x y last;
+    holds = record {
+      read = y;
+      before = later_then v x y (later_then v w x h.asked.later (later_looks w x third)) (later_looks x y last);
+      after = later_same y;
+      holds = record {
+        left = left;
+        kept = kept;
+        first_wire = s;
+        last_wire = s';
+        stops = stops;
+        stopped = stopped;
+        opens = placed.open_are;
+      };
+    };
+  };
 }

@@ -5,6 +5,7 @@ pub mod FaultLaws
 pub mod RepLaws
 pub mod IndexLaws
 pub mod StartLaws
+pub mod GotLaws
 pub mod Asked
 pub mod HeardLaws
 pub mod Apart

@@ -49,8 +49,8 @@ each_by Step by by' xs s t same f = subst (λ n. Each (Step n) xs s t) same f
 pub own_by : (by by' : ℕ) (A : Command → Type 0) (v w : PortView) → by' ≡ by → AreOf by' A v w → AreOf by A v w
 own_by by by' A v w same f = subst (λ n. AreOf n A v w) same f
 
-pub first_by : (by by' : ℕ) (now : Moment) (v w : PortView) → by' ≡ by → HasFirstItems by' now v w → HasFirstItems by now v w
-first_by by by' now v w same f = subst (λ n. HasFirstItems n now v w) same f
+pub first_by : (by by' : ℕ) (now : Moment) (reps : List CellRep) (v w : PortView) (r : Result Opening CallFault) → by' ≡ by → HasFirstItems by' now reps v w r → HasFirstItems by now reps v w r
+first_by by by' now reps v w r same f = subst (λ n. HasFirstItems n now reps v w r) same f
 
 pub called_by : (by by' : ℕ) (table : Rows → List Command) (s t : Calling) → by' ≡ by → AreCalledBy by' table s t → AreCalledBy by table s t
 called_by by by' table s t same f = subst (λ n. AreCalledBy n table s t) same f

@@ -154,7 +154,8 @@ pub fn round<P: Port, W: Wire>(
 ) -> Result<Report, CallFault>
     ensures keeps { P.keeps port.old port.new }
     ensures number { P.number port.new ≡ P.number port.old }
-    ensures own { HasItems (P.number port.old) now (P.view port.old) (P.view port.new) }
+    ensures own { HasItems (P.number port.old) now cells.old
+        (P.view port.old) (P.view port.new) }
     ensures cause { IfErr result (IsCausedBy (P.number port.old)
         (P.view port.old) (P.view port.new)) }
     ensures cells { KeepReps cells.old cells.new }

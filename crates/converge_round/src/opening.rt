@@ -208,7 +208,8 @@ pub fn open_round<P: Port, W: Wire>(
     requires { IsRepIndex (names_of cells.old) index.now }
     ensures keeps { P.keeps port.old port.new }
     ensures number { P.number port.new ≡ P.number port.old }
-    ensures own { HasFirstItems (P.number port.old) now (P.view port.old) (P.view port.new) }
+    ensures own { HasFirstItems (P.number port.old) now cells.old
+        (P.view port.old) (P.view port.new) result }
     ensures cause { IfErr result (IsCausedBy (P.number port.old)
         (P.view port.old) (P.view port.new)) }
     ensures cells { KeepReps cells.old cells.new }

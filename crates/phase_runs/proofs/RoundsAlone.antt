@@ -36,8 +36,8 @@ module _ {D : Type 0} (told : D → Option Past) (now : Moment) (v : View D) whe
   })
 
   -- it was not begun
-  pub no_begin : (line : RoundLine) → CutAlone told now (Some line) v v
-  no_begin line = record { fresh = []; goes = goes_nowhere told v; others = λ by ne. refl; cut = inl refl }
+  pub no_begin : (line : RoundLine) (mids : List ActorState) → CutAlone told now (Some line) mids v v
+  no_begin line mids = record { fresh = []; goes = goes_nowhere told v; others = λ by ne. refl; cut = inl refl }
 
   module _ (w : View D) (alone : IsAlone told 0 v w) where
     abbrev its : List Item
@@ -58,12 +58,12 @@ module _ {D : Type 0} (told : D → Option Past) (now : Moment) (v : View D) whe
         let doubt : IsDoubtedAt 0 place (seen_of 0 v) (seen_of 0 w) = cause.disk place is in
         (doubt.command, own_came doubt.later (Doubt 0 doubt.command) doubt.own)
 
-    module _ (line : RoundLine) (items : HasItems 0 now (seen_of 0 v) (seen_of 0 w)) where
+    module _ (line : RoundLine) (mids : List ActorState) (items : HasItems 0 now (reps_of mids) (seen_of 0 v) (seen_of 0 w)) where
       -- it was held
-      pub was_held : (mids news : List ActorState) (reps : List CellRep) → news ≡ with_reps mids reps → KeepReps (reps_of mids) reps
+      pub was_held : (news : List ActorState) (reps : List CellRep) → news ≡ with_reps mids reps → KeepReps (reps_of mids) reps
           → (report : Option Report) → IsToldBy now line (reps_of mids) reps (seen_of 0 v) (seen_of 0 w) its report
           → RoundAlone told now (Some line) mids news report v w
-      was_held mids news reps news_are kept report is_told = record {
+      was_held news reps news_are kept report is_told = record {
         fresh = its;
         goes = goes_as told 0 0 alone.name alone.name' v w alone.went;
         others = alone.went.others;
@@ -80,7 +80,7 @@ module _ {D : Type 0} (told : D → Option Past) (now : Moment) (v : View D) whe
       }
 
       -- it was cut off
-      pub was_cut : CutAlone told now (Some line) v w
+      pub was_cut : CutAlone told now (Some line) mids v w
       was_cut = record {
         fresh = its;
         goes = goes_as told 0 0 alone.name alone.name' v w alone.went;

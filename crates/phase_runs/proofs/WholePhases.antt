@@ -32,10 +32,10 @@ same_held None base before fresh now mids news report ran = same_as mids news ra
 same_held (Some line) base before fresh now mids news report ran =
     subst (AreSame mids) (sym ran.news_are) (same_put mids ran.reps ran.kept)
 
-pub not_begun_round : (round : Option RoundLine) (base : Rows) (before fresh : List Item) (now : Moment) → by_number 0 fresh ≡ []
-    → IsRoundCut round base before fresh now
-not_begun_round None base before fresh now none = none
-not_begun_round (Some line) base before fresh now none = inl none
+pub not_begun_round : (round : Option RoundLine) (base : Rows) (before fresh : List Item) (now : Moment) (reps : List CellRep) → by_number 0 fresh ≡ []
+    → IsRoundCut round base before fresh now reps
+not_begun_round None base before fresh now reps none = none
+not_begun_round (Some line) base before fresh now reps none = inl none
 
 module _ {D : Type 0} (told : D → Option Past) (v m : View D) (fresh more : List Item) (goes : GoesOn told fresh v m) where
   -- items by a caller that did none of the first ones
@@ -63,10 +63,11 @@ module _ {D : Type 0} (told : D → Option Past) (v m : View D) (fresh more : Li
       told = told_behind line (reps_of mids) ran.reps ran.first ran.last report ran.told;
     }
 
-    cut_behind : (round : Option RoundLine) → IsRoundCut round m.base m.log more now → IsRoundCut round v.base v.log (fresh ++ more) now
-    cut_behind None nor = none_then 0 none nor
-    cut_behind (Some line) (inl nor) = inl (none_then 0 none nor)
-    cut_behind (Some line) (inr cut) = inr (record {
+    cut_behind : (round : Option RoundLine) (reps : List CellRep) → IsRoundCut round m.base m.log more now reps
+        → IsRoundCut round v.base v.log (fresh ++ more) now reps
+    cut_behind None reps nor = none_then 0 none nor
+    cut_behind (Some line) reps (inl nor) = inl (none_then 0 none nor)
+    cut_behind (Some line) reps (inr cut) = inr (record {
       first = cut.first;
       last = cut.last;
       sees = sees_behind told 0 v m fresh more goes none cut.first cut.last cut.sees;
@@ -83,7 +84,7 @@ module _ {D : Type 0} (told : D → Option Past) (phase : Phase) (olds mids : Li
     cut = cut.cut;
     others = λ by behind. cut.others by (inr behind);
     same = cut.same;
-    round = not_begun_round phase.round v.base v.log cut.fresh phase.at (cut.others 0 (inl refl));
+    round = not_begun_round phase.round v.base v.log cut.fresh phase.at (reps_of mids) (cut.others 0 (inl refl));
   }
 
   module _ (parts : List (List Answered)) (acted : ActorsRan told phase.at phase.lines olds mids parts v m) (w : View D) (more : List Item)
@@ -141,7 +142,7 @@ module _ {D : Type 0} (told : D → Option Past) (phase : Phase) (olds mids : Li
   }
 
   -- the round was cut off
-  pub then_cut : CutAlone told phase.at phase.round m w → PhaseCut told phase olds v w
+  pub then_cut : CutAlone told phase.at phase.round mids m w → PhaseCut told phase olds v w
   then_cut cut = record {
     fresh = acted.fresh ++ cut.fresh;
     goes = goes_all told phase olds mids v m parts acted w cut.fresh cut.goes cut.others;
@@ -149,5 +150,5 @@ module _ {D : Type 0} (told : D → Option Past) (phase : Phase) (olds mids : Li
     cut = all_cut told phase olds mids v m parts acted w cut.fresh cut.goes cut.others;
     others = none_behind told phase olds mids v m parts acted w cut.fresh cut.goes cut.others;
     same = acted.same;
-    round = cut_behind told v m acted.fresh cut.fresh acted.goes (acted.others 0 (inl refl)) phase.at phase.round cut.cut;
+    round = cut_behind told v m acted.fresh cut.fresh acted.goes (acted.others 0 (inl refl)) phase.at phase.round (reps_of mids) cut.cut;
   }

@@ -38,7 +38,7 @@ pub record HasRound (base : Rows) (before fresh : List Item) (now : Moment) (lin
   pub reps : List CellRep
   pub news_are : news ≡ with_reps mids reps
   pub kept : KeepReps (reps_of mids) reps
-  pub items : HasItems 0 now first last
+  pub items : HasItems 0 now (reps_of mids) first last
   pub told : IsToldBy now line (reps_of mids) reps first last fresh report
 
 -- the round of a phase, if it has one
@@ -48,17 +48,17 @@ RoundRan None base before fresh now mids news report =
     (by_number 0 fresh ≡ []) × ((news ≡ mids) × (report ≡ None))
 RoundRan (Some line) base before fresh now mids news report = HasRound base before fresh now line mids news report
 
--- of a round that was cut off each item was asked for
-pub record RoundCut (base : Rows) (before fresh : List Item) (now : Moment) : Type 0 where
+-- of a round over these reps that was cut off each item was asked for
+pub record RoundCut (base : Rows) (before fresh : List Item) (now : Moment) (reps : List CellRep) : Type 0 where
   pub first : PortView
   pub last : PortView
   pub sees : SeesPhase base before fresh 0 first last
-  pub items : HasItems 0 now first last
+  pub items : HasItems 0 now reps first last
 
 -- a round that was cut off, if the phase has one and it was begun
-abbrev pub IsRoundCut : Option RoundLine → Rows → List Item → List Item → Moment → Type 0
-IsRoundCut None base before fresh now = by_number 0 fresh ≡ []
-IsRoundCut (Some line) base before fresh now = (by_number 0 fresh ≡ []) ⊎ RoundCut base before fresh now
+abbrev pub IsRoundCut : Option RoundLine → Rows → List Item → List Item → Moment → List CellRep → Type 0
+IsRoundCut None base before fresh now reps = by_number 0 fresh ≡ []
+IsRoundCut (Some line) base before fresh now reps = (by_number 0 fresh ≡ []) ⊎ RoundCut base before fresh now reps
 
 -- the round of a phase alone went over a board, whose actors were these before and are those after
 pub record RoundAlone {D : Type 0} (told : D → Option Past) (now : Moment) (round : Option RoundLine)
@@ -68,13 +68,13 @@ pub record RoundAlone {D : Type 0} (told : D → Option Past) (now : Moment) (ro
   pub others : (by : ℕ) → by ≢ 0 → by_number by fresh ≡ []
   pub ran : RoundRan round v.base v.log fresh now mids news report
 
--- the round of a phase alone was cut off
+-- the round of a phase alone was cut off, whose actors were these before
 pub record CutAlone {D : Type 0} (told : D → Option Past) (now : Moment) (round : Option RoundLine)
-    (v w : View D) : Type 0 where
+    (mids : List ActorState) (v w : View D) : Type 0 where
   pub fresh : List Item
   pub goes : GoesOn told fresh v w
   pub others : (by : ℕ) → by ≢ 0 → by_number by fresh ≡ []
-  pub cut : IsRoundCut round v.base v.log fresh now
+  pub cut : IsRoundCut round v.base v.log fresh now (reps_of mids)
 
 -- a phase that ran whole: each actor did all of its lines, and the round behind them was held; each actor is the
 -- client or the cell that it was, so what it can do it still can
@@ -101,4 +101,4 @@ pub record PhaseCut {D : Type 0} (told : D → Option Past) (phase : Phase) (old
       → PartCut v.base phase.at phase.lines v.log fresh (suc k) a a'
   pub others : (by : ℕ) → length olds < by → by_number by fresh ≡ []
   pub same : AreSame olds mids
-  pub round : IsRoundCut phase.round v.base v.log fresh phase.at
+  pub round : IsRoundCut phase.round v.base v.log fresh phase.at (reps_of mids)

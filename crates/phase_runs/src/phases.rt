@@ -37,7 +37,8 @@ fn run_round<D: Disk, G: Gate>(
 ) -> Result<Option<Report>, OutOfMemory>
     ensures ran { IfOk result (λ report. RoundAlone D.told now (Some line.now) actors.old actors.new
         report board.old board.new) }
-    ensures cut { OnErr result (CutAlone D.told now (Some line.now) board.old board.new) }
+    ensures cut { OnErr result (CutAlone D.told now (Some line.now) actors.old
+        board.old board.new) }
 {
     let mut reps = match take_reps(alloc, actors) {
         Ok(reps) => reps,
@@ -65,7 +66,8 @@ fn run_any_round<D: Disk, G: Gate>(
 ) -> Result<Option<Report>, OutOfMemory>
     ensures ran { IfOk result (λ report. RoundAlone D.told now round.now actors.old actors.new
         report board.old board.new) }
-    ensures cut { OnErr result (CutAlone D.told now round.now board.old board.new) }
+    ensures cut { OnErr result (CutAlone D.told now round.now actors.old
+        board.old board.new) }
 {
     match round {
         None => Ok(None),

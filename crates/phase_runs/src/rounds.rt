@@ -54,7 +54,7 @@ pub fn round_on<D: Disk, G: Gate>(
     now: Moment,
 ) -> Result<Report, CallFault>
     ensures alone { IsAlone D.told 0 board.old board.new }
-    ensures items { HasItems 0 now (seen_of 0 board.old) (seen_of 0 board.new) }
+    ensures items { HasItems 0 now cells.old (seen_of 0 board.old) (seen_of 0 board.new) }
     ensures cause { IfErr result (IsCausedBy 0 (seen_of 0 board.old) (seen_of 0 board.new)) }
     ensures cells { KeepReps cells.old cells.new }
     ensures account { IfOk result (RoundOf now line.now cells.old cells.new

@@ -47,21 +47,20 @@ module _ (base : Rows) (before fresh log : List Item) (goes : Begins (before ++ 
 
     -- one that did the first of them
     pub actor_cut : (a' : ActorState) → PartCut base phase.at phase.lines before fresh by a a'
-        → ActorCut base log phase (length before) (length (before ++ fresh)) by a
+        → ActorCut base log phase (length before) (length (before ++ fresh)) by a a'
     actor_cut a' part =
         let did = did_first by phase.at (turns_in by phase.lines) a part.first a' part.last part.cut in
         let it = fits did.answers part.first part.last part.sees did.says in
-        record { answers = did.answers; last = a'; did = did.does; items = it.items; places = it.places; replies = it.replies }
+        record { answers = did.answers; did = did.does; items = it.items; places = it.places; replies = it.replies }
 
     -- one that did all of them may be one that was cut off
     pub actor_as_cut : (a' : ActorState) (answers : List Answered) → PartRan base phase.at phase.lines before fresh by a a' answers
-        → ActorCut base log phase (length before) (length (before ++ fresh)) by a
+        → ActorCut base log phase (length before) (length (before ++ fresh)) by a a'
     actor_as_cut a' answers part =
         let did = did_turns by phase.at (turns_in by phase.lines) a part.first answers a' part.last part.taken in
         let it = fits answers part.first part.last part.sees did.says in
         record {
           answers = answers;
-          last = a';
           did = record {
             done = turns_in by phase.lines;
             rest = [];

@@ -17,6 +17,7 @@ use Rattle.scenario_lines.specs.declared.script.Script.{Script}
 use Rattle.actor_runs.specs.declared.actor_state.ActorState.{ActorState}
 use Rattle.phase_runs.specs.Actors.{Begins, PartCut, PartRan}
 use Rattle.phase_runs.specs.Phases.{IsRoundCut, PhaseCut, PhaseRan, RoundRan}
+use Rattle.phase_runs.specs.Reps.{reps_of}
 use Rattle.scenario_runs.specs.Courses.{Course, PlaysPhase}
 use Rattle.scenario_runs.specs.Plays.{IsUntold}
 use Rattle.run_laws.specs.Cuts.{PhaseIsCut}
@@ -103,14 +104,14 @@ module _ {D : Type 0} (told : D → Option Past) (base : Rows) where
     was_cut : (w : View D) (cut : PhaseCut told phase s.actors s.board w) → PhaseIsCut base (s.board.log ++ cut.fresh) phase (point_of s)
     was_cut w cut = record {
       calm = calm_there cut.fresh;
-      actors = λ k a old.
-          actor_cut base s.board.log cut.fresh (s.board.log ++ cut.fresh) (begins_same (s.board.log ++ cut.fresh)) (suc k) phase a (get_or cut.mids k a)
-          (subst (λ (r : Rows). PartCut r phase.at phase.lines s.board.log cut.fresh (suc k) a (get_or cut.mids k a)) base_is
-          (cut.cut k a (get_or cut.mids k a) old
-          (slice_get-get_or cut.mids k a (omega (arith, slice_get_within s.actors k a old, cut.same.length_is)))));
+      mids = cut.mids;
+      same = cut.same;
+      actors = λ k a a' old new.
+          actor_cut base s.board.log cut.fresh (s.board.log ++ cut.fresh) (begins_same (s.board.log ++ cut.fresh)) (suc k) phase a a'
+          (subst (λ (r : Rows). PartCut r phase.at phase.lines s.board.log cut.fresh (suc k) a a') base_is (cut.cut k a a' old new));
       round =
-          round_cut base s.board.log cut.fresh (s.board.log ++ cut.fresh) (begins_same (s.board.log ++ cut.fresh)) phase.round phase.at
-          (subst (λ (r : Rows). IsRoundCut phase.round r s.board.log cut.fresh phase.at) base_is cut.round);
+          round_cut base s.board.log cut.fresh (s.board.log ++ cut.fresh) (begins_same (s.board.log ++ cut.fresh)) phase.round phase.at (reps_of cut.mids)
+          (subst (λ (r : Rows). IsRoundCut phase.round r s.board.log cut.fresh phase.at (reps_of cut.mids)) base_is cut.round);
       others = λ by behind.
           its_items base s.board.log cut.fresh (s.board.log ++ cut.fresh) (begins_same (s.board.log ++ cut.fresh)) by ∙ cut.others by behind;
     }
@@ -119,12 +120,13 @@ module _ {D : Type 0} (told : D → Option Past) (base : Rows) where
         (ran : PhaseRan told phase s.actors news parts report s.board w) → PhaseIsCut base (s.board.log ++ ran.fresh) phase (point_of s)
     was_untold w news parts report ran = record {
       calm = calm_there ran.fresh;
-      actors = λ k a old.
+      mids = ran.mids;
+      same = ran.same;
+      actors = λ k a a' old new.
           actor_as_cut base s.board.log ran.fresh (s.board.log ++ ran.fresh) (begins_same (s.board.log ++ ran.fresh)) (suc k) phase a
-          (get_or ran.mids k a) (get_or parts k [])
-          (subst (λ (r : Rows). PartRan r phase.at phase.lines s.board.log ran.fresh (suc k) a (get_or ran.mids k a) (get_or parts k [])) base_is
-          (ran.ran k a (get_or ran.mids k a) (get_or parts k []) old
-          (slice_get-get_or ran.mids k a (omega (arith, slice_get_within s.actors k a old, ran.same.length_is)))
+          a' (get_or parts k [])
+          (subst (λ (r : Rows). PartRan r phase.at phase.lines s.board.log ran.fresh (suc k) a a' (get_or parts k [])) base_is
+          (ran.ran k a a' (get_or parts k []) old new
           (slice_get-get_or parts k [] (omega (arith, slice_get_within s.actors k a old, ran.count_is)))));
       round =
           round_as_cut base s.board.log ran.fresh (s.board.log ++ ran.fresh) (begins_same (s.board.log ++ ran.fresh)) phase.round phase.at ran.mids news report

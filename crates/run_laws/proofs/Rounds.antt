@@ -1,5 +1,5 @@
 -- A round, by the log of the phase at its end and each longer one.
-use Rattle.std.proofs.Common.{◌≡◌, ℕ, ◌≤◌, List, [], ◌∷◌, ◌++◌, length, drop, take, Option, Some, None, refl, sym, ap, subst, ◌∙◌, append_assoc, arith, inl, inr}
+use Rattle.std.proofs.Common.{◌≡◌, ℕ, ◌≤◌, List, [], ◌∷◌, ◌++◌, length, drop, take, Option, Some, None, refl, sym, ap, subst, ◌∙◌, append_assoc, arith, inl, inr, ⊎_elim}
 use Rattle.std.specs.List.{Contains}
 use Rattle.std.proofs.lemmas.List.{append_cancel_left, drop_at, length-drop, take-take}
 use Rattle.std.proofs.lemmas.List.Elements.{Contains-append_left}
@@ -9,11 +9,12 @@ use Rattle.bbs_model.specs.Replay.{command_in, replay_log, rows_at}
 use Rattle.bbs_model.specs.declared.item.Item.{Item}
 use Rattle.bbs_model.specs.declared.item.Item.TheVariants.{Doubt}
 use Rattle.bbs_model.specs.declared.rows.Rows.{Rows}
+use Rattle.cell_records.specs.declared.answer.Answer.{Answer}
 use Rattle.cell_rep.specs.declared.rep.CellRep.{CellRep}
 use Rattle.converge_laws.specs.Converged.{IsConverged}
 use Rattle.convergence.specs.declared.report.Report.{Report}
 use Rattle.converge_round.specs.Askings.{StandApart}
-use Rattle.converge_round.specs.Items.{HasItems, IsAskedBetween, IsOfTable}
+use Rattle.converge_round.specs.Items.{AreHeard, AreLeft, HasItems, IsAskedBetween, IsOfTable, WasSeen, WereLeft}
 use Rattle.converge_round.specs.Reps.{KeepReps, names_of}
 use Rattle.converge_round.specs.Rounds.{standing}
 use Rattle.converge_round.specs.Sendings.{wire_at}
@@ -29,7 +30,7 @@ use Rattle.phase_runs.specs.Reps.{reps_of, with_reps}
 use Rattle.phase_runs.specs.RoundMarks.{round_ends}
 use Rattle.phase_runs.specs.Rounds.{RoundOf}
 use Rattle.run_laws.specs.Cuts.{RoundAsksIf}
-use Rattle.run_laws.specs.Phases.{between, IsAskedFor, IsReported, ReportAgrees, RoundAgreesIf, RoundAsks, SeesBetween}
+use Rattle.run_laws.specs.Phases.{between, HeldThere, IsAskedFor, IsReported, ReportAgrees, RoundAgreesIf, RoundAsks, SeesBetween}
 use Rattle.run_laws.proofs.Logs.{begins_taken, begins_then, begins_within, fresh_between}
 
 -- the reps of actors with these reps
@@ -74,44 +75,82 @@ module _ (base : Rows) (before fresh log : List Item) (goes : Begins (before ++ 
     its_mine : by_number by (between from upto log) ≡ later.mine.0
     its_mine = its_items by ∙ append_cancel_left v.mine (by_number by fresh) later.mine.0 (sym sees.own ∙ later.mine.1)
 
-  module _ (now : Moment) (v w : PortView) (sees : SeesPhase base before fresh 0 v w) (items : HasItems 0 now v w) where
+  -- rows that were seen on the way, by their place
+  module _ (v w : PortView) (sees : SeesPhase base before fresh 0 v w) (m : PortView) (b : IsLater v m) (a : IsLater m w) where
+    low_there : from ≤ length m.seen
+    low_there = omega (arith, begins_within before v.seen sees.from, begins_within v.seen m.seen b.seen)
+
+    whole : before ++ fresh ≡ m.seen ++ (a.seen.0 ++ sees.upto.0)
+    whole = sees.upto.1 ∙ ap (λ (xs : List Item). xs ++ sees.upto.0) a.seen.1 ∙ append_assoc m.seen a.seen.0 sees.upto.0
+
+    high_there : length m.seen ≤ upto
+    high_there = begins_within m.seen (before ++ fresh) (a.seen.0 ++ sees.upto.0, whole)
+
+    stretch : between (length m.seen) upto log ≡ a.seen.0 ++ sees.upto.0
+    stretch = ap (drop (length m.seen)) (begins_taken (before ++ fresh) log goes ∙ whole)
+        ∙ drop_at m.seen (a.seen.0 ++ sees.upto.0) (length m.seen) refl
+
+    rows_there : rows_seen m ≡ rows_at base log (length m.seen)
+    rows_there = ap (λ (r : Rows). replay_log r m.seen) (b.base ∙ sees.base_is)
+        ∙ ap (replay_log base) (sym (begins_taken m.seen log (begins_then m.seen (before ++ fresh) log (a.seen.0 ++ sees.upto.0, whole) goes)))
+
+  module _ (now : Moment) (reps : List CellRep) (v w : PortView) (sees : SeesPhase base before fresh 0 v w) (items : HasItems 0 now reps v w) where
     asked_for : (i : Item) → IsAskedBetween 0 (IsOfTable items.got items.roomy now) v w i
         → IsAskedFor base log now items.got items.roomy from upto i
     asked_for i e = record {
       place = length e.read.seen;
-      low = omega (arith, begins_within before v.seen sees.from, begins_within v.seen e.read.seen e.before.seen);
-      behind = subst (λ (xs : List Item). Contains xs i) (sym stretch) (Contains-append_left e.after.seen.0 sees.upto.0 i e.behind);
-      asked = subst (λ (r : Rows). IsOfTable items.got items.roomy now r (command_in i)) rows e.asked;
+      low = low_there v w sees e.read e.before e.after;
+      behind =
+          subst (λ (xs : List Item). Contains xs i) (sym (stretch v w sees e.read e.before e.after))
+          (Contains-append_left e.after.seen.0 sees.upto.0 i e.behind);
+      asked =
+          subst (λ (r : Rows). IsOfTable items.got items.roomy now r (command_in i)) (rows_there v w sees e.read e.before e.after) e.asked;
+    }
+
+    -- what holds of rows that were seen in between holds of those of a place
+    held_there : (Of : Rows → Type 0) → WasSeen Of v w → HeldThere base log from upto Of
+    held_there Of s = record {
+      place = length s.read.seen;
+      low = low_there v w sees s.read s.before s.after;
+      high = high_there v w sees s.read s.before s.after;
+      holds = subst Of (rows_there v w sees s.read s.before s.after) s.holds;
+    }
+
+    left_there : (got roomy : List Answer) → WereLeft reps got roomy v w
+        → HeldThere base log from upto (λ stray_rows. HeldThere base log from upto (AreLeft reps got roomy stray_rows))
+    left_there got roomy s = record {
+      place = strays.place;
+      low = strays.low;
+      high = strays.high;
+      holds = held_there (AreLeft reps got roomy (rows_at base log strays.place)) strays.holds;
     }
       where
-        whole : before ++ fresh ≡ e.read.seen ++ (e.after.seen.0 ++ sees.upto.0)
-        whole = sees.upto.1 ∙ ap (λ (xs : List Item). xs ++ sees.upto.0) e.after.seen.1 ∙ append_assoc e.read.seen e.after.seen.0 sees.upto.0
-
-        stretch : between (length e.read.seen) upto log ≡ e.after.seen.0 ++ sees.upto.0
-        stretch = ap (drop (length e.read.seen)) (begins_taken (before ++ fresh) log goes ∙ whole)
-            ∙ drop_at e.read.seen (e.after.seen.0 ++ sees.upto.0) (length e.read.seen) refl
-
-        reads : Begins e.read.seen log
-        reads = begins_then e.read.seen (before ++ fresh) log (e.after.seen.0 ++ sees.upto.0, whole) goes
-
-        rows : rows_seen e.read ≡ rows_at base log (length e.read.seen)
-        rows = ap (λ (r : Rows). replay_log r e.read.seen) (e.before.base ∙ sees.base_is)
-            ∙ ap (replay_log base) (sym (begins_taken e.read.seen log reads))
+        strays : HeldThere base log from upto (λ stray_rows. WasSeen (AreLeft reps got roomy stray_rows) v w)
+        strays = held_there (λ stray_rows. WasSeen (AreLeft reps got roomy stray_rows) v w) s
 
     -- each item of a round was asked for
-    pub round_asks : RoundAsks base log now from upto
+    pub round_asks : RoundAsks base log now reps from upto
     round_asks = record {
       got = items.got;
       roomy = items.roomy;
+      heard = held_there (AreHeard reps now items.got) items.heard;
+      left = ⊎_elim (λ none. inl none) (λ some. inr (left_there items.got items.roomy some)) items.left;
       each = λ i inside.
           asked_for i (items.asked.each i (subst (λ (xs : List Item). Contains xs i) (its_mine 0 v w sees items.asked.later) inside));
     }
 
   -- so it is without items
-  none_asks : (now : Moment) → by_number 0 fresh ≡ [] → RoundAsks base log now from upto
-  none_asks now none = record {
+  none_asks : (now : Moment) (reps : List CellRep) → by_number 0 fresh ≡ [] → RoundAsks base log now reps from upto
+  none_asks now reps none = record {
     got = [];
     roomy = [];
+    heard = record {
+      place = from;
+      low = omega arith;
+      high = begins_within before (before ++ fresh) (fresh, refl);
+      holds = λ a inside. absurd (omega (arith, inside.1));
+    };
+    left = inl refl;
     each = λ i inside. absurd (nobody i (subst (λ (xs : List Item). Contains xs i) (its_items 0 ∙ none) inside));
   }
     where
@@ -119,16 +158,17 @@ module _ (base : Rows) (before fresh log : List Item) (goes : Begins (before ++ 
       nobody i inside = omega (arith, inside.1)
 
   -- a round that was cut off, if the phase has one
-  pub round_cut : (round : Option RoundLine) (now : Moment) → IsRoundCut round base before fresh now → RoundAsksIf round base log now from upto
-  round_cut None now none = its_items 0 ∙ none
-  round_cut (Some line) now (inl none) = none_asks now none
-  round_cut (Some line) now (inr cut) = round_asks now cut.first cut.last cut.sees cut.items
+  pub round_cut : (round : Option RoundLine) (now : Moment) (reps : List CellRep) → IsRoundCut round base before fresh now reps
+      → RoundAsksIf round base log now reps from upto
+  round_cut None now reps none = its_items 0 ∙ none
+  round_cut (Some line) now reps (inl none) = none_asks now reps none
+  round_cut (Some line) now reps (inr cut) = round_asks now reps cut.first cut.last cut.sees cut.items
 
   -- a round that was held and told may be one that was cut off
   pub round_as_cut : (round : Option RoundLine) (now : Moment) (mids news : List ActorState) (report : Option Report)
-      → RoundRan round base before fresh now mids news report → RoundAsksIf round base log now from upto
+      → RoundRan round base before fresh now mids news report → RoundAsksIf round base log now (reps_of mids) from upto
   round_as_cut None now mids news report ran = its_items 0 ∙ ran.0
-  round_as_cut (Some line) now mids news report ran = round_asks now ran.first ran.last ran.sees ran.items
+  round_as_cut (Some line) now mids news report ran = round_asks now (reps_of mids) ran.first ran.last ran.sees ran.items
 
   module _ (converges : CompleteRoundsConverge) (accounts : RoundsHaveAccounts) (now : Moment) (line : RoundLine) (olds news : List ActorState)
       (apart : StandApart (names_of (reps_of olds))) (v w : PortView) (sees : SeesPhase base before fresh 0 v w) (later : IsLater v w) where
@@ -190,7 +230,7 @@ module _ (base : Rows) (before fresh log : List Item) (goes : Begins (before ++ 
       → RoundAgreesIf round base log now from upto mids news report
   round_agrees converges accounts None now mids news report apart ran = (its_items 0 ∙ ran.0, ran.1.0, ran.1.1)
   round_agrees converges accounts (Some line) now mids news report apart ran = record {
-    asks = round_asks now ran.first ran.last ran.sees ran.items;
+    asks = round_asks now (reps_of mids) ran.first ran.last ran.sees ran.items;
     news_are = ran.news_are ∙ ap (with_reps mids) (sym is);
     kept = subst (KeepReps (reps_of mids)) (sym is) ran.kept;
     reported =

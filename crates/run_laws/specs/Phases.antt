@@ -1,5 +1,5 @@
 -- A phase that ended, and its stretch of the log.
-use Rattle.std.specs.Prelude.{◌≡◌, ℕ, suc, ◌<◌, ◌≤◌, false, List, [], ◌++◌, length, take, drop, All, Option, Some, None}
+use Rattle.std.specs.Prelude.{◌≡◌, ◌⊎◌, ℕ, suc, ◌<◌, ◌≤◌, false, List, [], ◌++◌, length, take, drop, All, Option, Some, None}
 use Rattle.std.specs.List.{Contains, filter_map, flat_map, slice_get}
 use Rattle.std.specs.Option.{option_to_list}
 use Rattle.bbs_board.specs.Doubts.{doubts_in}
@@ -13,9 +13,10 @@ use Rattle.bbs_model.specs.declared.rows.Rows.{Rows}
 use Rattle.cell_records.specs.declared.answer.Answer.{Answer}
 use Rattle.cell_rep.specs.Reps.{answer_of}
 use Rattle.cell_rep.specs.Wires.{WireEnds}
+use Rattle.cell_rep.specs.declared.rep.CellRep.{CellRep}
 use Rattle.converge_laws.specs.Converged.{IsConverged}
 use Rattle.convergence.specs.declared.report.Report.{Report}
-use Rattle.converge_round.specs.Items.{IsOfTable}
+use Rattle.converge_round.specs.Items.{AreHeard, AreLeft, IsOfTable}
 use Rattle.converge_round.specs.Reps.{KeepReps}
 use Rattle.converge_round.specs.Rounds.{IsRound, standing}
 use Rattle.converge_round.specs.Sendings.{wire_at}
@@ -56,10 +57,21 @@ pub record IsAskedFor (base : Rows) (log : List Item) (now : Moment) (got roomy 
   pub behind : Contains (between place upto log) i
   pub asked : IsOfTable got roomy now (rows_at base log place) (command_in i)
 
--- each item of a round was asked for: by the work or the plan at the rows of some place there, or by an auction
-pub record RoundAsks (base : Rows) (log : List Item) (now : Moment) (from upto : ℕ) : Type 0 where
+-- that holds of the rows of some place there
+pub record HeldThere (base : Rows) (log : List Item) (from upto : ℕ) (Of : Rows → Type 0) : Type 0 where
+  pub place : ℕ
+  pub low : from ≤ place
+  pub high : place ≤ upto
+  pub holds : Of (rows_at base log place)
+
+-- each item of a round over these reps was asked for: by the work or the plan at the rows of some place there, or by an
+-- auction; the answers are those that the reps gave, and the roomy cells, if there are any, are of those that answered
+pub record RoundAsks (base : Rows) (log : List Item) (now : Moment) (reps : List CellRep) (from upto : ℕ) : Type 0 where
   pub got : List Answer
   pub roomy : List Answer
+  pub heard : HeldThere base log from upto (AreHeard reps now got)
+  pub left : (roomy ≡ []) ⊎ HeldThere base log from upto (λ stray_rows.
+      HeldThere base log from upto (AreLeft reps got roomy stray_rows))
   pub each : (i : Item) → Contains (by_number 0 (between from upto log)) i →
       IsAskedFor base log now got roomy from upto i
 
@@ -103,7 +115,7 @@ IsReported base log now line from upto olds news (Some r) = ReportAgrees base lo
 -- a round was held behind the actors: of them it changed the cells' reps alone, and of those the containers alone
 pub record RoundAgrees (base : Rows) (log : List Item) (now : Moment) (line : RoundLine) (from upto : ℕ)
     (olds news : List ActorState) (report : Option Report) : Type 0 where
-  pub asks : RoundAsks base log now from upto
+  pub asks : RoundAsks base log now (reps_of olds) from upto
   pub news_are : news ≡ with_reps olds (reps_of news)
   pub kept : KeepReps (reps_of olds) (reps_of news)
   pub reported : IsReported base log now line from upto olds news report

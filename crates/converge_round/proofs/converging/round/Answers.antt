@@ -13,19 +13,19 @@ pub start_each-requires-clause-index : goal.start_each-requires-clause-index
 start_each-requires-clause-index g c = index-kept _ _ c.in-Ok.index c.open_round.ensures.cells c.in-Ok.ensures
 
 pub returns-in-Err-clause-own : goal.returns-in-Err-clause-own
-returns-in-Err-clause-own g c = no_items _ _ _ _ c.place-start.ensures.looks
+returns-in-Err-clause-own g c = no_items _ _ _ _ _ c.place-start.ensures.looks
 
 pub returns-in-Err-open_round-clause-keeps : goal.returns-in-Err-open_round-clause-keeps
 returns-in-Err-open_round-clause-keeps g c = (g.met.P.Port.goes_on c.args.port.now c.place-start.new.self c.open_round.new.port c.place-start.ensures.keeps c.open_round.ensures.keeps)
 
 pub returns-in-Err-open_round-clause-own : goal.returns-in-Err-open_round-clause-own
-returns-in-Err-open_round-clause-own g c = first_items _ _ _ _ _ c.place-start.ensures.looks (first_by _ _ _ _ _ c.place-start.ensures.number c.open_round.ensures.own)
+returns-in-Err-open_round-clause-own g c = first_items _ _ _ _ _ _ _ c.place-start.ensures.looks (first_by _ _ _ _ _ _ _ c.place-start.ensures.number c.open_round.ensures.own)
 
 pub returns-in-Err-start_each-clause-keeps : goal.returns-in-Err-start_each-clause-keeps
 returns-in-Err-start_each-clause-keeps g c = (g.met.P.Port.goes_on c.args.port.now c.open_round.new.port c.start_each.new.port (g.met.P.Port.goes_on c.args.port.now c.place-start.new.self c.open_round.new.port c.place-start.ensures.keeps c.open_round.ensures.keeps) c.start_each.ensures.keeps)
 
 pub returns-in-Err-start_each-clause-own : goal.returns-in-Err-start_each-clause-own
-returns-in-Err-start_each-clause-own g c = claim_items _ c.args.now _ _ _ _ _ _ c.in-Ok-open_round.opening.places c.place-start.ensures.looks (first_by _ _ _ _ _ c.place-start.ensures.number c.open_round.ensures.own) c.in-Ok-open_round.ensures.opened.placed (own_by _ _ _ _ _ (c.open_round.ensures.number ∙ c.place-start.ensures.number) c.start_each.ensures.own)
+returns-in-Err-start_each-clause-own g c = claim_items _ c.args.now _ _ _ _ _ _ _ c.in-Ok-open_round.opening c.place-start.ensures.looks (first_by _ _ _ _ _ _ _ c.place-start.ensures.number c.in-Ok-open_round.ensures.own) c.in-Ok-open_round.ensures.opened.placed (own_by _ _ _ _ _ (c.open_round.ensures.number ∙ c.place-start.ensures.number) c.start_each.ensures.own)
 
 pub returns-in-Err-start_each-clause-cells : goal.returns-in-Err-start_each-clause-cells
 returns-in-Err-start_each-clause-cells g c = keep-then _ _ _ c.open_round.ensures.cells c.start_each.ensures.cells
@@ -34,7 +34,7 @@ pub returns-in-Err-call_fails-clause-keeps : goal.returns-in-Err-call_fails-clau
 returns-in-Err-call_fails-clause-keeps g c = (g.met.P.Port.goes_on c.args.port.now c.start_each.new.port c.call_fails.new.port (g.met.P.Port.goes_on c.args.port.now c.open_round.new.port c.start_each.new.port (g.met.P.Port.goes_on c.args.port.now c.place-start.new.self c.open_round.new.port c.place-start.ensures.keeps c.open_round.ensures.keeps) c.start_each.ensures.keeps) c.call_fails.ensures.keeps)
 
 pub returns-in-Err-call_fails-clause-own : goal.returns-in-Err-call_fails-clause-own
-returns-in-Err-call_fails-clause-own g c = note_items _ c.args.now _ _ _ _ _ _ _ c.in-Ok-open_round.opening.places c.place-start.ensures.looks (first_by _ _ _ _ _ c.place-start.ensures.number c.open_round.ensures.own) c.in-Ok-open_round.ensures.opened.placed (own_by _ _ _ _ _ (c.open_round.ensures.number ∙ c.place-start.ensures.number) c.start_each.ensures.own) (own_by _ _ _ _ _ (c.start_each.ensures.number ∙ (c.open_round.ensures.number ∙ c.place-start.ensures.number)) c.call_fails.ensures.own)
+returns-in-Err-call_fails-clause-own g c = note_items _ c.args.now _ _ _ _ _ _ _ _ c.in-Ok-open_round.opening c.place-start.ensures.looks (first_by _ _ _ _ _ _ _ c.place-start.ensures.number c.in-Ok-open_round.ensures.own) c.in-Ok-open_round.ensures.opened.placed (own_by _ _ _ _ _ (c.open_round.ensures.number ∙ c.place-start.ensures.number) c.start_each.ensures.own) (own_by _ _ _ _ _ (c.start_each.ensures.number ∙ (c.open_round.ensures.number ∙ c.place-start.ensures.number)) c.call_fails.ensures.own)
 
 pub returns-in-Err-call_fails-clause-cells : goal.returns-in-Err-call_fails-clause-cells
 returns-in-Err-call_fails-clause-cells g c = keep-then _ _ _ c.open_round.ensures.cells c.start_each.ensures.cells
@@ -43,7 +43,7 @@ pub returns-in-Err-report_of-clause-keeps : goal.returns-in-Err-report_of-clause
 returns-in-Err-report_of-clause-keeps g c = (g.met.P.Port.goes_on c.args.port.now c.call_fails.new.port c.report_of.new.port (g.met.P.Port.goes_on c.args.port.now c.start_each.new.port c.call_fails.new.port (g.met.P.Port.goes_on c.args.port.now c.open_round.new.port c.start_each.new.port (g.met.P.Port.goes_on c.args.port.now c.place-start.new.self c.open_round.new.port c.place-start.ensures.keeps c.open_round.ensures.keeps) c.start_each.ensures.keeps) c.call_fails.ensures.keeps) c.report_of.ensures.keeps)
 
 pub returns-in-Err-report_of-clause-own : goal.returns-in-Err-report_of-clause-own
-returns-in-Err-report_of-clause-own g c = items_look _ _ _ _ _ (note_items _ c.args.now _ _ _ _ _ _ _ c.in-Ok-open_round.opening.places c.place-start.ensures.looks (first_by _ _ _ _ _ c.place-start.ensures.number c.open_round.ensures.own) c.in-Ok-open_round.ensures.opened.placed (own_by _ _ _ _ _ (c.open_round.ensures.number ∙ c.place-start.ensures.number) c.start_each.ensures.own) (own_by _ _ _ _ _ (c.start_each.ensures.number ∙ (c.open_round.ensures.number ∙ c.place-start.ensures.number)) c.call_fails.ensures.own)) c.report_of.ensures.looks
+returns-in-Err-report_of-clause-own g c = items_look _ _ _ _ _ _ (note_items _ c.args.now _ _ _ _ _ _ _ _ c.in-Ok-open_round.opening c.place-start.ensures.looks (first_by _ _ _ _ _ _ _ c.place-start.ensures.number c.in-Ok-open_round.ensures.own) c.in-Ok-open_round.ensures.opened.placed (own_by _ _ _ _ _ (c.open_round.ensures.number ∙ c.place-start.ensures.number) c.start_each.ensures.own) (own_by _ _ _ _ _ (c.start_each.ensures.number ∙ (c.open_round.ensures.number ∙ c.place-start.ensures.number)) c.call_fails.ensures.own)) c.report_of.ensures.looks
 
 pub returns-in-Err-report_of-clause-cells : goal.returns-in-Err-report_of-clause-cells
 returns-in-Err-report_of-clause-cells g c = keep-then _ _ _ c.open_round.ensures.cells c.start_each.ensures.cells
@@ -52,7 +52,7 @@ pub returns-clause-keeps : goal.returns-clause-keeps
 returns-clause-keeps g c = (g.met.P.Port.goes_on c.args.port.now c.call_fails.new.port c.report_of.new.port (g.met.P.Port.goes_on c.args.port.now c.start_each.new.port c.call_fails.new.port (g.met.P.Port.goes_on c.args.port.now c.open_round.new.port c.start_each.new.port (g.met.P.Port.goes_on c.args.port.now c.place-start.new.self c.open_round.new.port c.place-start.ensures.keeps c.open_round.ensures.keeps) c.start_each.ensures.keeps) c.call_fails.ensures.keeps) c.report_of.ensures.keeps)
 
 pub returns-clause-own : goal.returns-clause-own
-returns-clause-own g c = items_look _ _ _ _ _ (note_items _ c.args.now _ _ _ _ _ _ _ c.in-Ok-open_round.opening.places c.place-start.ensures.looks (first_by _ _ _ _ _ c.place-start.ensures.number c.open_round.ensures.own) c.in-Ok-open_round.ensures.opened.placed (own_by _ _ _ _ _ (c.open_round.ensures.number ∙ c.place-start.ensures.number) c.start_each.ensures.own) (own_by _ _ _ _ _ (c.start_each.ensures.number ∙ (c.open_round.ensures.number ∙ c.place-start.ensures.number)) c.call_fails.ensures.own)) c.report_of.ensures.looks
+returns-clause-own g c = items_look _ _ _ _ _ _ (note_items _ c.args.now _ _ _ _ _ _ _ _ c.in-Ok-open_round.opening c.place-start.ensures.looks (first_by _ _ _ _ _ _ _ c.place-start.ensures.number c.in-Ok-open_round.ensures.own) c.in-Ok-open_round.ensures.opened.placed (own_by _ _ _ _ _ (c.open_round.ensures.number ∙ c.place-start.ensures.number) c.start_each.ensures.own) (own_by _ _ _ _ _ (c.start_each.ensures.number ∙ (c.open_round.ensures.number ∙ c.place-start.ensures.number)) c.call_fails.ensures.own)) c.report_of.ensures.looks
 
 pub returns-clause-cells : goal.returns-clause-cells
 returns-clause-cells g c = keep-then _ _ _ c.open_round.ensures.cells c.start_each.ensures.cells
@@ -87,12 +87,12 @@ returns-in-Err-open_round-clause-cause g c =
 pub returns-in-Err-start_each-clause-cause : goal.returns-in-Err-start_each-clause-cause
 returns-in-Err-start_each-clause-cause g c =
     caused_before _ _ _ _ _ _ (c.open_round.ensures.number ∙ c.place-start.ensures.number)
-    (later_then _ _ _ (later_looks _ _ c.place-start.ensures.looks) c.open_round.ensures.own.asked.later) c.in-Err-start_each.ensures.cause
+    (later_then _ _ _ (later_looks _ _ c.place-start.ensures.looks) c.open_round.ensures.own.items.asked.later) c.in-Err-start_each.ensures.cause
 
 pub returns-in-Err-call_fails-clause-cause : goal.returns-in-Err-call_fails-clause-cause
 returns-in-Err-call_fails-clause-cause g c =
     caused_before _ _ _ _ _ _ (c.start_each.ensures.number ∙ (c.open_round.ensures.number ∙ c.place-start.ensures.number))
-    (later_then _ _ _ (later_then _ _ _ (later_looks _ _ c.place-start.ensures.looks) c.open_round.ensures.own.asked.later)
+    (later_then _ _ _ (later_then _ _ _ (later_looks _ _ c.place-start.ensures.looks) c.open_round.ensures.own.items.asked.later)
     c.start_each.ensures.own.later)
     c.in-Err-call_fails.ensures.cause
 

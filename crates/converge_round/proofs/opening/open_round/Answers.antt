@@ -2,7 +2,7 @@ use Rattle.std.proofs.Common.{◌∙◌, refl}
 use Rattle.bbs_model.specs.Work.{work}
 use Rattle.converge_round.specs.Callings.{calling}
 use Rattle.converge_round.specs.Sendings.{wire_at}
-use Rattle.converge_round.proofs.Asked.{first_none, first_look, first_work, first_plan}
+use Rattle.converge_round.proofs.Asked.{first_none, first_look, first_work, first_plan, first_ended, first_opened}
 use Rattle.converge_round.proofs.RepLaws.{index-kept, keep-same}
 use Rattle.converge_round.proofs.RoundLaws.{called_by, planned_by, stopped_by, placed_by}
 use Rattle.bbs_model.proofs.Public.{later_looks, later_then}
@@ -13,37 +13,44 @@ pub place_work-requires-clause-index : goal.place_work-requires-clause-index
 place_work-requires-clause-index g c = index-kept _ _ c.args.index.now c.stop_strays.ensures.cells c.requires
 
 pub returns-in-Err-clause-own : goal.returns-in-Err-clause-own
-returns-in-Err-clause-own g c = first_none _ _ _ _ c.hear.ensures.looks
+returns-in-Err-clause-own g c = first_ended _ _ _ _ _ _ _ (first_none _ _ _ _ _ c.hear.ensures.looks)
 
 pub returns-in-Err-call_work-clause-keeps : goal.returns-in-Err-call_work-clause-keeps
 returns-in-Err-call_work-clause-keeps g c = (g.met.P.Port.goes_on c.args.port.now c.hear.new.port c.call_work.new.port c.hear.ensures.keeps c.call_work.ensures.keeps)
 
 pub returns-in-Err-call_work-clause-own : goal.returns-in-Err-call_work-clause-own
-returns-in-Err-call_work-clause-own g c = first_work _ _ _ _ _ _ c.hear.ensures.number c.hear.ensures.looks c.call_work.ensures.own
+returns-in-Err-call_work-clause-own g c = first_ended _ _ _ _ _ _ _ (first_work _ _ _ _ _ _ _ c.hear.ensures.number c.hear.ensures.looks c.call_work.ensures.own)
 
 pub returns-in-Err-call_plan-clause-keeps : goal.returns-in-Err-call_plan-clause-keeps
 returns-in-Err-call_plan-clause-keeps g c = (g.met.P.Port.goes_on c.args.port.now c.call_work.new.port c.call_plan.new.port (g.met.P.Port.goes_on c.args.port.now c.hear.new.port c.call_work.new.port c.hear.ensures.keeps c.call_work.ensures.keeps) c.call_plan.ensures.keeps)
 
 pub returns-in-Err-call_plan-clause-own : goal.returns-in-Err-call_plan-clause-own
-returns-in-Err-call_plan-clause-own g c = first_plan _ _ _ _ c.items.result.now _ _ _ _ c.hear.ensures.number (c.call_work.ensures.number ∙ c.hear.ensures.number) c.hear.ensures.looks c.call_work.ensures.own c.call_plan.ensures.own
+returns-in-Err-call_plan-clause-own g c =
+    first_ended _ _ _ _ _ _ _ (first_plan _ _ _ _ _ _ _ c.in-Ok.heard c.items.result.now _ _ _ _ c.hear.ensures.number (c.call_work.ensures.number ∙ c.hear.ensures.number) c.hear.ensures.looks c.in-Ok.ensures.heard c.items.ensures c.call_work.ensures.own c.call_plan.ensures.own)
 
 pub returns-in-Err-stop_strays-clause-keeps : goal.returns-in-Err-stop_strays-clause-keeps
 returns-in-Err-stop_strays-clause-keeps g c = (g.met.P.Port.goes_on c.args.port.now c.call_plan.new.port c.stop_strays.new.port (g.met.P.Port.goes_on c.args.port.now c.call_work.new.port c.call_plan.new.port (g.met.P.Port.goes_on c.args.port.now c.hear.new.port c.call_work.new.port c.hear.ensures.keeps c.call_work.ensures.keeps) c.call_plan.ensures.keeps) c.stop_strays.ensures.keeps)
 
 pub returns-in-Err-stop_strays-clause-own : goal.returns-in-Err-stop_strays-clause-own
-returns-in-Err-stop_strays-clause-own g c = first_look _ _ _ _ _ (first_plan _ _ _ _ c.items.result.now _ _ _ _ c.hear.ensures.number (c.call_work.ensures.number ∙ c.hear.ensures.number) c.hear.ensures.looks c.call_work.ensures.own c.call_plan.ensures.own) c.stop_strays.ensures.looks
+returns-in-Err-stop_strays-clause-own g c =
+    first_ended _ _ _ _ _ _ _ (first_look _ _ _ _ _ _ _ (first_plan _ _ _ _ _ _ _ c.in-Ok.heard c.items.result.now _ _ _ _ c.hear.ensures.number (c.call_work.ensures.number ∙ c.hear.ensures.number) c.hear.ensures.looks c.in-Ok.ensures.heard c.items.ensures c.call_work.ensures.own c.call_plan.ensures.own) c.stop_strays.ensures.looks)
 
 pub returns-in-Err-place_work-clause-keeps : goal.returns-in-Err-place_work-clause-keeps
 returns-in-Err-place_work-clause-keeps g c = (g.met.P.Port.goes_on c.args.port.now c.stop_strays.new.port c.place_work.new.port (g.met.P.Port.goes_on c.args.port.now c.call_plan.new.port c.stop_strays.new.port (g.met.P.Port.goes_on c.args.port.now c.call_work.new.port c.call_plan.new.port (g.met.P.Port.goes_on c.args.port.now c.hear.new.port c.call_work.new.port c.hear.ensures.keeps c.call_work.ensures.keeps) c.call_plan.ensures.keeps) c.stop_strays.ensures.keeps) c.place_work.ensures.keeps)
 
 pub returns-in-Err-place_work-clause-own : goal.returns-in-Err-place_work-clause-own
-returns-in-Err-place_work-clause-own g c = first_look _ _ _ _ _ (first_look _ _ _ _ _ (first_plan _ _ _ _ c.items.result.now _ _ _ _ c.hear.ensures.number (c.call_work.ensures.number ∙ c.hear.ensures.number) c.hear.ensures.looks c.call_work.ensures.own c.call_plan.ensures.own) c.stop_strays.ensures.looks) c.place_work.ensures.looks
+returns-in-Err-place_work-clause-own g c =
+    first_ended _ _ _ _ _ _ _ (first_look _ _ _ _ _ _ _ (first_look _ _ _ _ _ _ _ (first_plan _ _ _ _ _ _ _ c.in-Ok.heard c.items.result.now _ _ _ _ c.hear.ensures.number (c.call_work.ensures.number ∙ c.hear.ensures.number) c.hear.ensures.looks c.in-Ok.ensures.heard c.items.ensures c.call_work.ensures.own c.call_plan.ensures.own) c.stop_strays.ensures.looks) c.place_work.ensures.looks)
 
 pub returns-clause-keeps : goal.returns-clause-keeps
 returns-clause-keeps g c = (g.met.P.Port.goes_on c.args.port.now c.stop_strays.new.port c.place_work.new.port (g.met.P.Port.goes_on c.args.port.now c.call_plan.new.port c.stop_strays.new.port (g.met.P.Port.goes_on c.args.port.now c.call_work.new.port c.call_plan.new.port (g.met.P.Port.goes_on c.args.port.now c.hear.new.port c.call_work.new.port c.hear.ensures.keeps c.call_work.ensures.keeps) c.call_plan.ensures.keeps) c.stop_strays.ensures.keeps) c.place_work.ensures.keeps)
 
 pub returns-clause-own : goal.returns-clause-own
-returns-clause-own g c = first_look _ _ _ _ _ (first_look _ _ _ _ _ (first_plan _ _ _ _ c.items.result.now _ _ _ _ c.hear.ensures.number (c.call_work.ensures.number ∙ c.hear.ensures.number) c.hear.ensures.looks c.call_work.ensures.own c.call_plan.ensures.own) c.stop_strays.ensures.looks) c.place_work.ensures.looks
+returns-clause-own g c =
+    first_opened _ _ _ _ c.in-Ok.heard.got _ _ _ _ _ _ c.in-Ok-stop_strays.stops c.opening_of.result (first_plan _ _ _ _ _ _ _ c.in-Ok.heard c.items.result.now _ _ _ _ c.hear.ensures.number (c.call_work.ensures.number ∙ c.hear.ensures.number) c.hear.ensures.looks c.in-Ok.ensures.heard c.items.ensures c.call_work.ensures.own c.call_plan.ensures.own)
+    c.stop_strays.ensures.looks c.place_work.ensures.looks c.stop_strays.ensures.cells
+    (stopped_by _ c.in-Ok.heard.got c.items-2.result.now _ _ _ c.items-2.ensures c.in-Ok-stop_strays.ensures.stops)
+    (placed_by _ _ c.in-Ok.heard.got c.items-3.result.now c.in-Ok-place_work.places _ c.items-3.ensures c.opening_of.ensures.places c.in-Ok-place_work.ensures.placed)
 
 pub returns-clause-opened : goal.returns-clause-opened
 returns-clause-opened g c = record {
