@@ -1,4 +1,4 @@
--- What gives 6, 8 or 9 comes to it, from each way in which the program ends.
+-- What gives 6, 8 or 9 comes to it, and 6 comes where a board is opened, from each way in which the program ends.
 use Rattle.std.proofs.Common.{◌≡◌, ◌⊎◌, ℕ, List, ◌++◌, length, Option, Some, None, Result, Ok, Err, refl, sym, ap, subst, ◌∙◌, arith, inl, inr, append-nil}
 use Rattle.std.specs.Io.KnownBytes.{Consumes, IsAtEnd}
 use Rattle.byte_ports.specs.Cause.{Rose}
@@ -13,11 +13,11 @@ use Rattle.program_run.specs.Runs.{EndsLate, RunEnds, RunsScript}
 use Rattle.program_run.specs.declared.ended.Ended.{Ended}
 use Rattle.scenario_lines.specs.declared.script.Script.{Script}
 use Rattle.scenario_reader.specs.declared.fault.ScriptFault.{ScriptFault}
-use Rattle.still_words.specs.Still.{IsStopped, MeetsNoBoard, MeetsObstacle}
+use Rattle.still_words.specs.Still.{IsStopped, MeetsNoBoard, MeetsObstacle, PrepareEnds, UsageEnds}
 use Rattle.still_words.specs.declared.words.Asked.{Asked}
 use Rattle.still_words.specs.declared.words.Asked.TheVariants as asked
 use Rattle.still_words.proofs.Public as still
-use Rattle.diego_engine.specs.Top.{ProgramEnds}
+use Rattle.diego_engine.specs.Top.{ProgramEnds, ReachesBoard}
 use Rattle.diego_engine.proofs.Recoveries.{opened}
 use Rattle.diego_engine.proofs.TopLaws.{as_told, not_both, not_too_long}
 
@@ -30,6 +30,30 @@ module _ {D : Type 0} (told : D → Option Past) (faults moment : D → ℕ) (e 
 
   ran : (how : Ending) (what : Option Asked) → what ≡ Some asked.Run → Ends how what → Ran how
   ran how what is h = subst (λ (x : Option Asked). Ends how x) is h
+
+  -- ---- where 6 comes
+
+  run_reached : (how : Ending) → status_of how ≡ 6 → Ran how → ReachesBoard (Some asked.Run) left left'
+  run_reached (ending.NotABoard area) n runs = (runs.script, runs.reads)
+  run_reached (ending.Damaged area at) n runs = (runs.script, runs.reads)
+  run_reached how n h = absurd (omega (arith, n))
+
+  prepare_never : (how : Ending) → status_of how ≡ 6 → PrepareEnds how v w → ⊥
+  prepare_never (ending.NotABoard area) n h = h
+  prepare_never (ending.Damaged area at) n h = h
+  prepare_never how n h = absurd (omega (arith, n))
+
+  usage_never : (how : Ending) → status_of how ≡ 6 → UsageEnds how v w → ⊥
+  usage_never (ending.NotABoard area) n h = h
+  usage_never (ending.Damaged area at) n h = h
+  usage_never how n h = absurd (omega (arith, n))
+
+  pub reached_from : (how : Ending) (what : Option Asked) → status_of how ≡ 6 → Ends how what → ReachesBoard what left left'
+  reached_from how (Some asked.Run) n h = run_reached how n h
+  reached_from how (Some asked.Prepare) n h = absurd (prepare_never how n h.still)
+  reached_from how (Some asked.Records) n h = tt
+  reached_from how (Some asked.Check) n h = tt
+  reached_from how None n h = absurd (usage_never how n h.still)
 
   -- ---- words that ask for no run
 

@@ -38,8 +38,8 @@ module _ {D : Type 0} (told : D → Option Past) (faults moment : D → ℕ) (la
       subst (λ (rows : Rows). IsFaithful script how e.answers.items e.reports.items rows e.log.items) p.base
       (subst (λ (log : List Item). IsFaithful script how e.answers.items e.reports.items p.board.base log) (sym p.log)
       (law script how e.answers.items e.reports.items p.board p.left late.between.held w.held late.between.write_faults w.write_faults sound
-          p.fresh.log (subst IsValid (sym p.base) p.valid)
-          (subst (λ (rows : Rows). IsLawful rows p.left.log) (sym p.base) (subst (λ (log : List Item). IsLawful late.rows log) p.log p.lawful)) p.plays))
+      p.fresh.log (subst IsValid (sym p.base) p.valid)
+      (subst (λ (rows : Rows). IsLawful rows p.left.log) (sym p.base) (subst (λ (log : List Item). IsLawful late.rows log) p.log p.lawful)) p.plays))
 
   faithfully : (script : Script) (how : Ending) → ReadsAs (Ok script) left left' → IsScript script → EndsLate told faults moment script how e v w
       → DidFaithfully how

@@ -9,7 +9,7 @@ use Rattle.program_edge.specs.Ports.{Ports, ports_of}
 use Rattle.program_edge.specs.declared.ending.Ending.{Ending}
 use Rattle.program_edge.specs.declared.ending.Ending.TheVariants as ending
 use Rattle.program_edge.specs.declared.top_end.TopEnd.{TopEnd}
-use Rattle.program_run.specs.Reading.{TellsAs}
+use Rattle.program_run.specs.Reading.{ReadsAs, TellsAs}
 use Rattle.program_run.specs.Runs.{IsEmpty, RunEnds, RunsScript}
 use Rattle.program_run.specs.declared.ended.Ended.{Ended}
 use Rattle.scenario_lines.specs.declared.script.Script.{Script}
@@ -31,6 +31,14 @@ ProgramEnds told faults moment how (Some asked.Prepare) e left left' v w = EndsW
 ProgramEnds told faults moment how (Some asked.Records) e left left' v w = EndsWithoutRun how (Some asked.Records) e left left' v w
 ProgramEnds told faults moment how (Some asked.Check) e left left' v w = EndsWithoutRun how (Some asked.Check) e left left' v w
 ProgramEnds told faults moment how None e left left' v w = EndsWithoutRun how None e left left' v w
+
+-- what was asked for came as far as the opening of the board: a run once its source gave a scenario
+abbrev pub ReachesBoard : Option Asked → Option (List ℕ) → Option (List ℕ) → Type 0
+ReachesBoard (Some asked.Run) left left' = (script : Script) × ReadsAs (Ok script) left left'
+ReachesBoard (Some asked.Prepare) left left' = ⊥
+ReachesBoard (Some asked.Records) left left' = Unit {0}
+ReachesBoard (Some asked.Check) left left' = Unit {0}
+ReachesBoard None left left' = ⊥
 
 -- the source tells a scenario that isn't too long, and the disk a board with these rows
 pub record Meets (left : Option (List ℕ)) (told : Option Past) : Type 0 where

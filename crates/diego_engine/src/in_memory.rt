@@ -19,7 +19,7 @@ ghost use Rattle.program_run.specs.Reading.{ReadsAs, TellsAs, TellsTooMuch, limi
 ghost use Rattle.scenario_lines.specs.declared.script.Script.{Script as AScript};
 ghost use Rattle.scenario_reader.specs.declared.fault.ScriptFault.{ScriptFault as AFault};
 ghost use Rattle.diego_engine.specs.InMemory.{EndsInMemoryAt, RunsWholeInMemoryAt};
-ghost use Rattle.diego_engine.specs.Top.{Meets};
+ghost use Rattle.diego_engine.specs.Top.{Meets, ReachesBoard};
 
 use crate::{TopEnd, diego_top};
 use byte_ports::{Gate, Sink, Source};
@@ -52,6 +52,9 @@ pub fn diego_top_in_memory<S: Source, K: Sink, G: Gate>(
     ensures read { HasCause (result.status == 3) (S.faults source) (S.faults result.source) }
     ensures unwritten { result.status ≡ 4 → Rose (K.faults sink) (K.faults result.sink) }
     ensures unstored { result.status ≡ 5 → Rose (faults_of disk) (faults_of result.disk) }
+    ensures reached { result.status ≡ 6
+        → ReachesBoard (asked_of (map (λ w. string_bytes w) words.now))
+        (S.left source) (S.left result.source) }
     ensures refused { result.status ≡ 6 → (why : Why)
         × (faults_of result.disk ≡ faults_of disk)
         × ((image : Image) → Shows (Some (memory_past disk)) image → IsRefused why image) }

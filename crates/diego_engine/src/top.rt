@@ -18,7 +18,7 @@ ghost use Rattle.still_words.specs.Words.{asked_of};
 ghost use Rattle.still_words.specs.declared.words.Asked.TheVariants as wanted;
 ghost use Rattle.diego_engine.specs.Headline.{Headline};
 ghost use Rattle.diego_engine.specs.Serial.{RunsSeriallyAt};
-ghost use Rattle.diego_engine.specs.Top.{EndsAt, Meets, RunsWholeAt};
+ghost use Rattle.diego_engine.specs.Top.{EndsAt, Meets, ReachesBoard, RunsWholeAt};
 ghost use Rattle.program_run.specs.Reading.{ReadsAs, TellsAs, TellsTooMuch, limit};
 ghost use Rattle.scenario_lines.specs.declared.script.Script.{Script as AScript};
 ghost use Rattle.scenario_reader.specs.declared.fault.ScriptFault.{ScriptFault as AFault};
@@ -123,6 +123,9 @@ pub fn diego_top<S: Source, K: Sink, D: Disk, G: Gate>(
     ensures read { HasCause (result.status == 3) (S.faults source) (S.faults result.source) }
     ensures unwritten { result.status ≡ 4 → Rose (K.faults sink) (K.faults result.sink) }
     ensures unstored { result.status ≡ 5 → Rose (D.fault_count disk) (D.fault_count result.disk) }
+    ensures reached { result.status ≡ 6
+        → ReachesBoard (asked_of (map (λ w. string_bytes w) words.now))
+        (S.left source) (S.left result.source) }
     ensures refused { result.status ≡ 6 → (why : Why)
         × (D.fault_count result.disk ≡ D.fault_count disk)
         × ((image : Image) → Shows (D.told disk) image → IsTold (D.told result.disk)

@@ -1,7 +1,7 @@
 use Rattle.std.proofs.Common.{sym, ◌∙◌, ap, ℕ, inl, inr}
 use Rattle.std.specs.Prelude.{◌==◌}
 use Rattle.program_edge.specs.Opening.{is_before_board}
-use Rattle.diego_engine.proofs.Exactly.{stopped_from, no_board_from, too_much_from}
+use Rattle.diego_engine.proofs.Exactly.{reached_from, stopped_from, no_board_from, too_much_from}
 use Rattle.diego_engine.proofs.Faithful.{headline_from}
 use Rattle.diego_engine.proofs.Recoveries.{doubts_from}
 use Rattle.diego_engine.proofs.Serial.{serially}
@@ -93,3 +93,6 @@ returns-clause-too_much g c is tells source =
       | inl n ↦ inl (status ∙ n)
       | inr n ↦ inr (status ∙ n)
     ]
+
+pub returns-clause-reached : goal.returns-clause-reached
+returns-clause-reached g c n = let (how, status, ends) = c.whole_top.ensures.ends in reached_from g.D.Disk.told g.D.Disk.fault_count g.D.Disk.moment _ _ _ _ _ how _ (sym status ∙ n) ends
