@@ -34,7 +34,7 @@ pub fn round_over<P: Port>(
 ) -> Result<Report, CallFault>
     requires { P.number port.old ≡ 0 }
     ensures keeps { (P.keeps port.old port.new) × (P.number port.new ≡ 0) }
-    ensures items { HasItems 0 now (P.view port.old) (P.view port.new) }
+    ensures items { HasItems 0 now cells.old (P.view port.old) (P.view port.new) }
     ensures cause { IfErr result (IsCausedBy 0 (P.view port.old) (P.view port.new)) }
     ensures cells { KeepReps cells.old cells.new }
     ensures account { IfOk result (RoundOf now line.now cells.old cells.new
