@@ -1,4 +1,4 @@
-ghost use Rattle.std.specs.Prelude.{◌≡◌, false, IfOk};
+ghost use Rattle.std.specs.Prelude.{◌≡◌, ◌≤◌, false, IfOk};
 ghost use Rattle.bbs_journal.specs.View.{IsCalm};
 ghost use Rattle.bbs_journal.specs.declared.waiting.Waiting.TheVariants.{Nothing};
 
@@ -88,7 +88,9 @@ fn the_next_frame_goes_behind_the_new_head(rt: HostRuntime) -> Result<(), Fail> 
 
 // Switches beside these bytes, and stops within each device call and after the last: the frame is there
 // until the header gate of the other area is open. So many calls close that gate.
-fn stop_beside(rt: &impl Abort, alloc: Global, beside: &[u8], closing: u64) -> Result<(), Fail> {
+fn stop_beside(rt: &impl Abort, alloc: Global, beside: &[u8], closing: u64) -> Result<(), Fail>
+    requires { closing ≤ 2 }
+{
     let mut journal = journal_beside(rt, alloc, beside, &[])?;
     assert_eq!(rt; switch(rt, &mut journal), Ok(()));
     let end = journal.clock();
@@ -125,23 +127,31 @@ fn a_stop_within_a_switch_leaves_the_old_area_or_the_new(rt: HostRuntime) -> Res
     stop_beside(&rt, alloc, &EMPTY, 2)
 }
 
+// Switches where this device call fails, mends, and switches again.
+fn switch_twice(rt: &impl Abort, alloc: Global, call: u64) -> Result<(), Fail>
+    requires { call ≤ 8 }
+{
+    let mut journal = journal_beside(rt, alloc, &EMPTY, &[CALLS + call])?;
+    assert_eq!(rt; switch(rt, &mut journal), Err(DiskFault));
+    assert_eq!(rt; journal.area(), Area::A);
+    assert_eq!(rt; journal.waits(), call < 3 || call > 6);
+    assert_eq!(rt; journal.mend(), Ok(()));
+    // From here on the gate is a synced 0, so it isn't closed again.
+    let before = journal.clock();
+    assert!(rt; !journal.waits());
+    assert_eq!(rt; switch(rt, &mut journal), Ok(()));
+    assert_eq!(rt; Some(journal.clock()), before.checked_add(6));
+    let disk = journal.into_disk();
+    let text = held(rt, alloc, disk.bytes(Area::A), disk.bytes(Area::B))?;
+    assert!(rt; text.is_empty());
+    Ok(())
+}
+
 #[test]
 fn a_switch_that_failed_is_made_again_after_a_mend(rt: HostRuntime) -> Result<(), Fail> {
     let alloc = rt.alloc();
     for call in 1..9u64 {
-        let mut journal = journal_beside(&rt, alloc, &EMPTY, &[CALLS + call])?;
-        assert_eq!(rt; switch(&rt, &mut journal), Err(DiskFault));
-        assert_eq!(rt; journal.area(), Area::A);
-        assert_eq!(rt; journal.waits(), call < 3 || call > 6);
-        assert_eq!(rt; journal.mend(), Ok(()));
-        // From here on the gate is a synced 0, so it isn't closed again.
-        let before = journal.clock();
-        assert!(rt; !journal.waits());
-        assert_eq!(rt; switch(&rt, &mut journal), Ok(()));
-        assert_eq!(rt; journal.clock(), before + 6);
-        let disk = journal.into_disk();
-        let text = held(&rt, alloc, disk.bytes(Area::A), disk.bytes(Area::B))?;
-        assert!(rt; text.is_empty());
+        switch_twice(&rt, alloc, call)?;
     }
     Ok(())
 }
