@@ -1,17 +1,28 @@
-//! Scenarios over a disk in memory, by the top call. Texts and bytes were worked out from the rules.
+//! Scenarios over a disk in memory, by the top call. Texts and bytes were worked out from the rules. Long ones stand
+//! above their test: the scenario (`_LINES`), what it prints (`_TEXT`), and the rows behind it (`_ROWS`).
 mod boards;
+mod cell_answers;
+mod cell_states;
 mod cells;
 mod clients;
+mod drains;
 mod failing;
+mod failing_rounds;
+mod failing_sinks;
 mod faults;
+mod full_tables;
 mod limits;
 mod lines;
 mod lives;
 mod many;
 mod marks;
+mod mending;
 mod playing;
 mod rounds;
+mod shapes;
+mod shown;
 mod together;
+mod waiting;
 
 use playing::*;
 use std::panic::Expect;

@@ -1,12 +1,7 @@
 //! What clients ask, and why they are refused.
 use super::*;
 
-#[test]
-fn a_clients_call_is_refused_for_its_cause(rt: HostRuntime) {
-    plays(
-        &rt,
-        rt.alloc(),
-        r#"{"at":0}
+const CAUSES_LINES: &str = r#"{"at":0}
 {"client":"cli","op":"update","process":"web","instances":1}
 {"client":"cli","op":"undesire","process":"web"}
 {"client":"cli","op":"restart","process":"web","index":0}
@@ -29,8 +24,10 @@ fn a_clients_call_is_refused_for_its_cause(rt: HostRuntime) {
 {"client":"cli","op":"resolve","name":"job"}
 {"client":"cli","op":"cancel","name":"job"}
 {"client":"cli","op":"delete","name":"job"}
-"#,
-        r#"{"actor":"cli","answer":"refused","call":"update","line":2,"subject":"web","why":"unknown"}
+"#;
+
+const CAUSES_TEXT: &str =
+    r#"{"actor":"cli","answer":"refused","call":"update","line":2,"subject":"web","why":"unknown"}
 {"actor":"cli","answer":"refused","call":"undesire","line":3,"subject":"web","why":"unknown"}
 {"actor":"cli","answer":"refused","call":"restart","line":4,"subject":"web/0","why":"unknown"}
 {"actor":"cli","answer":"refused","call":"cancel","line":5,"subject":"job","why":"unknown"}
@@ -58,16 +55,14 @@ fn a_clients_call_is_refused_for_its_cause(rt: HostRuntime) {
 {"event":"changed","row":{"birth":1,"cell":null,"disk":64,"failed":true,"instance":null,"memory":64,"name":"job","since":0,"state":"resolving","tag":null},"table":"task"}
 {"event":"removed","row":{"birth":1,"cell":null,"disk":64,"failed":true,"instance":null,"memory":64,"name":"job","since":0,"state":"resolving","tag":null},"table":"task"}
 {"done":5,"doubts":0,"next":5,"phases":1}
-"#,
-    );
-}
+"#;
 
 #[test]
-fn an_instance_is_tried_again_by_a_client_only_when_it_has_crashed_and_is_due(rt: HostRuntime) {
-    plays(
-        &rt,
-        rt.alloc(),
-        r#"{"at":0}
+fn a_clients_call_is_refused_for_its_cause(rt: HostRuntime) {
+    plays(&rt, rt.alloc(), CAUSES_LINES, CAUSES_TEXT);
+}
+
+const RESTART_LINES: &str = r#"{"at":0}
 {"cell":"c1","op":"join","zone":"z1","memory":1024,"disk":4096,"containers":10,"ttl":5000000}
 {"at":0}
 {"client":"cli","op":"desire","process":"web","domain":"apps","instances":1,"memory":64,"disk":128}
@@ -104,8 +99,9 @@ fn an_instance_is_tried_again_by_a_client_only_when_it_has_crashed_and_is_due(rt
 {"cell":"c1","op":"run","process":"web","index":0,"memory":64,"disk":128}
 {"at":340}
 {"cell":"c1","op":"crash","process":"web","index":0}
-"#,
-        r#"{"actor":"c1","answer":"ok","call":"join","line":2,"subject":"c1"}
+"#;
+
+const RESTART_TEXT: &str = r#"{"actor":"c1","answer":"ok","call":"join","line":2,"subject":"c1"}
 {"event":"created","row":{"cell":"c1","containers":10,"disk":4096,"epoch":0,"evacuating":false,"memory":1024,"tag":null,"until":5000000,"zone":"z1"},"table":"cell"}
 {"actor":"cli","answer":"ok","call":"desire","line":4,"subject":"web"}
 {"event":"created","row":{"disk":128,"domain":"apps","instances":1,"memory":64,"port":8080,"process":"web","route":null,"tag":null},"table":"desired"}
@@ -142,16 +138,14 @@ fn an_instance_is_tried_again_by_a_client_only_when_it_has_crashed_and_is_due(rt
 {"actor":"c1","answer":"ok","call":"crash","line":37,"subject":"web/0"}
 {"event":"changed","row":{"cell":null,"count":1,"error":false,"index":0,"instance":null,"presence":"ordinary","process":"web","since":340,"state":"unclaimed"},"table":"actual"}
 {"done":16,"doubts":0,"next":16,"phases":17}
-"#,
-    );
-}
+"#;
 
 #[test]
-fn an_update_that_changes_nothing_is_the_same(rt: HostRuntime) {
-    plays(
-        &rt,
-        rt.alloc(),
-        r#"{"at":0}
+fn an_instance_is_tried_again_by_a_client_only_when_it_has_crashed_and_is_due(rt: HostRuntime) {
+    plays(&rt, rt.alloc(), RESTART_LINES, RESTART_TEXT);
+}
+
+const UPDATE_LINES: &str = r#"{"at":0}
 {"client":"cli","op":"desire","process":"web","domain":"apps","instances":2,"memory":64,"disk":128,"tag":"gpu","route":"web.example","port":443}
 {"client":"cli","op":"update","process":"web","instances":2,"route":"web.example","port":443}
 {"client":"cli","op":"update","process":"web","instances":2,"route":"web.example","port":444}
@@ -160,8 +154,9 @@ fn an_update_that_changes_nothing_is_the_same(rt: HostRuntime) {
 {"client":"cli","op":"update","process":"web","instances":2}
 {"client":"cli","op":"update","process":"web","instances":0}
 {"client":"cli","op":"update","process":"web","instances":0,"times":2}
-"#,
-        r#"{"actor":"cli","answer":"ok","call":"desire","line":2,"subject":"web"}
+"#;
+
+const UPDATE_TEXT: &str = r#"{"actor":"cli","answer":"ok","call":"desire","line":2,"subject":"web"}
 {"actor":"cli","answer":"same","call":"update","line":3,"subject":"web"}
 {"actor":"cli","answer":"ok","call":"update","line":4,"subject":"web"}
 {"actor":"cli","answer":"ok","call":"update","line":5,"subject":"web"}
@@ -177,6 +172,42 @@ fn an_update_that_changes_nothing_is_the_same(rt: HostRuntime) {
 {"event":"changed","row":{"disk":128,"domain":"apps","instances":2,"memory":64,"port":8080,"process":"web","route":null,"tag":"gpu"},"table":"desired"}
 {"event":"changed","row":{"disk":128,"domain":"apps","instances":0,"memory":64,"port":8080,"process":"web","route":null,"tag":"gpu"},"table":"desired"}
 {"done":6,"doubts":0,"next":6,"phases":1}
-"#,
-    );
+"#;
+
+#[test]
+fn an_update_that_changes_nothing_is_the_same(rt: HostRuntime) {
+    plays(&rt, rt.alloc(), UPDATE_LINES, UPDATE_TEXT);
+}
+
+const LIVES_LINES: &str = r#"{"at":3}
+{"client":"cli","op":"desire","process":"web","domain":"apps","instances":1,"memory":64,"disk":128,"tag":"gpu","route":"web.example","port":443}
+{"client":"cli","op":"update","process":"web","instances":2}
+{"client":"cli","op":"undesire","process":"web"}
+{"client":"cli","op":"task","name":"job","memory":1,"disk":2,"tag":"ssd"}
+{"client":"cli","op":"cancel","name":"job"}
+{"client":"cli","op":"resolve","name":"job"}
+{"at":5}
+{"client":"cli","op":"delete","name":"job"}
+"#;
+
+const LIVES_TEXT: &str = r#"{"actor":"cli","answer":"ok","call":"desire","line":2,"subject":"web"}
+{"actor":"cli","answer":"ok","call":"update","line":3,"subject":"web"}
+{"actor":"cli","answer":"ok","call":"undesire","line":4,"subject":"web"}
+{"actor":"cli","answer":"ok","call":"task","line":5,"subject":"job"}
+{"actor":"cli","answer":"ok","call":"cancel","line":6,"subject":"job"}
+{"actor":"cli","answer":"ok","call":"resolve","line":7,"subject":"job"}
+{"event":"created","row":{"disk":128,"domain":"apps","instances":1,"memory":64,"port":443,"process":"web","route":"web.example","tag":"gpu"},"table":"desired"}
+{"event":"changed","row":{"disk":128,"domain":"apps","instances":2,"memory":64,"port":8080,"process":"web","route":null,"tag":"gpu"},"table":"desired"}
+{"event":"removed","row":{"disk":128,"domain":"apps","instances":2,"memory":64,"port":8080,"process":"web","route":null,"tag":"gpu"},"table":"desired"}
+{"event":"created","row":{"birth":3,"cell":null,"disk":2,"failed":null,"instance":null,"memory":1,"name":"job","since":3,"state":"pending","tag":"ssd"},"table":"task"}
+{"event":"changed","row":{"birth":3,"cell":null,"disk":2,"failed":true,"instance":null,"memory":1,"name":"job","since":3,"state":"completed","tag":"ssd"},"table":"task"}
+{"event":"changed","row":{"birth":3,"cell":null,"disk":2,"failed":true,"instance":null,"memory":1,"name":"job","since":3,"state":"resolving","tag":"ssd"},"table":"task"}
+{"actor":"cli","answer":"ok","call":"delete","line":9,"subject":"job"}
+{"event":"removed","row":{"birth":3,"cell":null,"disk":2,"failed":true,"instance":null,"memory":1,"name":"job","since":3,"state":"resolving","tag":"ssd"},"table":"task"}
+{"done":7,"doubts":0,"next":7,"phases":2}
+"#;
+
+#[test]
+fn clients_calls_are_the_lives_of_their_rows(rt: HostRuntime) {
+    plays(&rt, rt.alloc(), LIVES_LINES, LIVES_TEXT);
 }

@@ -1,4 +1,4 @@
-//! Disks and sinks that fail in a run: what is told, that no phase follows, and that the board opens afterwards.
+//! Disks that fail in a run: what is told, that no phase follows, and that the board opens afterwards.
 ghost use Rattle.std.specs.Prelude.{◌<◌};
 
 use super::*;
@@ -46,8 +46,8 @@ const REPEATS: &str = r#"{"at":0}
 {"client":"cli","op":"undesire","process":"web"}
 "#;
 
-// The board of a disk opens, and has made so many transitions.
-fn opens(rt: &impl Abort, alloc: Global, disk: MemoryDisk, next: u64) {
+/// The board of a disk opens, and has made so many transitions.
+pub fn opens(rt: &impl Abort, alloc: Global, disk: MemoryDisk, next: u64) {
     let left = left_by(rt, alloc, "run", b"", &[], disk);
     let text = format!(in alloc;
         "{{\"done\":0,\"doubts\":0,\"next\":{next},\"phases\":0}}\n"
@@ -63,8 +63,8 @@ fn fails_at(rt: &impl Abort, alloc: Global, scenario: &str, call: u64, text: &st
     opens(rt, alloc, left.disk, next);
 }
 
-// The same for each device call of the append of the item at this place.
-fn fails_in(rt: &impl Abort, alloc: Global, scenario: &str, place: u64, text: &str, next: u64)
+/// The same for each device call of the append of the item at this place.
+pub fn fails_in(rt: &impl Abort, alloc: Global, scenario: &str, place: u64, text: &str, next: u64)
     requires { place < 1000 }
 {
     for call in 1..APPEND + 1 {
@@ -77,15 +77,6 @@ fn fails_in(rt: &impl Abort, alloc: Global, scenario: &str, place: u64, text: &s
             next,
         );
     }
-}
-
-// The sink fails at the call of this number, and has this text.
-fn is_unwritten(rt: &impl Abort, alloc: Global, put: u64, text: &str, done: usize) {
-    let disk = disk_of(rt, alloc, EMPTY, &[]);
-    let left = left_by(rt, alloc, "run", PLACES.as_bytes(), &[put], disk);
-    ends(rt, &left, 4, text);
-    assert_eq!(rt; left.log.len(), done);
-    opens(rt, alloc, left.disk, done as u64);
 }
 
 #[test]
@@ -116,163 +107,29 @@ fn behind_a_disk_fault_its_phase_goes_on_and_no_other_begins(rt: HostRuntime) {
     );
 }
 
-#[test]
-fn a_disk_that_fails_makes_its_phase_the_last(rt: HostRuntime) {
-    fails_in(
-        &rt,
-        rt.alloc(),
-        PLACES,
-        0,
-        r#"{"actor":"c1","answer":"disk","call":"join","line":2,"subject":"c1"}
+const NO_FIRST_CELL: &str = r#"{"actor":"c1","answer":"disk","call":"join","line":2,"subject":"c1"}
 {"done":0,"doubts":1,"next":0,"phases":1}
-"#,
-        0,
-    );
-    fails_in(
-        &rt,
-        rt.alloc(),
-        PLACES,
-        1,
-        r#"{"actor":"c1","answer":"ok","call":"join","line":2,"subject":"c1"}
+"#;
+
+const NO_SECOND_CELL: &str = r#"{"actor":"c1","answer":"ok","call":"join","line":2,"subject":"c1"}
 {"event":"created","row":{"cell":"c1","containers":10,"disk":4096,"epoch":0,"evacuating":false,"memory":1024,"tag":null,"until":600,"zone":"z1"},"table":"cell"}
 {"actor":"c2","answer":"disk","call":"join","line":4,"subject":"c2"}
 {"done":1,"doubts":1,"next":1,"phases":2}
-"#,
-        1,
-    );
-    fails_in(
-        &rt,
-        rt.alloc(),
-        PLACES,
-        2,
-        r#"{"actor":"c1","answer":"ok","call":"join","line":2,"subject":"c1"}
+"#;
+
+const NO_PROCESS: &str = r#"{"actor":"c1","answer":"ok","call":"join","line":2,"subject":"c1"}
 {"event":"created","row":{"cell":"c1","containers":10,"disk":4096,"epoch":0,"evacuating":false,"memory":1024,"tag":null,"until":600,"zone":"z1"},"table":"cell"}
 {"actor":"c2","answer":"ok","call":"join","line":4,"subject":"c2"}
 {"event":"created","row":{"cell":"c2","containers":10,"disk":4096,"epoch":1,"evacuating":false,"memory":1024,"tag":null,"until":600,"zone":"z2"},"table":"cell"}
 {"actor":"cli","answer":"disk","call":"desire","line":6,"subject":"web"}
 {"done":2,"doubts":1,"next":2,"phases":3}
-"#,
-        2,
-    );
-}
+"#;
 
 #[test]
-fn a_disk_that_fails_in_a_round_ends_it_and_keeps_what_it_made(rt: HostRuntime) {
-    fails_in(
-        &rt,
-        rt.alloc(),
-        PLACES,
-        3,
-        r#"{"actor":"c1","answer":"ok","call":"join","line":2,"subject":"c1"}
-{"event":"created","row":{"cell":"c1","containers":10,"disk":4096,"epoch":0,"evacuating":false,"memory":1024,"tag":null,"until":600,"zone":"z1"},"table":"cell"}
-{"actor":"c2","answer":"ok","call":"join","line":4,"subject":"c2"}
-{"event":"created","row":{"cell":"c2","containers":10,"disk":4096,"epoch":1,"evacuating":false,"memory":1024,"tag":null,"until":600,"zone":"z2"},"table":"cell"}
-{"actor":"cli","answer":"ok","call":"desire","line":6,"subject":"web"}
-{"event":"created","row":{"disk":128,"domain":"apps","instances":3,"memory":64,"port":8080,"process":"web","route":null,"tag":null},"table":"desired"}
-{"answer":"disk","line":8,"op":"round"}
-{"done":3,"doubts":1,"next":3,"phases":4}
-"#,
-        3,
-    );
-    fails_in(
-        &rt,
-        rt.alloc(),
-        PLACES,
-        4,
-        r#"{"actor":"c1","answer":"ok","call":"join","line":2,"subject":"c1"}
-{"event":"created","row":{"cell":"c1","containers":10,"disk":4096,"epoch":0,"evacuating":false,"memory":1024,"tag":null,"until":600,"zone":"z1"},"table":"cell"}
-{"actor":"c2","answer":"ok","call":"join","line":4,"subject":"c2"}
-{"event":"created","row":{"cell":"c2","containers":10,"disk":4096,"epoch":1,"evacuating":false,"memory":1024,"tag":null,"until":600,"zone":"z2"},"table":"cell"}
-{"actor":"cli","answer":"ok","call":"desire","line":6,"subject":"web"}
-{"event":"created","row":{"disk":128,"domain":"apps","instances":3,"memory":64,"port":8080,"process":"web","route":null,"tag":null},"table":"desired"}
-{"answer":"disk","line":8,"op":"round"}
-{"event":"created","row":{"cell":null,"count":0,"error":false,"index":0,"instance":null,"presence":"ordinary","process":"web","since":1,"state":"unclaimed"},"table":"actual"}
-{"done":4,"doubts":1,"next":4,"phases":4}
-"#,
-        4,
-    );
-    fails_in(
-        &rt,
-        rt.alloc(),
-        PLACES,
-        5,
-        r#"{"actor":"c1","answer":"ok","call":"join","line":2,"subject":"c1"}
-{"event":"created","row":{"cell":"c1","containers":10,"disk":4096,"epoch":0,"evacuating":false,"memory":1024,"tag":null,"until":600,"zone":"z1"},"table":"cell"}
-{"actor":"c2","answer":"ok","call":"join","line":4,"subject":"c2"}
-{"event":"created","row":{"cell":"c2","containers":10,"disk":4096,"epoch":1,"evacuating":false,"memory":1024,"tag":null,"until":600,"zone":"z2"},"table":"cell"}
-{"actor":"cli","answer":"ok","call":"desire","line":6,"subject":"web"}
-{"event":"created","row":{"disk":128,"domain":"apps","instances":3,"memory":64,"port":8080,"process":"web","route":null,"tag":null},"table":"desired"}
-{"answer":"disk","line":8,"op":"round"}
-{"event":"created","row":{"cell":null,"count":0,"error":false,"index":0,"instance":null,"presence":"ordinary","process":"web","since":1,"state":"unclaimed"},"table":"actual"}
-{"event":"created","row":{"cell":null,"count":0,"error":false,"index":1,"instance":null,"presence":"ordinary","process":"web","since":1,"state":"unclaimed"},"table":"actual"}
-{"done":5,"doubts":1,"next":5,"phases":4}
-"#,
-        5,
-    );
-}
-
-#[test]
-fn a_disk_that_fails_in_a_round_ends_it_and_keeps_what_it_placed(rt: HostRuntime) {
-    fails_in(
-        &rt,
-        rt.alloc(),
-        PLACES,
-        6,
-        r#"{"actor":"c1","answer":"ok","call":"join","line":2,"subject":"c1"}
-{"event":"created","row":{"cell":"c1","containers":10,"disk":4096,"epoch":0,"evacuating":false,"memory":1024,"tag":null,"until":600,"zone":"z1"},"table":"cell"}
-{"actor":"c2","answer":"ok","call":"join","line":4,"subject":"c2"}
-{"event":"created","row":{"cell":"c2","containers":10,"disk":4096,"epoch":1,"evacuating":false,"memory":1024,"tag":null,"until":600,"zone":"z2"},"table":"cell"}
-{"actor":"cli","answer":"ok","call":"desire","line":6,"subject":"web"}
-{"event":"created","row":{"disk":128,"domain":"apps","instances":3,"memory":64,"port":8080,"process":"web","route":null,"tag":null},"table":"desired"}
-{"answer":"disk","line":8,"op":"round"}
-{"event":"created","row":{"cell":null,"count":0,"error":false,"index":0,"instance":null,"presence":"ordinary","process":"web","since":1,"state":"unclaimed"},"table":"actual"}
-{"event":"created","row":{"cell":null,"count":0,"error":false,"index":1,"instance":null,"presence":"ordinary","process":"web","since":1,"state":"unclaimed"},"table":"actual"}
-{"event":"created","row":{"cell":null,"count":0,"error":false,"index":2,"instance":null,"presence":"ordinary","process":"web","since":1,"state":"unclaimed"},"table":"actual"}
-{"done":6,"doubts":1,"next":6,"phases":4}
-"#,
-        6,
-    );
-    fails_in(
-        &rt,
-        rt.alloc(),
-        PLACES,
-        7,
-        r#"{"actor":"c1","answer":"ok","call":"join","line":2,"subject":"c1"}
-{"event":"created","row":{"cell":"c1","containers":10,"disk":4096,"epoch":0,"evacuating":false,"memory":1024,"tag":null,"until":600,"zone":"z1"},"table":"cell"}
-{"actor":"c2","answer":"ok","call":"join","line":4,"subject":"c2"}
-{"event":"created","row":{"cell":"c2","containers":10,"disk":4096,"epoch":1,"evacuating":false,"memory":1024,"tag":null,"until":600,"zone":"z2"},"table":"cell"}
-{"actor":"cli","answer":"ok","call":"desire","line":6,"subject":"web"}
-{"event":"created","row":{"disk":128,"domain":"apps","instances":3,"memory":64,"port":8080,"process":"web","route":null,"tag":null},"table":"desired"}
-{"answer":"disk","line":8,"op":"round"}
-{"event":"created","row":{"cell":null,"count":0,"error":false,"index":0,"instance":null,"presence":"ordinary","process":"web","since":1,"state":"unclaimed"},"table":"actual"}
-{"event":"changed","row":{"cell":"c1","count":0,"error":false,"index":0,"instance":"0.1","presence":"ordinary","process":"web","since":1,"state":"claimed"},"table":"actual"}
-{"event":"created","row":{"cell":null,"count":0,"error":false,"index":1,"instance":null,"presence":"ordinary","process":"web","since":1,"state":"unclaimed"},"table":"actual"}
-{"event":"created","row":{"cell":null,"count":0,"error":false,"index":2,"instance":null,"presence":"ordinary","process":"web","since":1,"state":"unclaimed"},"table":"actual"}
-{"done":7,"doubts":1,"next":7,"phases":4}
-"#,
-        7,
-    );
-    fails_in(
-        &rt,
-        rt.alloc(),
-        PLACES,
-        8,
-        r#"{"actor":"c1","answer":"ok","call":"join","line":2,"subject":"c1"}
-{"event":"created","row":{"cell":"c1","containers":10,"disk":4096,"epoch":0,"evacuating":false,"memory":1024,"tag":null,"until":600,"zone":"z1"},"table":"cell"}
-{"actor":"c2","answer":"ok","call":"join","line":4,"subject":"c2"}
-{"event":"created","row":{"cell":"c2","containers":10,"disk":4096,"epoch":1,"evacuating":false,"memory":1024,"tag":null,"until":600,"zone":"z2"},"table":"cell"}
-{"actor":"cli","answer":"ok","call":"desire","line":6,"subject":"web"}
-{"event":"created","row":{"disk":128,"domain":"apps","instances":3,"memory":64,"port":8080,"process":"web","route":null,"tag":null},"table":"desired"}
-{"answer":"disk","line":8,"op":"round"}
-{"event":"created","row":{"cell":null,"count":0,"error":false,"index":0,"instance":null,"presence":"ordinary","process":"web","since":1,"state":"unclaimed"},"table":"actual"}
-{"event":"changed","row":{"cell":"c1","count":0,"error":false,"index":0,"instance":"0.1","presence":"ordinary","process":"web","since":1,"state":"claimed"},"table":"actual"}
-{"event":"created","row":{"cell":null,"count":0,"error":false,"index":1,"instance":null,"presence":"ordinary","process":"web","since":1,"state":"unclaimed"},"table":"actual"}
-{"event":"created","row":{"cell":null,"count":0,"error":false,"index":2,"instance":null,"presence":"ordinary","process":"web","since":1,"state":"unclaimed"},"table":"actual"}
-{"event":"changed","row":{"cell":"c1","count":0,"error":false,"index":2,"instance":"0.2","presence":"ordinary","process":"web","since":1,"state":"claimed"},"table":"actual"}
-{"done":8,"doubts":1,"next":8,"phases":4}
-"#,
-        8,
-    );
+fn a_disk_that_fails_makes_its_phase_the_last(rt: HostRuntime) {
+    fails_in(&rt, rt.alloc(), PLACES, 0, NO_FIRST_CELL, 0);
+    fails_in(&rt, rt.alloc(), PLACES, 1, NO_SECOND_CELL, 1);
+    fails_in(&rt, rt.alloc(), PLACES, 2, NO_PROCESS, 2);
 }
 
 #[test]
@@ -310,67 +167,5 @@ fn a_lost_reply_does_not_tell_of_a_disk_fault(rt: HostRuntime) {
 {"done":1,"doubts":1,"next":1,"phases":1}
 "#,
         1,
-    );
-}
-
-#[test]
-fn behind_a_sink_that_fails_no_phase_runs(rt: HostRuntime) {
-    is_unwritten(&rt, rt.alloc(), 1, "", 1);
-    is_unwritten(
-        &rt,
-        rt.alloc(),
-        2,
-        r#"{"actor":"c1","answer":"ok","call":"join","line":2,"subject":"c1"}
-{"event":"created","row":{"cell":"c1","containers":10,"disk":4096,"epoch":0,"evacuating":false,"memory":1024,"tag":null,"until":600,"zone":"z1"},"table":"cell"}
-"#,
-        2,
-    );
-    is_unwritten(
-        &rt,
-        rt.alloc(),
-        3,
-        r#"{"actor":"c1","answer":"ok","call":"join","line":2,"subject":"c1"}
-{"event":"created","row":{"cell":"c1","containers":10,"disk":4096,"epoch":0,"evacuating":false,"memory":1024,"tag":null,"until":600,"zone":"z1"},"table":"cell"}
-{"actor":"c2","answer":"ok","call":"join","line":4,"subject":"c2"}
-{"event":"created","row":{"cell":"c2","containers":10,"disk":4096,"epoch":1,"evacuating":false,"memory":1024,"tag":null,"until":600,"zone":"z2"},"table":"cell"}
-"#,
-        3,
-    );
-}
-
-#[test]
-fn a_sink_that_fails_in_the_last_phase_or_the_summary_has_what_came_before(rt: HostRuntime) {
-    is_unwritten(
-        &rt,
-        rt.alloc(),
-        4,
-        r#"{"actor":"c1","answer":"ok","call":"join","line":2,"subject":"c1"}
-{"event":"created","row":{"cell":"c1","containers":10,"disk":4096,"epoch":0,"evacuating":false,"memory":1024,"tag":null,"until":600,"zone":"z1"},"table":"cell"}
-{"actor":"c2","answer":"ok","call":"join","line":4,"subject":"c2"}
-{"event":"created","row":{"cell":"c2","containers":10,"disk":4096,"epoch":1,"evacuating":false,"memory":1024,"tag":null,"until":600,"zone":"z2"},"table":"cell"}
-{"actor":"cli","answer":"ok","call":"desire","line":6,"subject":"web"}
-{"event":"created","row":{"disk":128,"domain":"apps","instances":3,"memory":64,"port":8080,"process":"web","route":null,"tag":null},"table":"desired"}
-"#,
-        9,
-    );
-    is_unwritten(
-        &rt,
-        rt.alloc(),
-        5,
-        r#"{"actor":"c1","answer":"ok","call":"join","line":2,"subject":"c1"}
-{"event":"created","row":{"cell":"c1","containers":10,"disk":4096,"epoch":0,"evacuating":false,"memory":1024,"tag":null,"until":600,"zone":"z1"},"table":"cell"}
-{"actor":"c2","answer":"ok","call":"join","line":4,"subject":"c2"}
-{"event":"created","row":{"cell":"c2","containers":10,"disk":4096,"epoch":1,"evacuating":false,"memory":1024,"tag":null,"until":600,"zone":"z2"},"table":"cell"}
-{"actor":"cli","answer":"ok","call":"desire","line":6,"subject":"web"}
-{"event":"created","row":{"disk":128,"domain":"apps","instances":3,"memory":64,"port":8080,"process":"web","route":null,"tag":null},"table":"desired"}
-{"asked":2,"complete":true,"foreign":0,"line":8,"lost":0,"op":"round","own":6,"refused":0,"stopped":0,"unplaced":[]}
-{"event":"created","row":{"cell":null,"count":0,"error":false,"index":0,"instance":null,"presence":"ordinary","process":"web","since":1,"state":"unclaimed"},"table":"actual"}
-{"event":"changed","row":{"cell":"c1","count":0,"error":false,"index":0,"instance":"0.1","presence":"ordinary","process":"web","since":1,"state":"claimed"},"table":"actual"}
-{"event":"created","row":{"cell":null,"count":0,"error":false,"index":1,"instance":null,"presence":"ordinary","process":"web","since":1,"state":"unclaimed"},"table":"actual"}
-{"event":"changed","row":{"cell":"c2","count":0,"error":false,"index":1,"instance":"1.1","presence":"ordinary","process":"web","since":1,"state":"claimed"},"table":"actual"}
-{"event":"created","row":{"cell":null,"count":0,"error":false,"index":2,"instance":null,"presence":"ordinary","process":"web","since":1,"state":"unclaimed"},"table":"actual"}
-{"event":"changed","row":{"cell":"c1","count":0,"error":false,"index":2,"instance":"0.2","presence":"ordinary","process":"web","since":1,"state":"claimed"},"table":"actual"}
-"#,
-        9,
     );
 }

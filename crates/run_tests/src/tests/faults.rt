@@ -11,7 +11,7 @@ const BEGIN: &[u8] = br#"{"at":5}
 
 const BAD_JSON: &str = "{\"fault\":\"bad json\",\"line\":3}\n";
 
-const BAD_SHAPE: &str = "{\"fault\":\"bad shape\",\"line\":3}\n";
+pub const BAD_SHAPE: &str = "{\"fault\":\"bad shape\",\"line\":3}\n";
 
 const BAD_NAME: &str = "{\"fault\":\"bad name\",\"line\":3}\n";
 
@@ -41,8 +41,8 @@ fn with_line(rt: &impl Abort, alloc: Global, line: &[u8]) -> Vec<u8> {
     scenario
 }
 
-// Each of these lines ends a scenario with this fault.
-fn are_refused(rt: &impl Abort, alloc: Global, text: &str, lines: &[&[u8]]) {
+/// Each of these lines ends a scenario with this fault.
+pub fn are_refused(rt: &impl Abort, alloc: Global, text: &str, lines: &[&[u8]]) {
     for line in lines {
         is_refused(rt, alloc, &with_line(rt, alloc, *line), text);
     }
@@ -75,114 +75,6 @@ fn a_line_that_is_no_json_is_bad_json(rt: HostRuntime) {
 fn what_nests_128_deep_is_bad_json(rt: HostRuntime) {
     let deep = [b'['; 128];
     are_refused(&rt, rt.alloc(), BAD_JSON, &[&deep]);
-}
-
-#[test]
-fn a_moment_or_a_round_of_another_shape_is_a_bad_shape(rt: HostRuntime) {
-    are_refused(
-        &rt,
-        rt.alloc(),
-        BAD_SHAPE,
-        &[
-            br#"[]"#,
-            br#"5"#,
-            br#""at""#,
-            br#"null"#,
-            br#"{}"#,
-            br#"{"at":null}"#,
-            br#"{"at":"5"}"#,
-            br#"{"at":[5]}"#,
-            br#"{"at":-1}"#,
-            br#"{"at":-0}"#,
-            br#"{"at":5.0}"#,
-            br#"{"at":5e0}"#,
-            br#"{"at":4294967296}"#,
-            br#"{"at":18446744073709551616}"#,
-            br#"{"at":5,"op":"round"}"#,
-            br#"{"at":5,"to":6}"#,
-            br#"{"At":5}"#,
-            br#"{"op":null}"#,
-            br#"{"op":"rounds"}"#,
-            br#"{"op":"die"}"#,
-            br#"{"op":"round","times":1}"#,
-            br#"{"op":"round","lost":"call"}"#,
-            br#"{"op":"round","lose":[]}"#,
-            br#"{"op":"round","lose_ask":"c1"}"#,
-            br#"{"op":"round","lose_stop":null}"#,
-            br#"{"op":"round","lose_start":[1]}"#,
-            br#"{"op":"round","lose_reply":{}}"#,
-        ],
-    );
-}
-
-#[test]
-fn a_clients_line_of_another_shape_is_a_bad_shape(rt: HostRuntime) {
-    are_refused(
-        &rt,
-        rt.alloc(),
-        BAD_SHAPE,
-        &[
-            br#"{"client":"c","cell":"c","op":"die"}"#,
-            br#"{"client":"c"}"#,
-            br#"{"client":1,"op":"undesire","process":"p"}"#,
-            br#"{"client":"c","op":"Undesire","process":"p"}"#,
-            br#"{"client":"c","op":"make","process":"p","index":0}"#,
-            br#"{"client":"c","op":"die"}"#,
-            br#"{"client":"c","op":"round"}"#,
-            br#"{"client":"c","op":"undesire"}"#,
-            br#"{"client":"c","op":"undesire","name":"p"}"#,
-            br#"{"client":"c","op":"undesire","process":"p","index":0}"#,
-            br#"{"client":"c","op":"undesire","process":"p","times":0}"#,
-            br#"{"client":"c","op":"undesire","process":"p","times":1001}"#,
-            br#"{"client":"c","op":"undesire","process":"p","times":null}"#,
-            br#"{"client":"c","op":"undesire","process":"p","lost":"Call"}"#,
-            br#"{"client":"c","op":"undesire","process":"p","lost":null}"#,
-            br#"{"client":"c","op":"restart","process":"p"}"#,
-            br#"{"client":"c","op":"restart","process":"p","index":"0"}"#,
-            br#"{"client":"c","op":"update","process":"p"}"#,
-            br#"{"client":"c","op":"update","process":"p","instances":1,"port":65536}"#,
-            br#"{"client":"c","op":"update","process":"p","instances":1,"route":null}"#,
-            br#"{"client":"c","op":"update","process":"p","instances":1,"tag":"t"}"#,
-            br#"{"client":"c","op":"desire","process":"p","domain":"d","instances":1,"memory":1}"#,
-            br#"{"client":"c","op":"task","name":"t","memory":1}"#,
-            br#"{"client":"c","op":"task","name":"t","memory":1,"disk":4294967296}"#,
-            br#"{"client":"c","op":"task","name":"t","memory":1,"disk":1,"tag":1}"#,
-            br#"{"client":"c","op":"cancel","name":"t","failed":true}"#,
-        ],
-    );
-}
-
-#[test]
-fn a_cells_line_of_another_shape_is_a_bad_shape(rt: HostRuntime) {
-    are_refused(
-        &rt,
-        rt.alloc(),
-        BAD_SHAPE,
-        &[
-            br#"{"cell":"c","op":"undesire","process":"p"}"#,
-            br#"{"cell":1,"op":"die"}"#,
-            br#"{"cell":"c","op":"die","memory":1}"#,
-            br#"{"cell":"c","op":"renew"}"#,
-            br#"{"cell":"c","op":"join","zone":"z","memory":1,"disk":1,"ttl":1}"#,
-            br#"{"cell":"c","op":"claim","process":"p","memory":1,"disk":1}"#,
-            br#"{"cell":"c","op":"claim","index":0,"memory":1,"disk":1}"#,
-            br#"{"cell":"c","op":"claim","memory":1,"disk":1}"#,
-            br#"{"cell":"c","op":"claim","process":"p","index":0,"name":"t","memory":1,"disk":1}"#,
-            br#"{"cell":"c","op":"claim","index":0,"name":"t","memory":1,"disk":1}"#,
-            br#"{"cell":"c","op":"claim","name":"t","memory":1}"#,
-            br#"{"cell":"c","op":"run","name":"t","memory":1,"disk":1}"#,
-            br#"{"cell":"c","op":"up","process":"p"}"#,
-            br#"{"cell":"c","op":"up","index":0}"#,
-            br#"{"cell":"c","op":"up","process":"p","index":0,"name":"t"}"#,
-            br#"{"cell":"c","op":"crash","name":"t"}"#,
-            br#"{"cell":"c","op":"finish","process":"p","index":0}"#,
-            br#"{"cell":"c","op":"finish","name":"t","failed":0}"#,
-            br#"{"cell":"c","op":"finish","name":"t","failed":null}"#,
-            br#"{"cell":"c","op":"settle","process":"p","index":0}"#,
-            br#"{"cell":"c","op":"evacuate","lost":"both"}"#,
-            br#"{"cell":"c","op":"die","times":1.0}"#,
-        ],
-    );
 }
 
 #[test]
@@ -235,7 +127,7 @@ fn of_several_faults_of_a_line_the_first_counts(rt: HostRuntime) {
 }
 
 #[test]
-fn a_line_out_of_its_order_is_told(rt: HostRuntime) {
+fn a_line_before_the_first_moment_or_an_earlier_moment_is_out_of_order(rt: HostRuntime) {
     let alloc = rt.alloc();
     is_refused(
         &rt,
@@ -255,6 +147,11 @@ fn a_line_out_of_its_order_is_told(rt: HostRuntime) {
         b"{\"at\":5}\n\n{\"at\":5}\n{\"at\":4}\n",
         "{\"fault\":\"bad order\",\"line\":4}\n",
     );
+}
+
+#[test]
+fn a_second_round_or_a_cell_beside_a_round_is_out_of_order(rt: HostRuntime) {
+    let alloc = rt.alloc();
     is_refused(
         &rt,
         alloc,

@@ -1,16 +1,13 @@
 //! Boards at the end of their lives, and instances at the end of theirs.
 use super::*;
 
-#[test]
-fn an_instance_that_crashed_more_than_200_times_is_given_up(rt: HostRuntime) {
-    plays_and_shows(
-        &rt,
-        rt.alloc(),
-        b"\x01DIEGOBBS\x00\x01\x00\x00\x00\x00\x00\x00\x00\x01\x00\x00\x00D\x00\x00\x00\x00\x00\x00\
+const CRASHED_BOARD: &[u8] =
+    b"\x01DIEGOBBS\x00\x01\x00\x00\x00\x00\x00\x00\x00\x01\x00\x00\x00D\x00\x00\x00\x00\x00\x00\
 \x01\xf4\x00\x00\x00\x01\x00\x00\x00\x01\x00\x00\x00\x00\x00\x00\x00\x00\x03web\x04apps\x00\
 \x00\x00\x01\x00\x00\x00@\x00\x00\x00\x80\x00\x00\x1f\x90\x03web\x00\x00\x00\x00\x00\x03\x00\
-\x00\x00\xc8\x00\x00\x03\xe8\x00\x00",
-        r#"{"at":1959}
+\x00\x00\xc8\x00\x00\x03\xe8\x00\x00";
+
+const GIVEN_UP_LINES: &str = r#"{"at":1959}
 {"client":"cli","op":"restart","process":"web","index":0}
 {"at":1959}
 {"op":"round"}
@@ -26,8 +23,10 @@ fn an_instance_that_crashed_more_than_200_times_is_given_up(rt: HostRuntime) {
 {"client":"cli","op":"restart","process":"web","index":0}
 {"at":900000}
 {"op":"round"}
-"#,
-        r#"{"actor":"cli","answer":"refused","call":"restart","line":2,"subject":"web/0","why":"not due 1960"}
+"#;
+
+const GIVEN_UP_TEXT: &str =
+    r#"{"actor":"cli","answer":"refused","call":"restart","line":2,"subject":"web/0","why":"not due 1960"}
 {"asked":0,"complete":true,"foreign":0,"line":4,"lost":0,"op":"round","own":0,"refused":0,"stopped":0,"unplaced":[]}
 {"actor":"c1","answer":"ok","call":"join","line":6,"subject":"c1"}
 {"event":"created","row":{"cell":"c1","containers":10,"disk":4096,"epoch":500,"evacuating":false,"memory":1024,"tag":null,"until":1001960,"zone":"z1"},"table":"cell"}
@@ -41,22 +40,31 @@ fn an_instance_that_crashed_more_than_200_times_is_given_up(rt: HostRuntime) {
 {"actor":"cli","answer":"refused","call":"restart","line":14,"subject":"web/0","why":"given up"}
 {"asked":1,"complete":true,"foreign":0,"line":16,"lost":0,"op":"round","own":0,"refused":0,"stopped":0,"unplaced":[]}
 {"done":5,"doubts":0,"next":505,"phases":8}
-"#,
-        r#"{"row":{"disk":128,"domain":"apps","instances":1,"memory":64,"port":8080,"process":"web","route":null,"tag":null},"table":"desired"}
+"#;
+
+const GIVEN_UP_ROWS: &str =
+    r#"{"row":{"disk":128,"domain":"apps","instances":1,"memory":64,"port":8080,"process":"web","route":null,"tag":null},"table":"desired"}
 {"row":{"cell":null,"count":201,"error":false,"index":0,"instance":null,"presence":"ordinary","process":"web","since":1971,"state":"crashed"},"table":"actual"}
 {"row":{"cell":"c1","containers":10,"disk":4096,"epoch":500,"evacuating":false,"memory":1024,"tag":null,"until":1001960,"zone":"z1"},"table":"cell"}
-"#,
+"#;
+
+#[test]
+fn an_instance_that_crashed_more_than_200_times_is_given_up(rt: HostRuntime) {
+    plays_and_shows(
+        &rt,
+        rt.alloc(),
+        CRASHED_BOARD,
+        GIVEN_UP_LINES,
+        GIVEN_UP_TEXT,
+        GIVEN_UP_ROWS,
     );
 }
 
-#[test]
-fn a_board_that_has_made_all_its_transitions_only_refuses(rt: HostRuntime) {
-    plays_on(
-        &rt,
-        rt.alloc(),
-        b"\x01DIEGOBBS\x00\x01\x00\x00\x00\x00\x00\x00\x00\x01\x00\x00\x00\x18\x00\x00\x00\x00\x00\x0f\
-B>\x00\x00\x00\x00\x00\x00\x00\x00\x00\x00\x00\x00\x00\x00\x00\x00\x00",
-        r#"{"at":0}
+const LAST_BUT_ONE_BOARD: &[u8] =
+    b"\x01DIEGOBBS\x00\x01\x00\x00\x00\x00\x00\x00\x00\x01\x00\x00\x00\x18\x00\x00\x00\x00\x00\x0f\
+B>\x00\x00\x00\x00\x00\x00\x00\x00\x00\x00\x00\x00\x00\x00\x00\x00\x00";
+
+const LAST_LINES: &str = r#"{"at":0}
 {"cell":"c1","op":"join","zone":"z1","memory":1024,"disk":4096,"containers":10,"ttl":600}
 {"at":0}
 {"client":"cli","op":"desire","process":"web","domain":"apps","instances":1,"memory":64,"disk":128}
@@ -80,8 +88,9 @@ B>\x00\x00\x00\x00\x00\x00\x00\x00\x00\x00\x00\x00\x00\x00\x00\x00\x00",
 {"op":"round"}
 {"at":700}
 {"op":"round"}
-"#,
-        r#"{"actor":"c1","answer":"ok","call":"join","line":2,"subject":"c1"}
+"#;
+
+const LAST_TEXT: &str = r#"{"actor":"c1","answer":"ok","call":"join","line":2,"subject":"c1"}
 {"event":"created","row":{"cell":"c1","containers":10,"disk":4096,"epoch":999998,"evacuating":false,"memory":1024,"tag":null,"until":600,"zone":"z1"},"table":"cell"}
 {"actor":"cli","answer":"ok","call":"desire","line":4,"subject":"web"}
 {"event":"created","row":{"disk":128,"domain":"apps","instances":1,"memory":64,"port":8080,"process":"web","route":null,"tag":null},"table":"desired"}
@@ -100,6 +109,9 @@ B>\x00\x00\x00\x00\x00\x00\x00\x00\x00\x00\x00\x00\x00\x00\x00\x00\x00",
 {"asked":1,"complete":false,"foreign":0,"line":22,"lost":1,"op":"round","own":0,"refused":1,"stopped":0,"unplaced":[]}
 {"asked":0,"complete":false,"foreign":0,"line":24,"lost":0,"op":"round","own":0,"refused":2,"stopped":0,"unplaced":[]}
 {"done":2,"doubts":0,"next":1000000,"phases":8}
-"#,
-    );
+"#;
+
+#[test]
+fn a_board_that_has_made_all_its_transitions_only_refuses(rt: HostRuntime) {
+    plays_on(&rt, rt.alloc(), LAST_BUT_ONE_BOARD, LAST_LINES, LAST_TEXT);
 }

@@ -1,12 +1,7 @@
 //! Who acts, in which order events stand, and the greatest values of a line.
 use super::*;
 
-#[test]
-fn a_client_and_a_cell_of_one_name_are_two_actors(rt: HostRuntime) {
-    plays(
-        &rt,
-        rt.alloc(),
-        r#"{"at":0}
+const ONE_NAME_LINES: &str = r#"{"at":0}
 {"client":"x","op":"undesire","process":"x"}
 {"cell":"x","op":"join","zone":"x","memory":9,"disk":9,"containers":9,"ttl":9}
 {"client":"x","op":"cancel","name":"x"}
@@ -19,8 +14,10 @@ fn a_client_and_a_cell_of_one_name_are_two_actors(rt: HostRuntime) {
 {"client":"x","op":"undesire","process":"x","lost":"call"}
 {"cell":"x","op":"finish","name":"x"}
 {"client":"x","op":"resolve","name":"y"}
-"#,
-        r#"{"actor":"x","answer":"refused","call":"undesire","line":2,"subject":"x","why":"unknown"}
+"#;
+
+const ONE_NAME_TEXT: &str =
+    r#"{"actor":"x","answer":"refused","call":"undesire","line":2,"subject":"x","why":"unknown"}
 {"actor":"x","answer":"ok","call":"join","line":3,"subject":"x"}
 {"actor":"x","answer":"refused","call":"cancel","line":4,"subject":"x","why":"unknown"}
 {"event":"created","row":{"cell":"x","containers":9,"disk":9,"epoch":0,"evacuating":false,"memory":9,"tag":null,"until":9,"zone":"x"},"table":"cell"}
@@ -34,16 +31,14 @@ fn a_client_and_a_cell_of_one_name_are_two_actors(rt: HostRuntime) {
 {"actor":"x","answer":"refused","call":"resolve","line":13,"subject":"y","why":"unknown"}
 {"event":"changed","row":{"birth":1,"cell":null,"disk":1,"failed":false,"instance":null,"memory":1,"name":"x","since":2,"state":"completed","tag":null},"table":"task"}
 {"done":4,"doubts":0,"next":4,"phases":4}
-"#,
-    );
-}
+"#;
 
 #[test]
-fn events_stand_by_table_and_key_and_those_of_one_row_in_their_order(rt: HostRuntime) {
-    plays(
-        &rt,
-        rt.alloc(),
-        r#"{"at":0}
+fn a_client_and_a_cell_of_one_name_are_two_actors(rt: HostRuntime) {
+    plays(&rt, rt.alloc(), ONE_NAME_LINES, ONE_NAME_TEXT);
+}
+
+const EVENTS_LINES: &str = r#"{"at":0}
 {"client":"cli","op":"task","name":"t","memory":1,"disk":1}
 {"client":"cli","op":"desire","process":"b","domain":"apps","instances":1,"memory":64,"disk":128}
 {"client":"cli","op":"desire","process":"a.10","domain":"apps","instances":1,"memory":64,"disk":128}
@@ -57,8 +52,9 @@ fn events_stand_by_table_and_key_and_those_of_one_row_in_their_order(rt: HostRun
 {"client":"cli","op":"cancel","name":"t"}
 {"client":"cli","op":"resolve","name":"t"}
 {"client":"cli","op":"delete","name":"t"}
-"#,
-        r#"{"actor":"cli","answer":"ok","call":"task","line":2,"subject":"t"}
+"#;
+
+const EVENTS_TEXT: &str = r#"{"actor":"cli","answer":"ok","call":"task","line":2,"subject":"t"}
 {"actor":"cli","answer":"ok","call":"desire","line":3,"subject":"b"}
 {"actor":"cli","answer":"ok","call":"desire","line":4,"subject":"a.10"}
 {"actor":"cli","answer":"ok","call":"update","line":5,"subject":"a.10"}
@@ -85,16 +81,14 @@ fn events_stand_by_table_and_key_and_those_of_one_row_in_their_order(rt: HostRun
 {"event":"changed","row":{"birth":0,"cell":null,"disk":1,"failed":true,"instance":null,"memory":1,"name":"t","since":0,"state":"resolving","tag":null},"table":"task"}
 {"event":"removed","row":{"birth":0,"cell":null,"disk":1,"failed":true,"instance":null,"memory":1,"name":"t","since":0,"state":"resolving","tag":null},"table":"task"}
 {"done":13,"doubts":0,"next":13,"phases":1}
-"#,
-    );
-}
+"#;
 
 #[test]
-fn names_of_80_characters_and_the_greatest_numbers_are_taken(rt: HostRuntime) {
-    plays(
-        &rt,
-        rt.alloc(),
-        r#"{"at":4294967295}
+fn events_stand_by_table_and_key_and_those_of_one_row_in_their_order(rt: HostRuntime) {
+    plays(&rt, rt.alloc(), EVENTS_LINES, EVENTS_TEXT);
+}
+
+const GREATEST_LINES: &str = r#"{"at":4294967295}
 {"client":"nnnnnnnnnnnnnnnnnnnnnnnnnnnnnnnnnnnnnnnnnnnnnnnnnnnnnnnnnnnnnnnnnnnnnnnnnnnnnnnn","op":"desire","process":"nnnnnnnnnnnnnnnnnnnnnnnnnnnnnnnnnnnnnnnnnnnnnnnnnnnnnnnnnnnnnnnnnnnnnnnnnnnnnnnn","domain":"nnnnnnnnnnnnnnnnnnnnnnnnnnnnnnnnnnnnnnnnnnnnnnnnnnnnnnnnnnnnnnnnnnnnnnnnnnnnnnnn","instances":1000,"memory":4294967295,"disk":4294967295,"tag":"nnnnnnnnnnnnnnnnnnnnnnnnnnnnnnnnnnnnnnnnnnnnnnnnnnnnnnnnnnnnnnnnnnnnnnnnnnnnnnnn","route":"nnnnnnnnnnnnnnnnnnnnnnnnnnnnnnnnnnnnnnnnnnnnnnnnnnnnnnnnnnnnnnnnnnnnnnnnnnnnnnnn","port":65535}
 {"at":4294967295}
 {"client":"-","op":"desire","process":".","domain":"_","instances":0,"memory":0,"disk":0,"port":0}
@@ -103,8 +97,10 @@ fn names_of_80_characters_and_the_greatest_numbers_are_taken(rt: HostRuntime) {
 {"cell":"nnnnnnnnnnnnnnnnnnnnnnnnnnnnnnnnnnnnnnnnnnnnnnnnnnnnnnnnnnnnnnnnnnnnnnnnnnnnnnnn","op":"join","zone":"nnnnnnnnnnnnnnnnnnnnnnnnnnnnnnnnnnnnnnnnnnnnnnnnnnnnnnnnnnnnnnnnnnnnnnnnnnnnnnnn","memory":4294967295,"disk":4294967295,"containers":4294967295,"ttl":4294967295,"tag":"nnnnnnnnnnnnnnnnnnnnnnnnnnnnnnnnnnnnnnnnnnnnnnnnnnnnnnnnnnnnnnnnnnnnnnnnnnnnnnnn"}
 {"cell":"nnnnnnnnnnnnnnnnnnnnnnnnnnnnnnnnnnnnnnnnnnnnnnnnnnnnnnnnnnnnnnnnnnnnnnnnnnnnnnnn","op":"claim","process":"nnnnnnnnnnnnnnnnnnnnnnnnnnnnnnnnnnnnnnnnnnnnnnnnnnnnnnnnnnnnnnnnnnnnnnnnnnnnnnnn","index":4294967295,"memory":4294967295,"disk":4294967295}
 {"cell":"nnnnnnnnnnnnnnnnnnnnnnnnnnnnnnnnnnnnnnnnnnnnnnnnnnnnnnnnnnnnnnnnnnnnnnnnnnnnnnnn","op":"run","process":".","index":0,"memory":0,"disk":0}
-"#,
-        r#"{"actor":"nnnnnnnnnnnnnnnnnnnnnnnnnnnnnnnnnnnnnnnnnnnnnnnnnnnnnnnnnnnnnnnnnnnnnnnnnnnnnnnn","answer":"ok","call":"desire","line":2,"subject":"nnnnnnnnnnnnnnnnnnnnnnnnnnnnnnnnnnnnnnnnnnnnnnnnnnnnnnnnnnnnnnnnnnnnnnnnnnnnnnnn"}
+"#;
+
+const GREATEST_TEXT: &str =
+    r#"{"actor":"nnnnnnnnnnnnnnnnnnnnnnnnnnnnnnnnnnnnnnnnnnnnnnnnnnnnnnnnnnnnnnnnnnnnnnnnnnnnnnnn","answer":"ok","call":"desire","line":2,"subject":"nnnnnnnnnnnnnnnnnnnnnnnnnnnnnnnnnnnnnnnnnnnnnnnnnnnnnnnnnnnnnnnnnnnnnnnnnnnnnnnn"}
 {"event":"created","row":{"disk":4294967295,"domain":"nnnnnnnnnnnnnnnnnnnnnnnnnnnnnnnnnnnnnnnnnnnnnnnnnnnnnnnnnnnnnnnnnnnnnnnnnnnnnnnn","instances":1000,"memory":4294967295,"port":65535,"process":"nnnnnnnnnnnnnnnnnnnnnnnnnnnnnnnnnnnnnnnnnnnnnnnnnnnnnnnnnnnnnnnnnnnnnnnnnnnnnnnn","route":"nnnnnnnnnnnnnnnnnnnnnnnnnnnnnnnnnnnnnnnnnnnnnnnnnnnnnnnnnnnnnnnnnnnnnnnnnnnnnnnn","tag":"nnnnnnnnnnnnnnnnnnnnnnnnnnnnnnnnnnnnnnnnnnnnnnnnnnnnnnnnnnnnnnnnnnnnnnnnnnnnnnnn"},"table":"desired"}
 {"actor":"-","answer":"ok","call":"desire","line":4,"subject":"."}
 {"actor":"-","answer":"ok","call":"task","line":5,"subject":"0"}
@@ -115,16 +111,14 @@ fn names_of_80_characters_and_the_greatest_numbers_are_taken(rt: HostRuntime) {
 {"actor":"nnnnnnnnnnnnnnnnnnnnnnnnnnnnnnnnnnnnnnnnnnnnnnnnnnnnnnnnnnnnnnnnnnnnnnnnnnnnnnnn","answer":"refused","call":"start","line":9,"subject":"./0","why":"unknown"}
 {"event":"created","row":{"cell":"nnnnnnnnnnnnnnnnnnnnnnnnnnnnnnnnnnnnnnnnnnnnnnnnnnnnnnnnnnnnnnnnnnnnnnnnnnnnnnnn","containers":4294967295,"disk":4294967295,"epoch":3,"evacuating":false,"memory":4294967295,"tag":"nnnnnnnnnnnnnnnnnnnnnnnnnnnnnnnnnnnnnnnnnnnnnnnnnnnnnnnnnnnnnnnnnnnnnnnnnnnnnnnn","until":8589934590,"zone":"nnnnnnnnnnnnnnnnnnnnnnnnnnnnnnnnnnnnnnnnnnnnnnnnnnnnnnnnnnnnnnnnnnnnnnnnnnnnnnnn"},"table":"cell"}
 {"done":4,"doubts":0,"next":4,"phases":3}
-"#,
-    );
-}
+"#;
 
 #[test]
-fn blank_lines_are_counted_and_space_and_the_order_of_members_mean_nothing(rt: HostRuntime) {
-    plays(
-        &rt,
-        rt.alloc(),
-        "\n\
+fn names_of_80_characters_and_the_greatest_numbers_are_taken(rt: HostRuntime) {
+    plays(&rt, rt.alloc(), GREATEST_LINES, GREATEST_TEXT);
+}
+
+const BLANK_LINES: &str = "\n\
  \t\r\n\
 {\"at\":0}\r\n\
 \r\n\
@@ -135,8 +129,9 @@ fn blank_lines_are_counted_and_space_and_the_order_of_members_mean_nothing(rt: H
 {\"op\":\"die\",\"op\":\"round\",\"lose_ask\":[\"\"],\"lose_ask\":[]}\n\
 \n\
 {\"at\":0}\n\
-{\"client\":\"cl\\u0069\",\"op\":\"cancel\",\"name\":\"\\u006aob\"}",
-        r#"{"actor":"cli","answer":"ok","call":"desire","line":5,"subject":"web"}
+{\"client\":\"cl\\u0069\",\"op\":\"cancel\",\"name\":\"\\u006aob\"}";
+
+const BLANK_TEXT: &str = r#"{"actor":"cli","answer":"ok","call":"desire","line":5,"subject":"web"}
 {"actor":"cli","answer":"ok","call":"undesire","line":7,"subject":"web"}
 {"actor":"cli","answer":"refused","call":"undesire","line":7,"subject":"web","why":"unknown"}
 {"event":"created","row":{"disk":128,"domain":"apps","instances":1,"memory":64,"port":8080,"process":"web","route":null,"tag":null},"table":"desired"}
@@ -144,8 +139,11 @@ fn blank_lines_are_counted_and_space_and_the_order_of_members_mean_nothing(rt: H
 {"asked":0,"complete":true,"foreign":0,"line":9,"lost":0,"op":"round","own":0,"refused":0,"stopped":0,"unplaced":[]}
 {"actor":"cli","answer":"refused","call":"cancel","line":12,"subject":"job","why":"unknown"}
 {"done":2,"doubts":0,"next":2,"phases":3}
-"#,
-    );
+"#;
+
+#[test]
+fn blank_lines_are_counted_and_space_and_the_order_of_members_mean_nothing(rt: HostRuntime) {
+    plays(&rt, rt.alloc(), BLANK_LINES, BLANK_TEXT);
 }
 
 #[test]

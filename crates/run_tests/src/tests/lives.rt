@@ -1,14 +1,7 @@
 //! Worked lives of boards, each as one scenario.
 use super::*;
 
-#[test]
-fn a_claim_that_was_not_heard_is_the_same_once_more_and_a_run_elsewhere_takes_over(
-    rt: HostRuntime,
-) {
-    plays(
-        &rt,
-        rt.alloc(),
-        r#"{"at":0}
+const TAKEOVER_LINES: &str = r#"{"at":0}
 {"cell":"c1","op":"join","zone":"z1","memory":1024,"disk":4096,"containers":10,"ttl":600}
 {"at":0}
 {"cell":"c2","op":"join","zone":"z2","memory":1024,"disk":4096,"containers":10,"ttl":600}
@@ -24,8 +17,9 @@ fn a_claim_that_was_not_heard_is_the_same_once_more_and_a_run_elsewhere_takes_ov
 {"cell":"c2","op":"run","process":"web","index":0,"memory":64,"disk":128}
 {"at":5}
 {"op":"round"}
-"#,
-        r#"{"actor":"c1","answer":"ok","call":"join","line":2,"subject":"c1"}
+"#;
+
+const TAKEOVER_TEXT: &str = r#"{"actor":"c1","answer":"ok","call":"join","line":2,"subject":"c1"}
 {"event":"created","row":{"cell":"c1","containers":10,"disk":4096,"epoch":0,"evacuating":false,"memory":1024,"tag":null,"until":600,"zone":"z1"},"table":"cell"}
 {"actor":"c2","answer":"ok","call":"join","line":4,"subject":"c2"}
 {"event":"created","row":{"cell":"c2","containers":10,"disk":4096,"epoch":1,"evacuating":false,"memory":1024,"tag":null,"until":600,"zone":"z2"},"table":"cell"}
@@ -42,16 +36,16 @@ fn a_claim_that_was_not_heard_is_the_same_once_more_and_a_run_elsewhere_takes_ov
 {"event":"changed","row":{"cell":"c2","count":0,"error":false,"index":0,"instance":"1.2","presence":"ordinary","process":"web","since":4,"state":"running"},"table":"actual"}
 {"asked":2,"complete":true,"foreign":0,"line":16,"lost":0,"op":"round","own":0,"refused":0,"stopped":1,"unplaced":[]}
 {"done":7,"doubts":0,"next":7,"phases":8}
-"#,
-    );
-}
+"#;
 
 #[test]
-fn a_task_has_one_outcome_and_its_name_can_come_again(rt: HostRuntime) {
-    plays(
-        &rt,
-        rt.alloc(),
-        r#"{"at":0}
+fn a_claim_that_was_not_heard_is_the_same_once_more_and_a_run_elsewhere_takes_over(
+    rt: HostRuntime,
+) {
+    plays(&rt, rt.alloc(), TAKEOVER_LINES, TAKEOVER_TEXT);
+}
+
+const TASK_LINES: &str = r#"{"at":0}
 {"cell":"c1","op":"join","zone":"z1","memory":1024,"disk":4096,"containers":10,"ttl":600}
 {"at":0}
 {"client":"cli","op":"task","name":"job","memory":64,"disk":64}
@@ -63,8 +57,9 @@ fn a_task_has_one_outcome_and_its_name_can_come_again(rt: HostRuntime) {
 {"client":"cli","op":"resolve","name":"job"}
 {"client":"cli","op":"delete","name":"job"}
 {"client":"cli","op":"task","name":"job","memory":64,"disk":64}
-"#,
-        r#"{"actor":"c1","answer":"ok","call":"join","line":2,"subject":"c1"}
+"#;
+
+const TASK_TEXT: &str = r#"{"actor":"c1","answer":"ok","call":"join","line":2,"subject":"c1"}
 {"event":"created","row":{"cell":"c1","containers":10,"disk":4096,"epoch":0,"evacuating":false,"memory":1024,"tag":null,"until":600,"zone":"z1"},"table":"cell"}
 {"actor":"cli","answer":"ok","call":"task","line":4,"subject":"job"}
 {"event":"created","row":{"birth":1,"cell":null,"disk":64,"failed":null,"instance":null,"memory":64,"name":"job","since":0,"state":"pending","tag":null},"table":"task"}
@@ -80,16 +75,14 @@ fn a_task_has_one_outcome_and_its_name_can_come_again(rt: HostRuntime) {
 {"event":"removed","row":{"birth":1,"cell":null,"disk":64,"failed":false,"instance":null,"memory":64,"name":"job","since":10,"state":"resolving","tag":null},"table":"task"}
 {"event":"created","row":{"birth":6,"cell":null,"disk":64,"failed":null,"instance":null,"memory":64,"name":"job","since":10,"state":"pending","tag":null},"table":"task"}
 {"done":7,"doubts":0,"next":7,"phases":5}
-"#,
-    );
-}
+"#;
 
 #[test]
-fn an_instance_leaves_a_cell_that_is_emptied_once_another_runs_it(rt: HostRuntime) {
-    plays(
-        &rt,
-        rt.alloc(),
-        r#"{"at":0}
+fn a_task_has_one_outcome_and_its_name_can_come_again(rt: HostRuntime) {
+    plays(&rt, rt.alloc(), TASK_LINES, TASK_TEXT);
+}
+
+const EMPTIED_LINES: &str = r#"{"at":0}
 {"cell":"c1","op":"join","zone":"z1","memory":1024,"disk":4096,"containers":10,"ttl":600}
 {"at":0}
 {"client":"cli","op":"desire","process":"web","domain":"apps","instances":1,"memory":64,"disk":128}
@@ -109,8 +102,9 @@ fn an_instance_leaves_a_cell_that_is_emptied_once_another_runs_it(rt: HostRuntim
 {"cell":"c2","op":"up"}
 {"at":8}
 {"op":"round"}
-"#,
-        r#"{"actor":"c1","answer":"ok","call":"join","line":2,"subject":"c1"}
+"#;
+
+const EMPTIED_TEXT: &str = r#"{"actor":"c1","answer":"ok","call":"join","line":2,"subject":"c1"}
 {"event":"created","row":{"cell":"c1","containers":10,"disk":4096,"epoch":0,"evacuating":false,"memory":1024,"tag":null,"until":600,"zone":"z1"},"table":"cell"}
 {"actor":"cli","answer":"ok","call":"desire","line":4,"subject":"web"}
 {"event":"created","row":{"disk":128,"domain":"apps","instances":1,"memory":64,"port":8080,"process":"web","route":null,"tag":null},"table":"desired"}
@@ -135,16 +129,14 @@ fn an_instance_leaves_a_cell_that_is_emptied_once_another_runs_it(rt: HostRuntim
 {"asked":2,"complete":true,"foreign":0,"line":20,"lost":0,"op":"round","own":1,"refused":0,"stopped":1,"unplaced":[]}
 {"event":"removed","row":{"cell":"c1","count":0,"error":false,"index":0,"instance":"0.1","presence":"evacuating","process":"web","since":2,"state":"running"},"table":"actual"}
 {"done":12,"doubts":0,"next":12,"phases":10}
-"#,
-    );
-}
+"#;
 
 #[test]
-fn a_cell_that_was_not_heard_keeps_its_work_until_its_lease_ends(rt: HostRuntime) {
-    plays(
-        &rt,
-        rt.alloc(),
-        r#"{"at":0}
+fn an_instance_leaves_a_cell_that_is_emptied_once_another_runs_it(rt: HostRuntime) {
+    plays(&rt, rt.alloc(), EMPTIED_LINES, EMPTIED_TEXT);
+}
+
+const SILENT_LINES: &str = r#"{"at":0}
 {"cell":"c1","op":"join","zone":"z1","memory":1024,"disk":4096,"containers":10,"ttl":600}
 {"at":0}
 {"cell":"c2","op":"join","zone":"z2","memory":1024,"disk":4096,"containers":10,"ttl":3600}
@@ -156,8 +148,9 @@ fn a_cell_that_was_not_heard_keeps_its_work_until_its_lease_ends(rt: HostRuntime
 {"op":"round","lose_ask":["c1"]}
 {"at":600}
 {"op":"round"}
-"#,
-        r#"{"actor":"c1","answer":"ok","call":"join","line":2,"subject":"c1"}
+"#;
+
+const SILENT_TEXT: &str = r#"{"actor":"c1","answer":"ok","call":"join","line":2,"subject":"c1"}
 {"event":"created","row":{"cell":"c1","containers":10,"disk":4096,"epoch":0,"evacuating":false,"memory":1024,"tag":null,"until":600,"zone":"z1"},"table":"cell"}
 {"actor":"c2","answer":"ok","call":"join","line":4,"subject":"c2"}
 {"event":"created","row":{"cell":"c2","containers":10,"disk":4096,"epoch":1,"evacuating":false,"memory":1024,"tag":null,"until":3600,"zone":"z2"},"table":"cell"}
@@ -172,8 +165,11 @@ fn a_cell_that_was_not_heard_keeps_its_work_until_its_lease_ends(rt: HostRuntime
 {"event":"changed","row":{"cell":"c2","count":0,"error":false,"index":0,"instance":"1.1","presence":"ordinary","process":"web","since":600,"state":"claimed"},"table":"actual"}
 {"event":"removed","row":{"cell":"c1","containers":10,"disk":4096,"epoch":0,"evacuating":false,"memory":1024,"tag":null,"until":600,"zone":"z1"},"table":"cell"}
 {"done":8,"doubts":0,"next":8,"phases":6}
-"#,
-    );
+"#;
+
+#[test]
+fn a_cell_that_was_not_heard_keeps_its_work_until_its_lease_ends(rt: HostRuntime) {
+    plays(&rt, rt.alloc(), SILENT_LINES, SILENT_TEXT);
 }
 
 #[test]
@@ -193,40 +189,6 @@ fn a_container_whose_claim_was_lost_is_stopped(rt: HostRuntime) {
 {"actor":"c1","answer":"lost call","call":"claim","line":4,"subject":"web/0"}
 {"asked":1,"complete":true,"foreign":0,"line":6,"lost":0,"op":"round","own":0,"refused":0,"stopped":1,"unplaced":[]}
 {"done":1,"doubts":0,"next":1,"phases":3}
-"#,
-    );
-}
-
-#[test]
-fn clients_calls_are_the_lives_of_their_rows(rt: HostRuntime) {
-    plays(
-        &rt,
-        rt.alloc(),
-        r#"{"at":3}
-{"client":"cli","op":"desire","process":"web","domain":"apps","instances":1,"memory":64,"disk":128,"tag":"gpu","route":"web.example","port":443}
-{"client":"cli","op":"update","process":"web","instances":2}
-{"client":"cli","op":"undesire","process":"web"}
-{"client":"cli","op":"task","name":"job","memory":1,"disk":2,"tag":"ssd"}
-{"client":"cli","op":"cancel","name":"job"}
-{"client":"cli","op":"resolve","name":"job"}
-{"at":5}
-{"client":"cli","op":"delete","name":"job"}
-"#,
-        r#"{"actor":"cli","answer":"ok","call":"desire","line":2,"subject":"web"}
-{"actor":"cli","answer":"ok","call":"update","line":3,"subject":"web"}
-{"actor":"cli","answer":"ok","call":"undesire","line":4,"subject":"web"}
-{"actor":"cli","answer":"ok","call":"task","line":5,"subject":"job"}
-{"actor":"cli","answer":"ok","call":"cancel","line":6,"subject":"job"}
-{"actor":"cli","answer":"ok","call":"resolve","line":7,"subject":"job"}
-{"event":"created","row":{"disk":128,"domain":"apps","instances":1,"memory":64,"port":443,"process":"web","route":"web.example","tag":"gpu"},"table":"desired"}
-{"event":"changed","row":{"disk":128,"domain":"apps","instances":2,"memory":64,"port":8080,"process":"web","route":null,"tag":"gpu"},"table":"desired"}
-{"event":"removed","row":{"disk":128,"domain":"apps","instances":2,"memory":64,"port":8080,"process":"web","route":null,"tag":"gpu"},"table":"desired"}
-{"event":"created","row":{"birth":3,"cell":null,"disk":2,"failed":null,"instance":null,"memory":1,"name":"job","since":3,"state":"pending","tag":"ssd"},"table":"task"}
-{"event":"changed","row":{"birth":3,"cell":null,"disk":2,"failed":true,"instance":null,"memory":1,"name":"job","since":3,"state":"completed","tag":"ssd"},"table":"task"}
-{"event":"changed","row":{"birth":3,"cell":null,"disk":2,"failed":true,"instance":null,"memory":1,"name":"job","since":3,"state":"resolving","tag":"ssd"},"table":"task"}
-{"actor":"cli","answer":"ok","call":"delete","line":9,"subject":"job"}
-{"event":"removed","row":{"birth":3,"cell":null,"disk":2,"failed":true,"instance":null,"memory":1,"name":"job","since":3,"state":"resolving","tag":"ssd"},"table":"task"}
-{"done":7,"doubts":0,"next":7,"phases":2}
 "#,
     );
 }

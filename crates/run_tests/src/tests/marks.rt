@@ -1,19 +1,16 @@
 //! Lines that are run more than once, and of which a call or a reply is lost.
 use super::*;
 
-#[test]
-fn of_a_clients_line_the_first_call_is_lost_and_no_later_one(rt: HostRuntime) {
-    plays(
-        &rt,
-        rt.alloc(),
-        r#"{"at":0}
+const LOST_CALLS_LINES: &str = r#"{"at":0}
 {"client":"cli","op":"desire","process":"web","domain":"apps","instances":1,"memory":64,"disk":128,"times":3,"lost":"call"}
 {"client":"cli","op":"update","process":"web","instances":2,"route":"r1","port":9090,"times":3,"lost":"call"}
 {"client":"cli","op":"task","name":"job","memory":1,"disk":1,"times":3,"lost":"call"}
 {"client":"cli","op":"cancel","name":"job","times":2,"lost":"call"}
 {"client":"cli","op":"undesire","process":"web","times":3,"lost":"call"}
-"#,
-        r#"{"actor":"cli","answer":"lost call","call":"desire","line":2,"subject":"web"}
+"#;
+
+const LOST_CALLS_TEXT: &str =
+    r#"{"actor":"cli","answer":"lost call","call":"desire","line":2,"subject":"web"}
 {"actor":"cli","answer":"ok","call":"desire","line":2,"subject":"web"}
 {"actor":"cli","answer":"refused","call":"desire","line":2,"subject":"web","why":"exists"}
 {"actor":"cli","answer":"lost call","call":"update","line":3,"subject":"web"}
@@ -33,16 +30,14 @@ fn of_a_clients_line_the_first_call_is_lost_and_no_later_one(rt: HostRuntime) {
 {"event":"created","row":{"birth":2,"cell":null,"disk":1,"failed":null,"instance":null,"memory":1,"name":"job","since":0,"state":"pending","tag":null},"table":"task"}
 {"event":"changed","row":{"birth":2,"cell":null,"disk":1,"failed":true,"instance":null,"memory":1,"name":"job","since":0,"state":"completed","tag":null},"table":"task"}
 {"done":5,"doubts":0,"next":5,"phases":1}
-"#,
-    );
-}
+"#;
 
 #[test]
-fn of_a_clients_line_the_first_reply_is_lost_and_no_later_one(rt: HostRuntime) {
-    plays(
-        &rt,
-        rt.alloc(),
-        r#"{"at":0}
+fn of_a_clients_line_the_first_call_is_lost_and_no_later_one(rt: HostRuntime) {
+    plays(&rt, rt.alloc(), LOST_CALLS_LINES, LOST_CALLS_TEXT);
+}
+
+const LOST_REPLIES_LINES: &str = r#"{"at":0}
 {"client":"cli","op":"desire","process":"web","domain":"apps","instances":1,"memory":64,"disk":128,"times":2,"lost":"reply"}
 {"client":"cli","op":"update","process":"web","instances":2,"times":2,"lost":"reply"}
 {"client":"cli","op":"task","name":"job","memory":1,"disk":1,"times":2,"lost":"reply"}
@@ -51,8 +46,10 @@ fn of_a_clients_line_the_first_reply_is_lost_and_no_later_one(rt: HostRuntime) {
 {"client":"cli","op":"delete","name":"job","lost":"reply","times":2}
 {"client":"cli","op":"undesire","process":"web","times":2,"lost":"reply"}
 {"client":"cli","op":"restart","process":"web","index":0,"lost":"reply"}
-"#,
-        r#"{"actor":"cli","answer":"lost reply","call":"desire","line":2,"subject":"web"}
+"#;
+
+const LOST_REPLIES_TEXT: &str =
+    r#"{"actor":"cli","answer":"lost reply","call":"desire","line":2,"subject":"web"}
 {"actor":"cli","answer":"refused","call":"desire","line":2,"subject":"web","why":"exists"}
 {"actor":"cli","answer":"lost reply","call":"update","line":3,"subject":"web"}
 {"actor":"cli","answer":"same","call":"update","line":3,"subject":"web"}
@@ -74,16 +71,14 @@ fn of_a_clients_line_the_first_reply_is_lost_and_no_later_one(rt: HostRuntime) {
 {"event":"changed","row":{"birth":2,"cell":null,"disk":1,"failed":true,"instance":null,"memory":1,"name":"job","since":0,"state":"resolving","tag":null},"table":"task"}
 {"event":"removed","row":{"birth":2,"cell":null,"disk":1,"failed":true,"instance":null,"memory":1,"name":"job","since":0,"state":"resolving","tag":null},"table":"task"}
 {"done":7,"doubts":0,"next":7,"phases":1}
-"#,
-    );
-}
+"#;
 
 #[test]
-fn a_cell_whose_join_was_not_heard_is_down(rt: HostRuntime) {
-    plays(
-        &rt,
-        rt.alloc(),
-        r#"{"at":0}
+fn of_a_clients_line_the_first_reply_is_lost_and_no_later_one(rt: HostRuntime) {
+    plays(&rt, rt.alloc(), LOST_REPLIES_LINES, LOST_REPLIES_TEXT);
+}
+
+const LOST_JOIN_LINES: &str = r#"{"at":0}
 {"cell":"c1","op":"join","zone":"z1","memory":1024,"disk":4096,"containers":10,"ttl":600,"lost":"call"}
 {"cell":"c1","op":"renew","ttl":9}
 {"at":1}
@@ -94,8 +89,10 @@ fn a_cell_whose_join_was_not_heard_is_down(rt: HostRuntime) {
 {"at":3}
 {"cell":"c1","op":"renew","ttl":9,"lost":"call","times":3}
 {"cell":"c1","op":"renew","ttl":9,"lost":"reply"}
-"#,
-        r#"{"actor":"c1","answer":"lost call","call":"join","line":2,"subject":"c1"}
+"#;
+
+const LOST_JOIN_TEXT: &str =
+    r#"{"actor":"c1","answer":"lost call","call":"join","line":2,"subject":"c1"}
 {"actor":"c1","answer":"refused","call":"renew","line":3,"subject":"c1","why":"down"}
 {"actor":"c1","answer":"lost reply","call":"join","line":5,"subject":"c1"}
 {"actor":"c1","answer":"refused","call":"settle","line":6,"subject":"c1","why":"down"}
@@ -112,16 +109,14 @@ fn a_cell_whose_join_was_not_heard_is_down(rt: HostRuntime) {
 {"actor":"c1","answer":"lost reply","call":"renew","line":11,"subject":"c1"}
 {"event":"changed","row":{"cell":"c1","containers":10,"disk":4096,"epoch":3,"evacuating":false,"memory":1024,"tag":null,"until":12,"zone":"z1"},"table":"cell"}
 {"done":5,"doubts":0,"next":5,"phases":4}
-"#,
-    );
-}
+"#;
 
 #[test]
-fn of_a_cells_line_the_first_call_is_lost_and_what_it_did_stays(rt: HostRuntime) {
-    plays(
-        &rt,
-        rt.alloc(),
-        r#"{"at":0}
+fn a_cell_whose_join_was_not_heard_is_down(rt: HostRuntime) {
+    plays(&rt, rt.alloc(), LOST_JOIN_LINES, LOST_JOIN_TEXT);
+}
+
+const CELL_LINES: &str = r#"{"at":0}
 {"cell":"c1","op":"join","zone":"z1","memory":1024,"disk":4096,"containers":10,"ttl":600}
 {"at":0}
 {"client":"cli","op":"desire","process":"web","domain":"apps","instances":3,"memory":64,"disk":128}
@@ -140,8 +135,9 @@ fn of_a_cells_line_the_first_call_is_lost_and_what_it_did_stays(rt: HostRuntime)
 {"at":7}
 {"cell":"c1","op":"evacuate","lost":"reply"}
 {"cell":"c1","op":"settle","lost":"reply"}
-"#,
-        r#"{"actor":"c1","answer":"ok","call":"join","line":2,"subject":"c1"}
+"#;
+
+const CELL_TEXT: &str = r#"{"actor":"c1","answer":"ok","call":"join","line":2,"subject":"c1"}
 {"event":"created","row":{"cell":"c1","containers":10,"disk":4096,"epoch":0,"evacuating":false,"memory":1024,"tag":null,"until":600,"zone":"z1"},"table":"cell"}
 {"actor":"cli","answer":"ok","call":"desire","line":4,"subject":"web"}
 {"event":"created","row":{"disk":128,"domain":"apps","instances":3,"memory":64,"port":8080,"process":"web","route":null,"tag":null},"table":"desired"}
@@ -179,16 +175,14 @@ fn of_a_cells_line_the_first_call_is_lost_and_what_it_did_stays(rt: HostRuntime)
 {"actor":"c1","answer":"lost reply","call":"drain","line":18,"subject":"c1"}
 {"actor":"c1","answer":"lost reply","call":"evacuate","line":19,"subject":"web/2"}
 {"done":15,"doubts":0,"next":15,"phases":9}
-"#,
-    );
-}
+"#;
 
 #[test]
-fn a_mark_on_a_run_without_a_call_loses_nothing(rt: HostRuntime) {
-    plays(
-        &rt,
-        rt.alloc(),
-        r#"{"at":0}
+fn of_a_cells_line_the_first_call_is_lost_and_what_it_did_stays(rt: HostRuntime) {
+    plays(&rt, rt.alloc(), CELL_LINES, CELL_TEXT);
+}
+
+const NO_CALL_LINES: &str = r#"{"at":0}
 {"cell":"c1","op":"die","lost":"call"}
 {"cell":"c1","op":"join","zone":"z1","memory":1024,"disk":4096,"containers":1,"ttl":600}
 {"cell":"c1","op":"up","lost":"reply","times":2}
@@ -199,8 +193,9 @@ fn a_mark_on_a_run_without_a_call_loses_nothing(rt: HostRuntime) {
 {"cell":"c1","op":"claim","name":"job","memory":9000,"disk":1,"lost":"call","times":2}
 {"cell":"c1","op":"claim","name":"job","memory":9,"disk":1,"lost":"reply","times":2}
 {"cell":"c1","op":"up","lost":"call","times":2}
-"#,
-        r#"{"actor":"c1","answer":"none","call":"die","line":2,"subject":"c1"}
+"#;
+
+const NO_CALL_TEXT: &str = r#"{"actor":"c1","answer":"none","call":"die","line":2,"subject":"c1"}
 {"actor":"c1","answer":"ok","call":"join","line":3,"subject":"c1"}
 {"actor":"c1","answer":"none","call":"up","line":4,"subject":"c1"}
 {"actor":"c1","answer":"none","call":"up","line":4,"subject":"c1"}
@@ -217,6 +212,9 @@ fn a_mark_on_a_run_without_a_call_loses_nothing(rt: HostRuntime) {
 {"actor":"c1","answer":"none","call":"up","line":11,"subject":"c1"}
 {"event":"changed","row":{"birth":1,"cell":"c1","disk":64,"failed":null,"instance":"0.1","memory":64,"name":"job","since":0,"state":"running","tag":null},"table":"task"}
 {"done":3,"doubts":0,"next":3,"phases":3}
-"#,
-    );
+"#;
+
+#[test]
+fn a_mark_on_a_run_without_a_call_loses_nothing(rt: HostRuntime) {
+    plays(&rt, rt.alloc(), NO_CALL_LINES, NO_CALL_TEXT);
 }

@@ -1,12 +1,7 @@
-//! Rounds: what they lose, beside whom they are held, and what they mend.
+//! Rounds: what they lose, and clients beside them.
 use super::*;
 
-#[test]
-fn a_start_that_is_lost_leaves_the_instance_to_the_next_round(rt: HostRuntime) {
-    plays(
-        &rt,
-        rt.alloc(),
-        r#"{"at":0}
+const LOST_START_LINES: &str = r#"{"at":0}
 {"cell":"c1","op":"join","zone":"z1","memory":1024,"disk":4096,"containers":10,"ttl":600}
 {"at":0}
 {"cell":"c2","op":"join","zone":"z2","memory":1024,"disk":4096,"containers":10,"ttl":600}
@@ -16,8 +11,9 @@ fn a_start_that_is_lost_leaves_the_instance_to_the_next_round(rt: HostRuntime) {
 {"op":"round","lose_start":["c1"]}
 {"at":2}
 {"op":"round"}
-"#,
-        r#"{"actor":"c1","answer":"ok","call":"join","line":2,"subject":"c1"}
+"#;
+
+const LOST_START_TEXT: &str = r#"{"actor":"c1","answer":"ok","call":"join","line":2,"subject":"c1"}
 {"event":"created","row":{"cell":"c1","containers":10,"disk":4096,"epoch":0,"evacuating":false,"memory":1024,"tag":null,"until":600,"zone":"z1"},"table":"cell"}
 {"actor":"c2","answer":"ok","call":"join","line":4,"subject":"c2"}
 {"event":"created","row":{"cell":"c2","containers":10,"disk":4096,"epoch":1,"evacuating":false,"memory":1024,"tag":null,"until":600,"zone":"z2"},"table":"cell"}
@@ -30,16 +26,14 @@ fn a_start_that_is_lost_leaves_the_instance_to_the_next_round(rt: HostRuntime) {
 {"asked":2,"complete":true,"foreign":0,"line":10,"lost":0,"op":"round","own":1,"refused":0,"stopped":0,"unplaced":[]}
 {"event":"changed","row":{"cell":"c1","count":0,"error":false,"index":0,"instance":"0.1","presence":"ordinary","process":"web","since":2,"state":"claimed"},"table":"actual"}
 {"done":7,"doubts":0,"next":7,"phases":5}
-"#,
-    );
-}
+"#;
 
 #[test]
-fn a_reply_to_a_start_that_is_lost_leaves_the_instance_where_it_is(rt: HostRuntime) {
-    plays(
-        &rt,
-        rt.alloc(),
-        r#"{"at":0}
+fn a_start_that_is_lost_leaves_the_instance_to_the_next_round(rt: HostRuntime) {
+    plays(&rt, rt.alloc(), LOST_START_LINES, LOST_START_TEXT);
+}
+
+const LOST_REPLY_LINES: &str = r#"{"at":0}
 {"cell":"c1","op":"join","zone":"z1","memory":1024,"disk":4096,"containers":10,"ttl":600}
 {"at":0}
 {"cell":"c2","op":"join","zone":"z2","memory":1024,"disk":4096,"containers":10,"ttl":600}
@@ -49,8 +43,9 @@ fn a_reply_to_a_start_that_is_lost_leaves_the_instance_where_it_is(rt: HostRunti
 {"op":"round","lose_reply":["c1","c2"]}
 {"at":2}
 {"op":"round"}
-"#,
-        r#"{"actor":"c1","answer":"ok","call":"join","line":2,"subject":"c1"}
+"#;
+
+const LOST_REPLY_TEXT: &str = r#"{"actor":"c1","answer":"ok","call":"join","line":2,"subject":"c1"}
 {"event":"created","row":{"cell":"c1","containers":10,"disk":4096,"epoch":0,"evacuating":false,"memory":1024,"tag":null,"until":600,"zone":"z1"},"table":"cell"}
 {"actor":"c2","answer":"ok","call":"join","line":4,"subject":"c2"}
 {"event":"created","row":{"cell":"c2","containers":10,"disk":4096,"epoch":1,"evacuating":false,"memory":1024,"tag":null,"until":600,"zone":"z2"},"table":"cell"}
@@ -63,16 +58,14 @@ fn a_reply_to_a_start_that_is_lost_leaves_the_instance_where_it_is(rt: HostRunti
 {"event":"changed","row":{"cell":"c2","count":0,"error":false,"index":1,"instance":"1.1","presence":"ordinary","process":"web","since":1,"state":"claimed"},"table":"actual"}
 {"asked":2,"complete":true,"foreign":0,"line":10,"lost":0,"op":"round","own":0,"refused":0,"stopped":0,"unplaced":[]}
 {"done":7,"doubts":0,"next":7,"phases":5}
-"#,
-    );
-}
+"#;
 
 #[test]
-fn a_stop_that_is_lost_leaves_the_container_to_the_next_round(rt: HostRuntime) {
-    plays(
-        &rt,
-        rt.alloc(),
-        r#"{"at":0}
+fn a_reply_to_a_start_that_is_lost_leaves_the_instance_where_it_is(rt: HostRuntime) {
+    plays(&rt, rt.alloc(), LOST_REPLY_LINES, LOST_REPLY_TEXT);
+}
+
+const LOST_STOP_LINES: &str = r#"{"at":0}
 {"cell":"c1","op":"join","zone":"z1","memory":1024,"disk":4096,"containers":10,"ttl":600}
 {"at":0}
 {"cell":"c2","op":"join","zone":"z2","memory":1024,"disk":4096,"containers":10,"ttl":600}
@@ -86,8 +79,9 @@ fn a_stop_that_is_lost_leaves_the_container_to_the_next_round(rt: HostRuntime) {
 {"op":"round","lose_stop":["c1"]}
 {"at":3}
 {"op":"round"}
-"#,
-        r#"{"actor":"c1","answer":"ok","call":"join","line":2,"subject":"c1"}
+"#;
+
+const LOST_STOP_TEXT: &str = r#"{"actor":"c1","answer":"ok","call":"join","line":2,"subject":"c1"}
 {"event":"created","row":{"cell":"c1","containers":10,"disk":4096,"epoch":0,"evacuating":false,"memory":1024,"tag":null,"until":600,"zone":"z1"},"table":"cell"}
 {"actor":"c2","answer":"ok","call":"join","line":4,"subject":"c2"}
 {"event":"created","row":{"cell":"c2","containers":10,"disk":4096,"epoch":1,"evacuating":false,"memory":1024,"tag":null,"until":600,"zone":"z2"},"table":"cell"}
@@ -102,16 +96,14 @@ fn a_stop_that_is_lost_leaves_the_container_to_the_next_round(rt: HostRuntime) {
 {"event":"changed","row":{"cell":"c1","count":0,"error":false,"index":1,"instance":"0.2","presence":"ordinary","process":"web","since":2,"state":"claimed"},"table":"actual"}
 {"asked":2,"complete":true,"foreign":0,"line":14,"lost":0,"op":"round","own":0,"refused":0,"stopped":1,"unplaced":[]}
 {"done":7,"doubts":0,"next":7,"phases":7}
-"#,
-    );
-}
+"#;
 
 #[test]
-fn names_that_mean_nothing_in_a_round_lose_nothing(rt: HostRuntime) {
-    plays(
-        &rt,
-        rt.alloc(),
-        r#"{"at":0}
+fn a_stop_that_is_lost_leaves_the_container_to_the_next_round(rt: HostRuntime) {
+    plays(&rt, rt.alloc(), LOST_STOP_LINES, LOST_STOP_TEXT);
+}
+
+const NO_MEANING_LINES: &str = r#"{"at":0}
 {"cell":"c1","op":"join","zone":"z1","memory":1024,"disk":4096,"containers":10,"ttl":600}
 {"at":0}
 {"cell":"c2","op":"join","zone":"z2","memory":1024,"disk":4096,"containers":10,"ttl":600}
@@ -121,8 +113,9 @@ fn names_that_mean_nothing_in_a_round_lose_nothing(rt: HostRuntime) {
 {"op":"round","lose_ask":["c3","cli"],"lose_stop":["c1","web"],"lose_start":["c3"],"lose_reply":["c3","c3"]}
 {"at":2}
 {"lose_start":[],"lose_reply":[],"op":"round","lose_ask":[],"lose_stop":[]}
-"#,
-        r#"{"actor":"c1","answer":"ok","call":"join","line":2,"subject":"c1"}
+"#;
+
+const NO_MEANING_TEXT: &str = r#"{"actor":"c1","answer":"ok","call":"join","line":2,"subject":"c1"}
 {"event":"created","row":{"cell":"c1","containers":10,"disk":4096,"epoch":0,"evacuating":false,"memory":1024,"tag":null,"until":600,"zone":"z1"},"table":"cell"}
 {"actor":"c2","answer":"ok","call":"join","line":4,"subject":"c2"}
 {"event":"created","row":{"cell":"c2","containers":10,"disk":4096,"epoch":1,"evacuating":false,"memory":1024,"tag":null,"until":600,"zone":"z2"},"table":"cell"}
@@ -135,16 +128,14 @@ fn names_that_mean_nothing_in_a_round_lose_nothing(rt: HostRuntime) {
 {"event":"changed","row":{"cell":"c2","count":0,"error":false,"index":1,"instance":"1.1","presence":"ordinary","process":"web","since":1,"state":"claimed"},"table":"actual"}
 {"asked":2,"complete":true,"foreign":0,"line":10,"lost":0,"op":"round","own":0,"refused":0,"stopped":0,"unplaced":[]}
 {"done":7,"doubts":0,"next":7,"phases":5}
-"#,
-    );
-}
+"#;
 
 #[test]
-fn a_round_that_hears_no_cell_places_nothing(rt: HostRuntime) {
-    plays(
-        &rt,
-        rt.alloc(),
-        r#"{"at":0}
+fn names_that_mean_nothing_in_a_round_lose_nothing(rt: HostRuntime) {
+    plays(&rt, rt.alloc(), NO_MEANING_LINES, NO_MEANING_TEXT);
+}
+
+const UNHEARD_LINES: &str = r#"{"at":0}
 {"cell":"c1","op":"join","zone":"z1","memory":1024,"disk":4096,"containers":10,"ttl":600}
 {"at":0}
 {"cell":"c2","op":"join","zone":"z2","memory":1024,"disk":4096,"containers":10,"ttl":600}
@@ -156,8 +147,9 @@ fn a_round_that_hears_no_cell_places_nothing(rt: HostRuntime) {
 {"op":"round","lose_ask":["c2"],"lose_stop":["c1"],"lose_start":["c2"],"lose_reply":["c1"]}
 {"at":3}
 {"op":"round"}
-"#,
-        r#"{"actor":"c1","answer":"ok","call":"join","line":2,"subject":"c1"}
+"#;
+
+const UNHEARD_TEXT: &str = r#"{"actor":"c1","answer":"ok","call":"join","line":2,"subject":"c1"}
 {"event":"created","row":{"cell":"c1","containers":10,"disk":4096,"epoch":0,"evacuating":false,"memory":1024,"tag":null,"until":600,"zone":"z1"},"table":"cell"}
 {"actor":"c2","answer":"ok","call":"join","line":4,"subject":"c2"}
 {"event":"created","row":{"cell":"c2","containers":10,"disk":4096,"epoch":1,"evacuating":false,"memory":1024,"tag":null,"until":600,"zone":"z2"},"table":"cell"}
@@ -173,16 +165,14 @@ fn a_round_that_hears_no_cell_places_nothing(rt: HostRuntime) {
 {"event":"changed","row":{"cell":"c1","count":0,"error":false,"index":1,"instance":"0.2","presence":"ordinary","process":"web","since":2,"state":"claimed"},"table":"actual"}
 {"asked":2,"complete":true,"foreign":0,"line":12,"lost":0,"op":"round","own":0,"refused":0,"stopped":0,"unplaced":[]}
 {"done":9,"doubts":0,"next":9,"phases":6}
-"#,
-    );
-}
+"#;
 
 #[test]
-fn a_round_beside_clients_that_change_nothing_is_told_where_its_line_stands(rt: HostRuntime) {
-    plays(
-        &rt,
-        rt.alloc(),
-        r#"{"at":0}
+fn a_round_that_hears_no_cell_places_nothing(rt: HostRuntime) {
+    plays(&rt, rt.alloc(), UNHEARD_LINES, UNHEARD_TEXT);
+}
+
+const BESIDE_LINES: &str = r#"{"at":0}
 {"cell":"c1","op":"join","zone":"z1","memory":1024,"disk":4096,"containers":10,"ttl":600}
 {"at":0}
 {"client":"cli","op":"desire","process":"web","domain":"apps","instances":2,"memory":64,"disk":128}
@@ -197,8 +187,9 @@ fn a_round_beside_clients_that_change_nothing_is_told_where_its_line_stands(rt: 
 {"at":2}
 {"client":"cli","op":"cancel","name":"job","times":2}
 {"op":"round","lose_reply":["cli"]}
-"#,
-        r#"{"actor":"c1","answer":"ok","call":"join","line":2,"subject":"c1"}
+"#;
+
+const BESIDE_TEXT: &str = r#"{"actor":"c1","answer":"ok","call":"join","line":2,"subject":"c1"}
 {"event":"created","row":{"cell":"c1","containers":10,"disk":4096,"epoch":0,"evacuating":false,"memory":1024,"tag":null,"until":600,"zone":"z1"},"table":"cell"}
 {"actor":"cli","answer":"ok","call":"desire","line":4,"subject":"web"}
 {"event":"created","row":{"disk":128,"domain":"apps","instances":2,"memory":64,"port":8080,"process":"web","route":null,"tag":null},"table":"desired"}
@@ -216,305 +207,9 @@ fn a_round_beside_clients_that_change_nothing_is_told_where_its_line_stands(rt: 
 {"actor":"cli","answer":"refused","call":"cancel","line":14,"subject":"job","why":"unknown"}
 {"asked":1,"complete":true,"foreign":0,"line":15,"lost":0,"op":"round","own":0,"refused":0,"stopped":0,"unplaced":[]}
 {"done":6,"doubts":0,"next":6,"phases":5}
-"#,
-    );
-}
+"#;
 
 #[test]
-fn a_cell_that_died_is_lost_and_joins_anew_with_a_new_epoch(rt: HostRuntime) {
-    plays(
-        &rt,
-        rt.alloc(),
-        r#"{"at":0}
-{"cell":"c1","op":"join","zone":"z1","memory":1024,"disk":4096,"containers":10,"ttl":600}
-{"at":0}
-{"cell":"c2","op":"join","zone":"z2","memory":1024,"disk":4096,"containers":10,"ttl":600}
-{"at":0}
-{"client":"cli","op":"desire","process":"web","domain":"apps","instances":2,"memory":64,"disk":128}
-{"at":1}
-{"op":"round"}
-{"at":2}
-{"cell":"c1","op":"die"}
-{"at":3}
-{"op":"round"}
-{"at":4}
-{"cell":"c1","op":"join","zone":"z1","memory":1024,"disk":4096,"containers":10,"ttl":600}
-{"at":5}
-{"op":"round"}
-"#,
-        r#"{"actor":"c1","answer":"ok","call":"join","line":2,"subject":"c1"}
-{"event":"created","row":{"cell":"c1","containers":10,"disk":4096,"epoch":0,"evacuating":false,"memory":1024,"tag":null,"until":600,"zone":"z1"},"table":"cell"}
-{"actor":"c2","answer":"ok","call":"join","line":4,"subject":"c2"}
-{"event":"created","row":{"cell":"c2","containers":10,"disk":4096,"epoch":1,"evacuating":false,"memory":1024,"tag":null,"until":600,"zone":"z2"},"table":"cell"}
-{"actor":"cli","answer":"ok","call":"desire","line":6,"subject":"web"}
-{"event":"created","row":{"disk":128,"domain":"apps","instances":2,"memory":64,"port":8080,"process":"web","route":null,"tag":null},"table":"desired"}
-{"asked":2,"complete":true,"foreign":0,"line":8,"lost":0,"op":"round","own":4,"refused":0,"stopped":0,"unplaced":[]}
-{"event":"created","row":{"cell":null,"count":0,"error":false,"index":0,"instance":null,"presence":"ordinary","process":"web","since":1,"state":"unclaimed"},"table":"actual"}
-{"event":"changed","row":{"cell":"c1","count":0,"error":false,"index":0,"instance":"0.1","presence":"ordinary","process":"web","since":1,"state":"claimed"},"table":"actual"}
-{"event":"created","row":{"cell":null,"count":0,"error":false,"index":1,"instance":null,"presence":"ordinary","process":"web","since":1,"state":"unclaimed"},"table":"actual"}
-{"event":"changed","row":{"cell":"c2","count":0,"error":false,"index":1,"instance":"1.1","presence":"ordinary","process":"web","since":1,"state":"claimed"},"table":"actual"}
-{"actor":"c1","answer":"none","call":"die","line":10,"subject":"c1"}
-{"asked":2,"complete":false,"foreign":0,"line":12,"lost":1,"op":"round","own":0,"refused":0,"stopped":0,"unplaced":[]}
-{"actor":"c1","answer":"ok","call":"join","line":14,"subject":"c1"}
-{"event":"changed","row":{"cell":"c1","containers":10,"disk":4096,"epoch":7,"evacuating":false,"memory":1024,"tag":null,"until":604,"zone":"z1"},"table":"cell"}
-{"asked":2,"complete":true,"foreign":0,"line":16,"lost":0,"op":"round","own":2,"refused":0,"stopped":0,"unplaced":[]}
-{"event":"changed","row":{"cell":null,"count":0,"error":false,"index":0,"instance":null,"presence":"ordinary","process":"web","since":5,"state":"unclaimed"},"table":"actual"}
-{"event":"changed","row":{"cell":"c1","count":0,"error":false,"index":0,"instance":"7.1","presence":"ordinary","process":"web","since":5,"state":"claimed"},"table":"actual"}
-{"done":10,"doubts":0,"next":10,"phases":8}
-"#,
-    );
-}
-
-#[test]
-fn a_round_gives_back_what_has_waited_too_long(rt: HostRuntime) {
-    plays(
-        &rt,
-        rt.alloc(),
-        r#"{"at":0}
-{"cell":"c1","op":"join","zone":"z1","memory":1024,"disk":4096,"containers":10,"ttl":100000}
-{"at":0}
-{"client":"cli","op":"task","name":"t1","memory":9000,"disk":1}
-{"client":"cli","op":"task","name":"t2","memory":1,"disk":1}
-{"client":"cli","op":"task","name":"t3","memory":1,"disk":1}
-{"at":10}
-{"client":"cli","op":"cancel","name":"t2"}
-{"client":"cli","op":"cancel","name":"t3"}
-{"client":"cli","op":"resolve","name":"t3"}
-{"at":39}
-{"op":"round"}
-{"at":40}
-{"op":"round"}
-{"at":129}
-{"op":"round"}
-{"at":130}
-{"op":"round"}
-{"at":160}
-{"op":"round"}
-{"at":1799}
-{"op":"round"}
-{"at":1800}
-{"op":"round"}
-"#,
-        r#"{"actor":"c1","answer":"ok","call":"join","line":2,"subject":"c1"}
-{"event":"created","row":{"cell":"c1","containers":10,"disk":4096,"epoch":0,"evacuating":false,"memory":1024,"tag":null,"until":100000,"zone":"z1"},"table":"cell"}
-{"actor":"cli","answer":"ok","call":"task","line":4,"subject":"t1"}
-{"actor":"cli","answer":"ok","call":"task","line":5,"subject":"t2"}
-{"actor":"cli","answer":"ok","call":"task","line":6,"subject":"t3"}
-{"event":"created","row":{"birth":1,"cell":null,"disk":1,"failed":null,"instance":null,"memory":9000,"name":"t1","since":0,"state":"pending","tag":null},"table":"task"}
-{"event":"created","row":{"birth":2,"cell":null,"disk":1,"failed":null,"instance":null,"memory":1,"name":"t2","since":0,"state":"pending","tag":null},"table":"task"}
-{"event":"created","row":{"birth":3,"cell":null,"disk":1,"failed":null,"instance":null,"memory":1,"name":"t3","since":0,"state":"pending","tag":null},"table":"task"}
-{"actor":"cli","answer":"ok","call":"cancel","line":8,"subject":"t2"}
-{"actor":"cli","answer":"ok","call":"cancel","line":9,"subject":"t3"}
-{"actor":"cli","answer":"ok","call":"resolve","line":10,"subject":"t3"}
-{"event":"changed","row":{"birth":2,"cell":null,"disk":1,"failed":true,"instance":null,"memory":1,"name":"t2","since":10,"state":"completed","tag":null},"table":"task"}
-{"event":"changed","row":{"birth":3,"cell":null,"disk":1,"failed":true,"instance":null,"memory":1,"name":"t3","since":10,"state":"completed","tag":null},"table":"task"}
-{"event":"changed","row":{"birth":3,"cell":null,"disk":1,"failed":true,"instance":null,"memory":1,"name":"t3","since":10,"state":"resolving","tag":null},"table":"task"}
-{"asked":1,"complete":false,"foreign":0,"line":12,"lost":0,"op":"round","own":0,"refused":0,"stopped":0,"unplaced":["t1"]}
-{"asked":1,"complete":false,"foreign":0,"line":14,"lost":0,"op":"round","own":1,"refused":0,"stopped":0,"unplaced":["t1"]}
-{"event":"changed","row":{"birth":3,"cell":null,"disk":1,"failed":true,"instance":null,"memory":1,"name":"t3","since":40,"state":"completed","tag":null},"table":"task"}
-{"asked":1,"complete":false,"foreign":0,"line":16,"lost":0,"op":"round","own":0,"refused":0,"stopped":0,"unplaced":["t1"]}
-{"asked":1,"complete":false,"foreign":0,"line":18,"lost":0,"op":"round","own":1,"refused":0,"stopped":0,"unplaced":["t1"]}
-{"event":"removed","row":{"birth":2,"cell":null,"disk":1,"failed":true,"instance":null,"memory":1,"name":"t2","since":10,"state":"completed","tag":null},"table":"task"}
-{"asked":1,"complete":false,"foreign":0,"line":20,"lost":0,"op":"round","own":1,"refused":0,"stopped":0,"unplaced":["t1"]}
-{"event":"removed","row":{"birth":3,"cell":null,"disk":1,"failed":true,"instance":null,"memory":1,"name":"t3","since":40,"state":"completed","tag":null},"table":"task"}
-{"asked":1,"complete":false,"foreign":0,"line":22,"lost":0,"op":"round","own":0,"refused":0,"stopped":0,"unplaced":["t1"]}
-{"asked":1,"complete":true,"foreign":0,"line":24,"lost":0,"op":"round","own":1,"refused":0,"stopped":0,"unplaced":[]}
-{"event":"changed","row":{"birth":1,"cell":null,"disk":1,"failed":true,"instance":null,"memory":9000,"name":"t1","since":1800,"state":"completed","tag":null},"table":"task"}
-{"done":11,"doubts":0,"next":11,"phases":10}
-"#,
-    );
-}
-
-#[test]
-fn a_round_mends_the_rows_by_what_the_cells_have(rt: HostRuntime) {
-    plays(
-        &rt,
-        rt.alloc(),
-        r#"{"at":0}
-{"cell":"c1","op":"join","zone":"z1","memory":1024,"disk":4096,"containers":10,"ttl":100000}
-{"at":0}
-{"client":"cli","op":"desire","process":"web","domain":"apps","instances":3,"memory":64,"disk":128}
-{"client":"cli","op":"task","name":"job","memory":64,"disk":64}
-{"client":"cli","op":"task","name":"job2","memory":64,"disk":64}
-{"at":1}
-{"op":"round"}
-{"at":2}
-{"cell":"c1","op":"up"}
-{"at":3}
-{"cell":"c1","op":"crash","process":"web","index":0,"lost":"call"}
-{"cell":"c1","op":"finish","name":"job","failed":true,"lost":"call"}
-{"at":4}
-{"op":"round"}
-{"at":5}
-{"cell":"c1","op":"join","zone":"z1","memory":1024,"disk":4096,"containers":10,"ttl":100000}
-{"at":6}
-{"op":"round"}
-"#,
-        r#"{"actor":"c1","answer":"ok","call":"join","line":2,"subject":"c1"}
-{"event":"created","row":{"cell":"c1","containers":10,"disk":4096,"epoch":0,"evacuating":false,"memory":1024,"tag":null,"until":100000,"zone":"z1"},"table":"cell"}
-{"actor":"cli","answer":"ok","call":"desire","line":4,"subject":"web"}
-{"actor":"cli","answer":"ok","call":"task","line":5,"subject":"job"}
-{"actor":"cli","answer":"ok","call":"task","line":6,"subject":"job2"}
-{"event":"created","row":{"disk":128,"domain":"apps","instances":3,"memory":64,"port":8080,"process":"web","route":null,"tag":null},"table":"desired"}
-{"event":"created","row":{"birth":2,"cell":null,"disk":64,"failed":null,"instance":null,"memory":64,"name":"job","since":0,"state":"pending","tag":null},"table":"task"}
-{"event":"created","row":{"birth":3,"cell":null,"disk":64,"failed":null,"instance":null,"memory":64,"name":"job2","since":0,"state":"pending","tag":null},"table":"task"}
-{"asked":1,"complete":true,"foreign":0,"line":8,"lost":0,"op":"round","own":8,"refused":0,"stopped":0,"unplaced":[]}
-{"event":"created","row":{"cell":null,"count":0,"error":false,"index":0,"instance":null,"presence":"ordinary","process":"web","since":1,"state":"unclaimed"},"table":"actual"}
-{"event":"changed","row":{"cell":"c1","count":0,"error":false,"index":0,"instance":"0.1","presence":"ordinary","process":"web","since":1,"state":"claimed"},"table":"actual"}
-{"event":"created","row":{"cell":null,"count":0,"error":false,"index":1,"instance":null,"presence":"ordinary","process":"web","since":1,"state":"unclaimed"},"table":"actual"}
-{"event":"changed","row":{"cell":"c1","count":0,"error":false,"index":1,"instance":"0.4","presence":"ordinary","process":"web","since":1,"state":"claimed"},"table":"actual"}
-{"event":"created","row":{"cell":null,"count":0,"error":false,"index":2,"instance":null,"presence":"ordinary","process":"web","since":1,"state":"unclaimed"},"table":"actual"}
-{"event":"changed","row":{"cell":"c1","count":0,"error":false,"index":2,"instance":"0.5","presence":"ordinary","process":"web","since":1,"state":"claimed"},"table":"actual"}
-{"event":"changed","row":{"birth":2,"cell":"c1","disk":64,"failed":null,"instance":"0.2","memory":64,"name":"job","since":1,"state":"running","tag":null},"table":"task"}
-{"event":"changed","row":{"birth":3,"cell":"c1","disk":64,"failed":null,"instance":"0.3","memory":64,"name":"job2","since":1,"state":"running","tag":null},"table":"task"}
-{"actor":"c1","answer":"ok","call":"start","line":10,"subject":"web/0"}
-{"actor":"c1","answer":"ok","call":"start","line":10,"subject":"web/1"}
-{"actor":"c1","answer":"ok","call":"start","line":10,"subject":"web/2"}
-{"event":"changed","row":{"cell":"c1","count":0,"error":false,"index":0,"instance":"0.1","presence":"ordinary","process":"web","since":2,"state":"running"},"table":"actual"}
-{"event":"changed","row":{"cell":"c1","count":0,"error":false,"index":1,"instance":"0.4","presence":"ordinary","process":"web","since":2,"state":"running"},"table":"actual"}
-{"event":"changed","row":{"cell":"c1","count":0,"error":false,"index":2,"instance":"0.5","presence":"ordinary","process":"web","since":2,"state":"running"},"table":"actual"}
-{"actor":"c1","answer":"lost call","call":"crash","line":12,"subject":"web/0"}
-{"actor":"c1","answer":"lost call","call":"completetask","line":13,"subject":"job"}
-{"asked":1,"complete":true,"foreign":0,"line":15,"lost":0,"op":"round","own":3,"refused":0,"stopped":2,"unplaced":[]}
-{"event":"changed","row":{"cell":null,"count":1,"error":false,"index":0,"instance":null,"presence":"ordinary","process":"web","since":4,"state":"unclaimed"},"table":"actual"}
-{"event":"changed","row":{"cell":"c1","count":1,"error":false,"index":0,"instance":"0.6","presence":"ordinary","process":"web","since":4,"state":"claimed"},"table":"actual"}
-{"event":"changed","row":{"birth":2,"cell":null,"disk":64,"failed":true,"instance":null,"memory":64,"name":"job","since":4,"state":"completed","tag":null},"table":"task"}
-{"actor":"c1","answer":"ok","call":"join","line":17,"subject":"c1"}
-{"event":"changed","row":{"cell":"c1","containers":10,"disk":4096,"epoch":18,"evacuating":false,"memory":1024,"tag":null,"until":100005,"zone":"z1"},"table":"cell"}
-{"asked":1,"complete":true,"foreign":0,"line":19,"lost":0,"op":"round","own":7,"refused":0,"stopped":0,"unplaced":[]}
-{"event":"changed","row":{"cell":null,"count":1,"error":false,"index":0,"instance":null,"presence":"ordinary","process":"web","since":6,"state":"unclaimed"},"table":"actual"}
-{"event":"changed","row":{"cell":"c1","count":1,"error":false,"index":0,"instance":"18.1","presence":"ordinary","process":"web","since":6,"state":"claimed"},"table":"actual"}
-{"event":"changed","row":{"cell":null,"count":0,"error":false,"index":1,"instance":null,"presence":"ordinary","process":"web","since":6,"state":"unclaimed"},"table":"actual"}
-{"event":"changed","row":{"cell":"c1","count":0,"error":false,"index":1,"instance":"18.2","presence":"ordinary","process":"web","since":6,"state":"claimed"},"table":"actual"}
-{"event":"changed","row":{"cell":null,"count":0,"error":false,"index":2,"instance":null,"presence":"ordinary","process":"web","since":6,"state":"unclaimed"},"table":"actual"}
-{"event":"changed","row":{"cell":"c1","count":0,"error":false,"index":2,"instance":"18.3","presence":"ordinary","process":"web","since":6,"state":"claimed"},"table":"actual"}
-{"event":"changed","row":{"birth":3,"cell":null,"disk":64,"failed":true,"instance":null,"memory":64,"name":"job2","since":6,"state":"completed","tag":null},"table":"task"}
-{"done":26,"doubts":0,"next":26,"phases":8}
-"#,
-    );
-}
-
-#[test]
-fn a_round_takes_away_what_is_wanted_no_more(rt: HostRuntime) {
-    plays(
-        &rt,
-        rt.alloc(),
-        r#"{"at":0}
-{"cell":"c1","op":"join","zone":"z1","memory":1024,"disk":4096,"containers":10,"ttl":600}
-{"at":0}
-{"cell":"c2","op":"join","zone":"z2","memory":1024,"disk":4096,"containers":10,"ttl":600}
-{"at":0}
-{"client":"cli","op":"desire","process":"web","domain":"apps","instances":2,"memory":64,"disk":128}
-{"at":1}
-{"op":"round"}
-{"at":2}
-{"cell":"c1","op":"up"}
-{"at":3}
-{"cell":"c1","op":"evacuate"}
-{"at":4}
-{"client":"cli","op":"update","process":"web","instances":1}
-{"at":5}
-{"op":"round"}
-{"at":6}
-{"client":"cli","op":"undesire","process":"web"}
-{"at":7}
-{"op":"round"}
-"#,
-        r#"{"actor":"c1","answer":"ok","call":"join","line":2,"subject":"c1"}
-{"event":"created","row":{"cell":"c1","containers":10,"disk":4096,"epoch":0,"evacuating":false,"memory":1024,"tag":null,"until":600,"zone":"z1"},"table":"cell"}
-{"actor":"c2","answer":"ok","call":"join","line":4,"subject":"c2"}
-{"event":"created","row":{"cell":"c2","containers":10,"disk":4096,"epoch":1,"evacuating":false,"memory":1024,"tag":null,"until":600,"zone":"z2"},"table":"cell"}
-{"actor":"cli","answer":"ok","call":"desire","line":6,"subject":"web"}
-{"event":"created","row":{"disk":128,"domain":"apps","instances":2,"memory":64,"port":8080,"process":"web","route":null,"tag":null},"table":"desired"}
-{"asked":2,"complete":true,"foreign":0,"line":8,"lost":0,"op":"round","own":4,"refused":0,"stopped":0,"unplaced":[]}
-{"event":"created","row":{"cell":null,"count":0,"error":false,"index":0,"instance":null,"presence":"ordinary","process":"web","since":1,"state":"unclaimed"},"table":"actual"}
-{"event":"changed","row":{"cell":"c1","count":0,"error":false,"index":0,"instance":"0.1","presence":"ordinary","process":"web","since":1,"state":"claimed"},"table":"actual"}
-{"event":"created","row":{"cell":null,"count":0,"error":false,"index":1,"instance":null,"presence":"ordinary","process":"web","since":1,"state":"unclaimed"},"table":"actual"}
-{"event":"changed","row":{"cell":"c2","count":0,"error":false,"index":1,"instance":"1.1","presence":"ordinary","process":"web","since":1,"state":"claimed"},"table":"actual"}
-{"actor":"c1","answer":"ok","call":"start","line":10,"subject":"web/0"}
-{"event":"changed","row":{"cell":"c1","count":0,"error":false,"index":0,"instance":"0.1","presence":"ordinary","process":"web","since":2,"state":"running"},"table":"actual"}
-{"actor":"c1","answer":"ok","call":"drain","line":12,"subject":"c1"}
-{"actor":"c1","answer":"ok","call":"evacuate","line":12,"subject":"web/0"}
-{"event":"changed","row":{"cell":null,"count":0,"error":false,"index":0,"instance":null,"presence":"ordinary","process":"web","since":3,"state":"unclaimed"},"table":"actual"}
-{"event":"created","row":{"cell":"c1","count":0,"error":false,"index":0,"instance":"0.1","presence":"evacuating","process":"web","since":2,"state":"running"},"table":"actual"}
-{"event":"changed","row":{"cell":"c1","containers":10,"disk":4096,"epoch":0,"evacuating":true,"memory":1024,"tag":null,"until":600,"zone":"z1"},"table":"cell"}
-{"actor":"cli","answer":"ok","call":"update","line":14,"subject":"web"}
-{"event":"changed","row":{"disk":128,"domain":"apps","instances":1,"memory":64,"port":8080,"process":"web","route":null,"tag":null},"table":"desired"}
-{"asked":2,"complete":true,"foreign":0,"line":16,"lost":0,"op":"round","own":2,"refused":0,"stopped":1,"unplaced":[]}
-{"event":"changed","row":{"cell":"c2","count":0,"error":false,"index":0,"instance":"1.2","presence":"ordinary","process":"web","since":5,"state":"claimed"},"table":"actual"}
-{"event":"removed","row":{"cell":"c2","count":0,"error":false,"index":1,"instance":"1.1","presence":"ordinary","process":"web","since":1,"state":"claimed"},"table":"actual"}
-{"actor":"cli","answer":"ok","call":"undesire","line":18,"subject":"web"}
-{"event":"removed","row":{"disk":128,"domain":"apps","instances":1,"memory":64,"port":8080,"process":"web","route":null,"tag":null},"table":"desired"}
-{"asked":2,"complete":true,"foreign":0,"line":20,"lost":0,"op":"round","own":2,"refused":0,"stopped":2,"unplaced":[]}
-{"event":"removed","row":{"cell":"c2","count":0,"error":false,"index":0,"instance":"1.2","presence":"ordinary","process":"web","since":5,"state":"claimed"},"table":"actual"}
-{"event":"removed","row":{"cell":"c1","count":0,"error":false,"index":0,"instance":"0.1","presence":"evacuating","process":"web","since":2,"state":"running"},"table":"actual"}
-{"done":16,"doubts":0,"next":16,"phases":10}
-"#,
-    );
-}
-
-#[test]
-fn a_crashed_instance_is_tried_again_when_it_is_due(rt: HostRuntime) {
-    plays(
-        &rt,
-        rt.alloc(),
-        r#"{"at":0}
-{"cell":"c1","op":"join","zone":"z1","memory":1024,"disk":4096,"containers":10,"ttl":600}
-{"at":0}
-{"client":"cli","op":"desire","process":"web","domain":"apps","instances":1,"memory":64,"disk":128}
-{"at":0}
-{"cell":"c1","op":"run","process":"web","index":0,"memory":64,"disk":128}
-{"at":1}
-{"op":"round"}
-{"at":2}
-{"cell":"c1","op":"run","process":"web","index":0,"memory":64,"disk":128}
-{"cell":"c1","op":"crash","process":"web","index":0}
-{"at":2}
-{"cell":"c1","op":"run","process":"web","index":0,"memory":64,"disk":128}
-{"cell":"c1","op":"crash","process":"web","index":0}
-{"at":2}
-{"cell":"c1","op":"run","process":"web","index":0,"memory":64,"disk":128}
-{"cell":"c1","op":"crash","process":"web","index":0}
-{"at":2}
-{"cell":"c1","op":"run","process":"web","index":0,"memory":64,"disk":128}
-{"cell":"c1","op":"crash","process":"web","index":0}
-{"at":31}
-{"op":"round"}
-{"at":31}
-{"client":"cli","op":"restart","process":"web","index":0}
-{"at":32}
-{"op":"round"}
-"#,
-        r#"{"actor":"c1","answer":"ok","call":"join","line":2,"subject":"c1"}
-{"event":"created","row":{"cell":"c1","containers":10,"disk":4096,"epoch":0,"evacuating":false,"memory":1024,"tag":null,"until":600,"zone":"z1"},"table":"cell"}
-{"actor":"cli","answer":"ok","call":"desire","line":4,"subject":"web"}
-{"event":"created","row":{"disk":128,"domain":"apps","instances":1,"memory":64,"port":8080,"process":"web","route":null,"tag":null},"table":"desired"}
-{"actor":"c1","answer":"refused","call":"start","line":6,"subject":"web/0","why":"unknown"}
-{"asked":1,"complete":true,"foreign":0,"line":8,"lost":0,"op":"round","own":2,"refused":0,"stopped":0,"unplaced":[]}
-{"event":"created","row":{"cell":null,"count":0,"error":false,"index":0,"instance":null,"presence":"ordinary","process":"web","since":1,"state":"unclaimed"},"table":"actual"}
-{"event":"changed","row":{"cell":"c1","count":0,"error":false,"index":0,"instance":"0.2","presence":"ordinary","process":"web","since":1,"state":"claimed"},"table":"actual"}
-{"actor":"c1","answer":"ok","call":"start","line":10,"subject":"web/0"}
-{"actor":"c1","answer":"ok","call":"crash","line":11,"subject":"web/0"}
-{"event":"changed","row":{"cell":"c1","count":0,"error":false,"index":0,"instance":"0.2","presence":"ordinary","process":"web","since":2,"state":"running"},"table":"actual"}
-{"event":"changed","row":{"cell":null,"count":1,"error":false,"index":0,"instance":null,"presence":"ordinary","process":"web","since":2,"state":"unclaimed"},"table":"actual"}
-{"actor":"c1","answer":"ok","call":"start","line":13,"subject":"web/0"}
-{"actor":"c1","answer":"ok","call":"crash","line":14,"subject":"web/0"}
-{"event":"changed","row":{"cell":"c1","count":1,"error":false,"index":0,"instance":"0.3","presence":"ordinary","process":"web","since":2,"state":"running"},"table":"actual"}
-{"event":"changed","row":{"cell":null,"count":2,"error":false,"index":0,"instance":null,"presence":"ordinary","process":"web","since":2,"state":"unclaimed"},"table":"actual"}
-{"actor":"c1","answer":"ok","call":"start","line":16,"subject":"web/0"}
-{"actor":"c1","answer":"ok","call":"crash","line":17,"subject":"web/0"}
-{"event":"changed","row":{"cell":"c1","count":2,"error":false,"index":0,"instance":"0.4","presence":"ordinary","process":"web","since":2,"state":"running"},"table":"actual"}
-{"event":"changed","row":{"cell":null,"count":3,"error":false,"index":0,"instance":null,"presence":"ordinary","process":"web","since":2,"state":"unclaimed"},"table":"actual"}
-{"actor":"c1","answer":"ok","call":"start","line":19,"subject":"web/0"}
-{"actor":"c1","answer":"ok","call":"crash","line":20,"subject":"web/0"}
-{"event":"changed","row":{"cell":"c1","count":3,"error":false,"index":0,"instance":"0.5","presence":"ordinary","process":"web","since":2,"state":"running"},"table":"actual"}
-{"event":"changed","row":{"cell":null,"count":4,"error":false,"index":0,"instance":null,"presence":"ordinary","process":"web","since":2,"state":"crashed"},"table":"actual"}
-{"asked":1,"complete":true,"foreign":0,"line":22,"lost":0,"op":"round","own":0,"refused":0,"stopped":0,"unplaced":[]}
-{"actor":"cli","answer":"refused","call":"restart","line":24,"subject":"web/0","why":"not due 32"}
-{"asked":1,"complete":true,"foreign":0,"line":26,"lost":0,"op":"round","own":2,"refused":0,"stopped":0,"unplaced":[]}
-{"event":"changed","row":{"cell":null,"count":4,"error":false,"index":0,"instance":null,"presence":"ordinary","process":"web","since":32,"state":"unclaimed"},"table":"actual"}
-{"event":"changed","row":{"cell":"c1","count":4,"error":false,"index":0,"instance":"0.6","presence":"ordinary","process":"web","since":32,"state":"claimed"},"table":"actual"}
-{"done":14,"doubts":0,"next":14,"phases":11}
-"#,
-    );
+fn a_round_beside_clients_that_change_nothing_is_told_where_its_line_stands(rt: HostRuntime) {
+    plays(&rt, rt.alloc(), BESIDE_LINES, BESIDE_TEXT);
 }

@@ -1,0 +1,111 @@
+//! Lines of another shape than a moment, a round, or the line of a client or a cell has.
+use super::faults::{BAD_SHAPE, are_refused};
+use super::*;
+
+#[test]
+fn a_moment_or_a_round_of_another_shape_is_a_bad_shape(rt: HostRuntime) {
+    are_refused(
+        &rt,
+        rt.alloc(),
+        BAD_SHAPE,
+        &[
+            br#"[]"#,
+            br#"5"#,
+            br#""at""#,
+            br#"null"#,
+            br#"{}"#,
+            br#"{"at":null}"#,
+            br#"{"at":"5"}"#,
+            br#"{"at":[5]}"#,
+            br#"{"at":-1}"#,
+            br#"{"at":-0}"#,
+            br#"{"at":5.0}"#,
+            br#"{"at":5e0}"#,
+            br#"{"at":4294967296}"#,
+            br#"{"at":18446744073709551616}"#,
+            br#"{"at":5,"op":"round"}"#,
+            br#"{"at":5,"to":6}"#,
+            br#"{"At":5}"#,
+            br#"{"op":null}"#,
+            br#"{"op":"rounds"}"#,
+            br#"{"op":"die"}"#,
+            br#"{"op":"round","times":1}"#,
+            br#"{"op":"round","lost":"call"}"#,
+            br#"{"op":"round","lose":[]}"#,
+            br#"{"op":"round","lose_ask":"c1"}"#,
+            br#"{"op":"round","lose_stop":null}"#,
+            br#"{"op":"round","lose_start":[1]}"#,
+            br#"{"op":"round","lose_reply":{}}"#,
+        ],
+    );
+}
+
+#[test]
+fn a_clients_line_of_another_shape_is_a_bad_shape(rt: HostRuntime) {
+    are_refused(
+        &rt,
+        rt.alloc(),
+        BAD_SHAPE,
+        &[
+            br#"{"client":"c","cell":"c","op":"die"}"#,
+            br#"{"client":"c"}"#,
+            br#"{"client":1,"op":"undesire","process":"p"}"#,
+            br#"{"client":"c","op":"Undesire","process":"p"}"#,
+            br#"{"client":"c","op":"make","process":"p","index":0}"#,
+            br#"{"client":"c","op":"die"}"#,
+            br#"{"client":"c","op":"round"}"#,
+            br#"{"client":"c","op":"undesire"}"#,
+            br#"{"client":"c","op":"undesire","name":"p"}"#,
+            br#"{"client":"c","op":"undesire","process":"p","index":0}"#,
+            br#"{"client":"c","op":"undesire","process":"p","times":0}"#,
+            br#"{"client":"c","op":"undesire","process":"p","times":1001}"#,
+            br#"{"client":"c","op":"undesire","process":"p","times":null}"#,
+            br#"{"client":"c","op":"undesire","process":"p","lost":"Call"}"#,
+            br#"{"client":"c","op":"undesire","process":"p","lost":null}"#,
+            br#"{"client":"c","op":"restart","process":"p"}"#,
+            br#"{"client":"c","op":"restart","process":"p","index":"0"}"#,
+            br#"{"client":"c","op":"update","process":"p"}"#,
+            br#"{"client":"c","op":"update","process":"p","instances":1,"port":65536}"#,
+            br#"{"client":"c","op":"update","process":"p","instances":1,"route":null}"#,
+            br#"{"client":"c","op":"update","process":"p","instances":1,"tag":"t"}"#,
+            br#"{"client":"c","op":"desire","process":"p","domain":"d","instances":1,"memory":1}"#,
+            br#"{"client":"c","op":"task","name":"t","memory":1}"#,
+            br#"{"client":"c","op":"task","name":"t","memory":1,"disk":4294967296}"#,
+            br#"{"client":"c","op":"task","name":"t","memory":1,"disk":1,"tag":1}"#,
+            br#"{"client":"c","op":"cancel","name":"t","failed":true}"#,
+        ],
+    );
+}
+
+#[test]
+fn a_cells_line_of_another_shape_is_a_bad_shape(rt: HostRuntime) {
+    are_refused(
+        &rt,
+        rt.alloc(),
+        BAD_SHAPE,
+        &[
+            br#"{"cell":"c","op":"undesire","process":"p"}"#,
+            br#"{"cell":1,"op":"die"}"#,
+            br#"{"cell":"c","op":"die","memory":1}"#,
+            br#"{"cell":"c","op":"renew"}"#,
+            br#"{"cell":"c","op":"join","zone":"z","memory":1,"disk":1,"ttl":1}"#,
+            br#"{"cell":"c","op":"claim","process":"p","memory":1,"disk":1}"#,
+            br#"{"cell":"c","op":"claim","index":0,"memory":1,"disk":1}"#,
+            br#"{"cell":"c","op":"claim","memory":1,"disk":1}"#,
+            br#"{"cell":"c","op":"claim","process":"p","index":0,"name":"t","memory":1,"disk":1}"#,
+            br#"{"cell":"c","op":"claim","index":0,"name":"t","memory":1,"disk":1}"#,
+            br#"{"cell":"c","op":"claim","name":"t","memory":1}"#,
+            br#"{"cell":"c","op":"run","name":"t","memory":1,"disk":1}"#,
+            br#"{"cell":"c","op":"up","process":"p"}"#,
+            br#"{"cell":"c","op":"up","index":0}"#,
+            br#"{"cell":"c","op":"up","process":"p","index":0,"name":"t"}"#,
+            br#"{"cell":"c","op":"crash","name":"t"}"#,
+            br#"{"cell":"c","op":"finish","process":"p","index":0}"#,
+            br#"{"cell":"c","op":"finish","name":"t","failed":0}"#,
+            br#"{"cell":"c","op":"finish","name":"t","failed":null}"#,
+            br#"{"cell":"c","op":"settle","process":"p","index":0}"#,
+            br#"{"cell":"c","op":"evacuate","lost":"both"}"#,
+            br#"{"cell":"c","op":"die","times":1.0}"#,
+        ],
+    );
+}

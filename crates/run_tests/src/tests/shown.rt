@@ -1,0 +1,199 @@
+//! Runs, and what is shown of the board behind them.
+use super::*;
+
+const REALISTIC_LINES: &str = r#"{"at":0}
+{"cell":"c1","op":"join","zone":"z1","memory":4096,"disk":16384,"containers":50,"ttl":3600}
+{"at":0}
+{"cell":"c2","op":"join","zone":"z1","memory":4096,"disk":16384,"containers":50,"ttl":3600}
+{"at":0}
+{"cell":"c3","op":"join","zone":"z2","memory":4096,"disk":16384,"containers":50,"ttl":3600}
+{"at":0}
+{"cell":"c4","op":"join","zone":"z2","memory":4096,"disk":16384,"containers":50,"ttl":3600}
+{"at":0}
+{"client":"cf","op":"desire","process":"11111111-2222-3333-4444-555555555555-66666666-7777-8888-9999-aaaaaaaaaaaa","domain":"cf-apps","instances":3,"memory":256,"disk":1024}
+{"client":"cf","op":"desire","process":"bbbbbbbb-2222-3333-4444-555555555555-66666666-7777-8888-9999-aaaaaaaaaaaa","domain":"cf-apps","instances":1,"memory":512,"disk":1024}
+{"client":"cf","op":"task","name":"migrate-1","memory":128,"disk":512}
+{"at":1}
+{"op":"round"}
+{"at":5}
+{"cell":"c1","op":"up"}
+{"at":5}
+{"cell":"c2","op":"up"}
+{"at":5}
+{"cell":"c3","op":"up"}
+{"at":5}
+{"cell":"c4","op":"up"}
+{"at":20}
+{"cell":"c3","op":"finish","name":"migrate-1"}
+{"at":20}
+{"cell":"c2","op":"crash","process":"11111111-2222-3333-4444-555555555555-66666666-7777-8888-9999-aaaaaaaaaaaa","index":0}
+{"at":25}
+{"client":"cf","op":"resolve","name":"migrate-1"}
+{"client":"cf","op":"delete","name":"migrate-1"}
+{"at":25}
+{"cell":"c4","op":"evacuate"}
+{"at":30}
+{"op":"round"}
+{"at":35}
+{"cell":"c1","op":"up"}
+{"at":35}
+{"cell":"c2","op":"up"}
+{"at":40}
+{"op":"round"}
+"#;
+
+const REALISTIC_TEXT: &str = r#"{"actor":"c1","answer":"ok","call":"join","line":2,"subject":"c1"}
+{"event":"created","row":{"cell":"c1","containers":50,"disk":16384,"epoch":0,"evacuating":false,"memory":4096,"tag":null,"until":3600,"zone":"z1"},"table":"cell"}
+{"actor":"c2","answer":"ok","call":"join","line":4,"subject":"c2"}
+{"event":"created","row":{"cell":"c2","containers":50,"disk":16384,"epoch":1,"evacuating":false,"memory":4096,"tag":null,"until":3600,"zone":"z1"},"table":"cell"}
+{"actor":"c3","answer":"ok","call":"join","line":6,"subject":"c3"}
+{"event":"created","row":{"cell":"c3","containers":50,"disk":16384,"epoch":2,"evacuating":false,"memory":4096,"tag":null,"until":3600,"zone":"z2"},"table":"cell"}
+{"actor":"c4","answer":"ok","call":"join","line":8,"subject":"c4"}
+{"event":"created","row":{"cell":"c4","containers":50,"disk":16384,"epoch":3,"evacuating":false,"memory":4096,"tag":null,"until":3600,"zone":"z2"},"table":"cell"}
+{"actor":"cf","answer":"ok","call":"desire","line":10,"subject":"11111111-2222-3333-4444-555555555555-66666666-7777-8888-9999-aaaaaaaaaaaa"}
+{"actor":"cf","answer":"ok","call":"desire","line":11,"subject":"bbbbbbbb-2222-3333-4444-555555555555-66666666-7777-8888-9999-aaaaaaaaaaaa"}
+{"actor":"cf","answer":"ok","call":"task","line":12,"subject":"migrate-1"}
+{"event":"created","row":{"disk":1024,"domain":"cf-apps","instances":3,"memory":256,"port":8080,"process":"11111111-2222-3333-4444-555555555555-66666666-7777-8888-9999-aaaaaaaaaaaa","route":null,"tag":null},"table":"desired"}
+{"event":"created","row":{"disk":1024,"domain":"cf-apps","instances":1,"memory":512,"port":8080,"process":"bbbbbbbb-2222-3333-4444-555555555555-66666666-7777-8888-9999-aaaaaaaaaaaa","route":null,"tag":null},"table":"desired"}
+{"event":"created","row":{"birth":6,"cell":null,"disk":512,"failed":null,"instance":null,"memory":128,"name":"migrate-1","since":0,"state":"pending","tag":null},"table":"task"}
+{"asked":4,"complete":true,"foreign":0,"line":14,"lost":0,"op":"round","own":9,"refused":0,"stopped":0,"unplaced":[]}
+{"event":"created","row":{"cell":null,"count":0,"error":false,"index":0,"instance":null,"presence":"ordinary","process":"11111111-2222-3333-4444-555555555555-66666666-7777-8888-9999-aaaaaaaaaaaa","since":1,"state":"unclaimed"},"table":"actual"}
+{"event":"changed","row":{"cell":"c2","count":0,"error":false,"index":0,"instance":"1.1","presence":"ordinary","process":"11111111-2222-3333-4444-555555555555-66666666-7777-8888-9999-aaaaaaaaaaaa","since":1,"state":"claimed"},"table":"actual"}
+{"event":"created","row":{"cell":null,"count":0,"error":false,"index":1,"instance":null,"presence":"ordinary","process":"11111111-2222-3333-4444-555555555555-66666666-7777-8888-9999-aaaaaaaaaaaa","since":1,"state":"unclaimed"},"table":"actual"}
+{"event":"changed","row":{"cell":"c4","count":0,"error":false,"index":1,"instance":"3.1","presence":"ordinary","process":"11111111-2222-3333-4444-555555555555-66666666-7777-8888-9999-aaaaaaaaaaaa","since":1,"state":"claimed"},"table":"actual"}
+{"event":"created","row":{"cell":null,"count":0,"error":false,"index":2,"instance":null,"presence":"ordinary","process":"11111111-2222-3333-4444-555555555555-66666666-7777-8888-9999-aaaaaaaaaaaa","since":1,"state":"unclaimed"},"table":"actual"}
+{"event":"changed","row":{"cell":"c3","count":0,"error":false,"index":2,"instance":"2.2","presence":"ordinary","process":"11111111-2222-3333-4444-555555555555-66666666-7777-8888-9999-aaaaaaaaaaaa","since":1,"state":"claimed"},"table":"actual"}
+{"event":"created","row":{"cell":null,"count":0,"error":false,"index":0,"instance":null,"presence":"ordinary","process":"bbbbbbbb-2222-3333-4444-555555555555-66666666-7777-8888-9999-aaaaaaaaaaaa","since":1,"state":"unclaimed"},"table":"actual"}
+{"event":"changed","row":{"cell":"c1","count":0,"error":false,"index":0,"instance":"0.1","presence":"ordinary","process":"bbbbbbbb-2222-3333-4444-555555555555-66666666-7777-8888-9999-aaaaaaaaaaaa","since":1,"state":"claimed"},"table":"actual"}
+{"event":"changed","row":{"birth":6,"cell":"c3","disk":512,"failed":null,"instance":"2.1","memory":128,"name":"migrate-1","since":1,"state":"running","tag":null},"table":"task"}
+{"actor":"c1","answer":"ok","call":"start","line":16,"subject":"bbbbbbbb-2222-3333-4444-555555555555-66666666-7777-8888-9999-aaaaaaaaaaaa/0"}
+{"event":"changed","row":{"cell":"c1","count":0,"error":false,"index":0,"instance":"0.1","presence":"ordinary","process":"bbbbbbbb-2222-3333-4444-555555555555-66666666-7777-8888-9999-aaaaaaaaaaaa","since":5,"state":"running"},"table":"actual"}
+{"actor":"c2","answer":"ok","call":"start","line":18,"subject":"11111111-2222-3333-4444-555555555555-66666666-7777-8888-9999-aaaaaaaaaaaa/0"}
+{"event":"changed","row":{"cell":"c2","count":0,"error":false,"index":0,"instance":"1.1","presence":"ordinary","process":"11111111-2222-3333-4444-555555555555-66666666-7777-8888-9999-aaaaaaaaaaaa","since":5,"state":"running"},"table":"actual"}
+{"actor":"c3","answer":"ok","call":"start","line":20,"subject":"11111111-2222-3333-4444-555555555555-66666666-7777-8888-9999-aaaaaaaaaaaa/2"}
+{"event":"changed","row":{"cell":"c3","count":0,"error":false,"index":2,"instance":"2.2","presence":"ordinary","process":"11111111-2222-3333-4444-555555555555-66666666-7777-8888-9999-aaaaaaaaaaaa","since":5,"state":"running"},"table":"actual"}
+{"actor":"c4","answer":"ok","call":"start","line":22,"subject":"11111111-2222-3333-4444-555555555555-66666666-7777-8888-9999-aaaaaaaaaaaa/1"}
+{"event":"changed","row":{"cell":"c4","count":0,"error":false,"index":1,"instance":"3.1","presence":"ordinary","process":"11111111-2222-3333-4444-555555555555-66666666-7777-8888-9999-aaaaaaaaaaaa","since":5,"state":"running"},"table":"actual"}
+{"actor":"c3","answer":"ok","call":"completetask","line":24,"subject":"migrate-1"}
+{"event":"changed","row":{"birth":6,"cell":null,"disk":512,"failed":false,"instance":null,"memory":128,"name":"migrate-1","since":20,"state":"completed","tag":null},"table":"task"}
+{"actor":"c2","answer":"ok","call":"crash","line":26,"subject":"11111111-2222-3333-4444-555555555555-66666666-7777-8888-9999-aaaaaaaaaaaa/0"}
+{"event":"changed","row":{"cell":null,"count":1,"error":false,"index":0,"instance":null,"presence":"ordinary","process":"11111111-2222-3333-4444-555555555555-66666666-7777-8888-9999-aaaaaaaaaaaa","since":20,"state":"unclaimed"},"table":"actual"}
+{"actor":"cf","answer":"ok","call":"resolve","line":28,"subject":"migrate-1"}
+{"actor":"cf","answer":"ok","call":"delete","line":29,"subject":"migrate-1"}
+{"event":"changed","row":{"birth":6,"cell":null,"disk":512,"failed":false,"instance":null,"memory":128,"name":"migrate-1","since":25,"state":"resolving","tag":null},"table":"task"}
+{"event":"removed","row":{"birth":6,"cell":null,"disk":512,"failed":false,"instance":null,"memory":128,"name":"migrate-1","since":25,"state":"resolving","tag":null},"table":"task"}
+{"actor":"c4","answer":"ok","call":"drain","line":31,"subject":"c4"}
+{"actor":"c4","answer":"ok","call":"evacuate","line":31,"subject":"11111111-2222-3333-4444-555555555555-66666666-7777-8888-9999-aaaaaaaaaaaa/1"}
+{"event":"changed","row":{"cell":null,"count":0,"error":false,"index":1,"instance":null,"presence":"ordinary","process":"11111111-2222-3333-4444-555555555555-66666666-7777-8888-9999-aaaaaaaaaaaa","since":25,"state":"unclaimed"},"table":"actual"}
+{"event":"created","row":{"cell":"c4","count":0,"error":false,"index":1,"instance":"3.1","presence":"evacuating","process":"11111111-2222-3333-4444-555555555555-66666666-7777-8888-9999-aaaaaaaaaaaa","since":5,"state":"running"},"table":"actual"}
+{"event":"changed","row":{"cell":"c4","containers":50,"disk":16384,"epoch":3,"evacuating":true,"memory":4096,"tag":null,"until":3600,"zone":"z2"},"table":"cell"}
+{"asked":4,"complete":true,"foreign":0,"line":33,"lost":0,"op":"round","own":2,"refused":0,"stopped":0,"unplaced":[]}
+{"event":"changed","row":{"cell":"c2","count":1,"error":false,"index":0,"instance":"1.2","presence":"ordinary","process":"11111111-2222-3333-4444-555555555555-66666666-7777-8888-9999-aaaaaaaaaaaa","since":30,"state":"claimed"},"table":"actual"}
+{"event":"changed","row":{"cell":"c1","count":0,"error":false,"index":1,"instance":"0.2","presence":"ordinary","process":"11111111-2222-3333-4444-555555555555-66666666-7777-8888-9999-aaaaaaaaaaaa","since":30,"state":"claimed"},"table":"actual"}
+{"actor":"c1","answer":"ok","call":"start","line":35,"subject":"11111111-2222-3333-4444-555555555555-66666666-7777-8888-9999-aaaaaaaaaaaa/1"}
+{"event":"changed","row":{"cell":"c1","count":0,"error":false,"index":1,"instance":"0.2","presence":"ordinary","process":"11111111-2222-3333-4444-555555555555-66666666-7777-8888-9999-aaaaaaaaaaaa","since":35,"state":"running"},"table":"actual"}
+{"actor":"c2","answer":"ok","call":"start","line":37,"subject":"11111111-2222-3333-4444-555555555555-66666666-7777-8888-9999-aaaaaaaaaaaa/0"}
+{"event":"changed","row":{"cell":"c2","count":1,"error":false,"index":0,"instance":"1.2","presence":"ordinary","process":"11111111-2222-3333-4444-555555555555-66666666-7777-8888-9999-aaaaaaaaaaaa","since":35,"state":"running"},"table":"actual"}
+{"asked":4,"complete":true,"foreign":0,"line":39,"lost":0,"op":"round","own":1,"refused":0,"stopped":1,"unplaced":[]}
+{"event":"removed","row":{"cell":"c4","count":0,"error":false,"index":1,"instance":"3.1","presence":"evacuating","process":"11111111-2222-3333-4444-555555555555-66666666-7777-8888-9999-aaaaaaaaaaaa","since":5,"state":"running"},"table":"actual"}
+{"done":31,"doubts":0,"next":31,"phases":18}
+"#;
+
+const REALISTIC_ROWS: &str =
+    r#"{"row":{"disk":1024,"domain":"cf-apps","instances":3,"memory":256,"port":8080,"process":"11111111-2222-3333-4444-555555555555-66666666-7777-8888-9999-aaaaaaaaaaaa","route":null,"tag":null},"table":"desired"}
+{"row":{"disk":1024,"domain":"cf-apps","instances":1,"memory":512,"port":8080,"process":"bbbbbbbb-2222-3333-4444-555555555555-66666666-7777-8888-9999-aaaaaaaaaaaa","route":null,"tag":null},"table":"desired"}
+{"row":{"cell":"c2","count":1,"error":false,"index":0,"instance":"1.2","presence":"ordinary","process":"11111111-2222-3333-4444-555555555555-66666666-7777-8888-9999-aaaaaaaaaaaa","since":35,"state":"running"},"table":"actual"}
+{"row":{"cell":"c1","count":0,"error":false,"index":1,"instance":"0.2","presence":"ordinary","process":"11111111-2222-3333-4444-555555555555-66666666-7777-8888-9999-aaaaaaaaaaaa","since":35,"state":"running"},"table":"actual"}
+{"row":{"cell":"c3","count":0,"error":false,"index":2,"instance":"2.2","presence":"ordinary","process":"11111111-2222-3333-4444-555555555555-66666666-7777-8888-9999-aaaaaaaaaaaa","since":5,"state":"running"},"table":"actual"}
+{"row":{"cell":"c1","count":0,"error":false,"index":0,"instance":"0.1","presence":"ordinary","process":"bbbbbbbb-2222-3333-4444-555555555555-66666666-7777-8888-9999-aaaaaaaaaaaa","since":5,"state":"running"},"table":"actual"}
+{"row":{"cell":"c1","containers":50,"disk":16384,"epoch":0,"evacuating":false,"memory":4096,"tag":null,"until":3600,"zone":"z1"},"table":"cell"}
+{"row":{"cell":"c2","containers":50,"disk":16384,"epoch":1,"evacuating":false,"memory":4096,"tag":null,"until":3600,"zone":"z1"},"table":"cell"}
+{"row":{"cell":"c3","containers":50,"disk":16384,"epoch":2,"evacuating":false,"memory":4096,"tag":null,"until":3600,"zone":"z2"},"table":"cell"}
+{"row":{"cell":"c4","containers":50,"disk":16384,"epoch":3,"evacuating":true,"memory":4096,"tag":null,"until":3600,"zone":"z2"},"table":"cell"}
+"#;
+
+#[test]
+fn a_realistic_run_leaves_four_running_instances(rt: HostRuntime) {
+    plays_and_shows(
+        &rt,
+        rt.alloc(),
+        EMPTY,
+        REALISTIC_LINES,
+        REALISTIC_TEXT,
+        REALISTIC_ROWS,
+    );
+}
+
+const STATES_LINES: &str = r#"{"at":0}
+{"cell":"c1","op":"join","zone":"z1","memory":1024,"disk":4096,"containers":10,"ttl":600}
+{"at":0}
+{"cell":"c2","op":"join","zone":"z2","memory":1024,"disk":4096,"containers":10,"ttl":600}
+{"at":0}
+{"cell":"c3","op":"join","zone":"z3","memory":1024,"disk":4096,"containers":10,"ttl":700,"tag":"gpu"}
+{"at":0}
+{"client":"cli","op":"desire","process":"web","domain":"apps","instances":4,"memory":64,"disk":128}
+{"client":"cli","op":"desire","process":"api","domain":"apps","instances":1,"memory":64,"disk":128,"tag":"gpu","route":"api.example","port":443}
+{"client":"cli","op":"desire","process":"zed","domain":"apps","instances":1,"memory":64,"disk":128,"tag":"ssd"}
+{"client":"cli","op":"task","name":"t2","memory":1,"disk":1}
+{"client":"cli","op":"task","name":"t3","memory":1,"disk":1}
+{"client":"cli","op":"task","name":"t4","memory":1,"disk":1}
+{"client":"cli","op":"task","name":"t5","memory":1,"disk":1}
+{"client":"cli","op":"task","name":"t6","memory":1,"disk":1}
+{"at":1}
+{"op":"round"}
+{"at":2}
+{"client":"cli","op":"task","name":"t1","memory":1,"disk":1,"tag":"ssd"}
+{"client":"cli","op":"cancel","name":"t3"}
+{"client":"cli","op":"cancel","name":"t5"}
+{"client":"cli","op":"resolve","name":"t5"}
+{"at":3}
+{"cell":"c1","op":"up","process":"web","index":0}
+{"cell":"c1","op":"finish","name":"t4"}
+{"cell":"c1","op":"finish","name":"t6"}
+{"at":3}
+{"cell":"c2","op":"finish","name":"t4"}
+{"cell":"c2","op":"finish","name":"t6"}
+{"cell":"c2","op":"up","process":"web","index":1}
+{"at":3}
+{"cell":"c3","op":"up"}
+{"at":4}
+{"client":"cli","op":"resolve","name":"t6"}
+{"at":5}
+{"cell":"c1","op":"evacuate"}
+{"at":6}
+{"cell":"c2","op":"run","process":"web","index":1,"memory":64,"disk":128}
+{"cell":"c2","op":"crash","process":"web","index":1}
+{"cell":"c2","op":"run","process":"web","index":1,"memory":64,"disk":128}
+{"cell":"c2","op":"crash","process":"web","index":1}
+{"cell":"c2","op":"run","process":"web","index":1,"memory":64,"disk":128}
+{"cell":"c2","op":"crash","process":"web","index":1}
+{"cell":"c2","op":"run","process":"web","index":1,"memory":64,"disk":128}
+{"cell":"c2","op":"crash","process":"web","index":1}
+"#;
+
+const STATES_ROWS: &str =
+    r#"{"row":{"disk":128,"domain":"apps","instances":1,"memory":64,"port":443,"process":"api","route":"api.example","tag":"gpu"},"table":"desired"}
+{"row":{"disk":128,"domain":"apps","instances":4,"memory":64,"port":8080,"process":"web","route":null,"tag":null},"table":"desired"}
+{"row":{"disk":128,"domain":"apps","instances":1,"memory":64,"port":8080,"process":"zed","route":null,"tag":"ssd"},"table":"desired"}
+{"row":{"cell":"c3","count":0,"error":false,"index":0,"instance":"2.1","presence":"ordinary","process":"api","since":3,"state":"running"},"table":"actual"}
+{"row":{"cell":null,"count":0,"error":false,"index":0,"instance":null,"presence":"ordinary","process":"web","since":5,"state":"unclaimed"},"table":"actual"}
+{"row":{"cell":"c1","count":0,"error":false,"index":0,"instance":"0.1","presence":"evacuating","process":"web","since":3,"state":"running"},"table":"actual"}
+{"row":{"cell":null,"count":4,"error":false,"index":1,"instance":null,"presence":"ordinary","process":"web","since":6,"state":"crashed"},"table":"actual"}
+{"row":{"cell":null,"count":0,"error":false,"index":2,"instance":null,"presence":"ordinary","process":"web","since":5,"state":"unclaimed"},"table":"actual"}
+{"row":{"cell":"c2","count":0,"error":false,"index":3,"instance":"1.5","presence":"ordinary","process":"web","since":1,"state":"claimed"},"table":"actual"}
+{"row":{"cell":null,"count":0,"error":true,"index":0,"instance":null,"presence":"ordinary","process":"zed","since":1,"state":"unclaimed"},"table":"actual"}
+{"row":{"birth":28,"cell":null,"disk":1,"failed":null,"instance":null,"memory":1,"name":"t1","since":2,"state":"pending","tag":"ssd"},"table":"task"}
+{"row":{"birth":6,"cell":"c2","disk":1,"failed":null,"instance":"1.1","memory":1,"name":"t2","since":1,"state":"running","tag":null},"table":"task"}
+{"row":{"birth":7,"cell":null,"disk":1,"failed":true,"instance":null,"memory":1,"name":"t3","since":2,"state":"completed","tag":null},"table":"task"}
+{"row":{"birth":8,"cell":null,"disk":1,"failed":false,"instance":null,"memory":1,"name":"t4","since":3,"state":"completed","tag":null},"table":"task"}
+{"row":{"birth":9,"cell":null,"disk":1,"failed":true,"instance":null,"memory":1,"name":"t5","since":2,"state":"resolving","tag":null},"table":"task"}
+{"row":{"birth":10,"cell":null,"disk":1,"failed":false,"instance":null,"memory":1,"name":"t6","since":4,"state":"resolving","tag":null},"table":"task"}
+{"row":{"cell":"c1","containers":10,"disk":4096,"epoch":0,"evacuating":true,"memory":1024,"tag":null,"until":600,"zone":"z1"},"table":"cell"}
+{"row":{"cell":"c2","containers":10,"disk":4096,"epoch":1,"evacuating":false,"memory":1024,"tag":null,"until":600,"zone":"z2"},"table":"cell"}
+{"row":{"cell":"c3","containers":10,"disk":4096,"epoch":2,"evacuating":false,"memory":1024,"tag":"gpu","until":700,"zone":"z3"},"table":"cell"}
+"#;
+
+#[test]
+fn each_state_of_each_table_is_shown(rt: HostRuntime) {
+    shows(&rt, rt.alloc(), EMPTY, STATES_LINES, STATES_ROWS);
+}
