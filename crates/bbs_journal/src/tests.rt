@@ -3,6 +3,7 @@ ghost use Rattle.bbs_journal.specs.declared.waiting.Waiting.TheVariants.{Nothing
 
 mod failing;
 mod generations;
+mod opening;
 mod preparing;
 mod stops;
 mod switching;
@@ -125,19 +126,6 @@ fn one_desire_makes_an_area_of_81_bytes(rt: HostRuntime) -> Result<(), Fail> {
 }
 
 #[test]
-fn bytes_behind_the_closed_gate_are_free(rt: HostRuntime) -> Result<(), Fail> {
-    let alloc = rt.alloc();
-    let mut bytes = EMPTY.to_vec(alloc)?;
-    bytes.extend_from_slice(&[0xff, 0xff])?;
-    assert_eq!(rt; opened(alloc, &bytes, &[])?, Ok((0, None)));
-    // The same where a whole frame stands behind the gate.
-    bytes.truncate(48);
-    bytes.extend_from_slice(&ONE)?;
-    assert_eq!(rt; opened(alloc, &bytes, &[])?, Ok((0, None)));
-    Ok(())
-}
-
-#[test]
 fn the_longest_payload_has_512_bytes(rt: HostRuntime) -> Result<(), Fail> {
     let alloc = rt.alloc();
     let mut journal = empty_journal(&rt, alloc, &[])?;
@@ -148,106 +136,5 @@ fn the_longest_payload_has_512_bytes(rt: HostRuntime) -> Result<(), Fail> {
     assert_eq!(rt; bytes.get(47..51), Some([1, 2, 0, 7].as_slice()));
     assert!(rt; bytes.ends_with(&[7, 0]));
     assert_eq!(rt; opened(alloc, bytes, &[])?, Ok((1, None)));
-    Ok(())
-}
-
-#[test]
-fn a_long_area_is_read_in_large_pieces(rt: HostRuntime) -> Result<(), Fail> {
-    let alloc = rt.alloc();
-    let mut frame = [7u8; 515];
-    frame[..3].copy_from_slice(&[1, 2, 0]);
-    let mut bytes = EMPTY[..47].to_vec(alloc)?;
-    for _ in 0..400 {
-        bytes.extend_from_slice(&frame)?;
-    }
-    bytes.push(0)?;
-    // 206048 bytes: a piece of 65536 has 127 of these frames, so four are read.
-    match load(alloc, disk_of(alloc, &bytes, &[], &[])?) {
-        Ok(loaded) => {
-            assert_eq!(rt; loaded.frames.len(), 400);
-            assert_eq!(rt; loaded.journal.clock(), CALLS + 3);
-        }
-        Err((_, fault)) => {
-            let failed: Result<(), LoadFault> = Err(fault);
-            return Ok(failed?);
-        }
-    }
-    Ok(())
-}
-
-#[test]
-fn a_cut_area_is_told_by_its_length_or_its_last_frame(rt: HostRuntime) -> Result<(), Fail> {
-    for n in 0..82usize {
-        let got = opened(rt.alloc(), &DESIRED[..n.min(81)], &[])?;
-        let at = n as u64;
-        let want = match n {
-            0..=10 => Err(LoadFault::NotABoard { area: Area::A }),
-            11..=46 => Err(LoadFault::Damaged { area: Area::A, at }),
-            47..=79 => Ok((0, Some(47))),
-            80 => Ok((1, Some(80))),
-            _ => Ok((1, None)),
-        };
-        assert_eq!(rt; got, want, "cut to {n}");
-    }
-    Ok(())
-}
-
-#[test]
-fn a_changed_byte_is_told_where_it_counts(rt: HostRuntime) -> Result<(), Fail> {
-    let not_ours = LoadFault::NotABoard { area: Area::A };
-    let generation = LoadFault::Damaged {
-        area: Area::A,
-        at: 11,
-    };
-    let table = [
-        (0, 0, Err(not_ours)),
-        (0, 9, Ok((1, None))),
-        (1, 9, Err(not_ours)),
-        (10, 2, Err(not_ours)),
-        (18, 0, Err(generation)),
-        (18, 2, Err(generation)),
-        (
-            22,
-            99,
-            Err(LoadFault::Damaged {
-                area: Area::A,
-                at: 81,
-            }),
-        ),
-        (47, 7, Ok((1, None))),
-        (49, 0, Ok((0, Some(47)))),
-        (48, 3, Ok((0, Some(47)))),
-        (50, 99, Ok((1, None))),
-        (80, 1, Ok((1, Some(80)))),
-    ];
-    for (place, byte, want) in table {
-        let mut bytes = DESIRED.to_vec(rt.alloc())?;
-        if let Some(cell) = bytes.get_mut(place) {
-            *cell = byte;
-        }
-        assert_eq!(rt; opened(rt.alloc(), &bytes, &[])?, want, "at {place}");
-    }
-    Ok(())
-}
-
-#[test]
-fn of_two_areas_the_newer_is_read(rt: HostRuntime) -> Result<(), Fail> {
-    let alloc = rt.alloc();
-    // Generation 2 over a head that begins with 1.
-    let mut newer = EMPTY;
-    newer[18] = 2;
-    newer[30] = 1;
-    let second = LoadFault::Damaged {
-        area: Area::B,
-        at: 11,
-    };
-    let foreign = LoadFault::NotABoard { area: Area::B };
-    assert_eq!(rt; opened(alloc, &DESIRED, &newer)?, Ok((0, None)));
-    assert_eq!(rt; opened(alloc, &newer, &DESIRED)?, Ok((0, None)));
-    assert_eq!(rt; opened(alloc, &DESIRED, &DESIRED)?, Err(second));
-    assert_eq!(rt; opened(alloc, &DESIRED, &[1, 2])?, Err(foreign));
-    assert_eq!(rt; opened(alloc, &DESIRED, &[0, 2])?, Ok((1, None)));
-    assert_eq!(rt; opened(alloc, &DESIRED, &[2])?, Ok((1, None)));
-    assert_eq!(rt; opened(alloc, &[0; 48], &DESIRED)?, Ok((1, None)));
     Ok(())
 }

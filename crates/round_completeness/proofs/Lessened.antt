@@ -18,7 +18,7 @@ use Rattle.cell_rep.specs.declared.joined.Joined.{Joined}
 use Rattle.cell_rep.specs.declared.rep.CellRep.{CellRep}
 use Rattle.container_store.specs.Changes.{if_held, without_container}
 use Rattle.container_store.specs.Store.{IsGiven, number_of, find_container}
-use Rattle.container_store.proofs.Rising.{IsRising-filter}
+use Rattle.container_store.proofs.Public.{IsRising-filter}
 use Rattle.converge_round.specs.Askings.{StandApart}
 use Rattle.converge_round.specs.Each.{Each}
 use Rattle.converge_round.specs.Reps.{names_of, StandsFor}

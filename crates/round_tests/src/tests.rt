@@ -2,6 +2,7 @@
 //! rules of commands, cells and rounds.
 mod answered;
 mod asked;
+mod asked_tasks;
 mod beside;
 mod boards;
 mod crashes;

@@ -23,6 +23,15 @@ fn job(birth: u64, since: u32, change: Change, state: TaskState) -> Result<Event
     Ok(Event { change, row })
 }
 
+fn new_job() -> Result<Op, Fail> {
+    Ok(Op::NewTask {
+        name: name("job")?,
+        memory: 64,
+        disk: 64,
+        tag: None,
+    })
+}
+
 #[test]
 fn each_run_of_a_line_has_its_answer(rt: HostRuntime) -> Result<(), Fail> {
     let alloc = rt.alloc();
@@ -42,21 +51,16 @@ fn each_run_of_a_line_has_its_answer(rt: HostRuntime) -> Result<(), Fail> {
         place: 4,
     });
     let lost = CallEnd::ReplyLost(Ok(Reply::Ok { place: 3, stamp: 3 }));
+    let runs = [
+        called(&finish, complete, lost),
+        called(&finish, complete, refused),
+    ];
     tells(
         &rt,
         alloc,
         &script(alloc, &[(true, "c1"), (false, "cli")])?,
         &phase(alloc, &[finish], None)?,
-        &parts(
-            alloc,
-            &[
-                &[
-                    called(&finish, complete, lost),
-                    called(&finish, complete, refused),
-                ],
-                &[],
-            ],
-        )?,
+        &parts(alloc, &[&runs, &[]])?,
         &None,
         &[job(1, 9, Change::Changed, TaskState::Completed { failed })?],
         &[
@@ -72,34 +76,24 @@ fn events_of_one_row_stay_in_their_order(rt: HostRuntime) -> Result<(), Fail> {
     let alloc = rt.alloc();
     let name = name("job")?;
     let (resolve, delete) = (Op::ResolveTask { name }, Op::DeleteTask { name });
-    let make = Op::NewTask {
-        name,
-        memory: 64,
-        disk: 64,
-        tag: None,
-    };
+    let make = new_job()?;
     let resolving = TaskState::Resolving { failed: false };
     let lines = [
         line(10, 2, Act::Client(resolve)),
         line(11, 2, Act::Client(delete)),
         line(12, 2, Act::Client(make)),
     ];
+    let runs = [
+        called(&lines[0], resolve, OK),
+        called(&lines[1], delete, OK),
+        called(&lines[2], make, OK),
+    ];
     tells(
         &rt,
         alloc,
         &script(alloc, &[(true, "c1"), (false, "cli")])?,
         &phase(alloc, &lines, None)?,
-        &parts(
-            alloc,
-            &[
-                &[],
-                &[
-                    called(&lines[0], resolve, OK),
-                    called(&lines[1], delete, OK),
-                    called(&lines[2], make, OK),
-                ],
-            ],
-        )?,
+        &parts(alloc, &[&[], &runs])?,
         &None,
         &[
             job(1, 10, Change::Changed, resolving)?,
@@ -134,22 +128,18 @@ fn a_line_without_a_command_tells_its_own_word_and_job(rt: HostRuntime) -> Resul
     ];
     let full = CallEnd::Local(RepRefusal::Store(StoreRefusal::NoMemoryLeft));
     let down = CallEnd::Local(RepRefusal::Down);
+    let first = [
+        answer(&lines[0], None, full),
+        answer(&lines[2], None, CallEnd::Idle),
+        answer(&lines[3], None, down),
+    ];
+    let second = [answer(&lines[1], None, CallEnd::Idle)];
     tells(
         &rt,
         alloc,
         &script(alloc, &[(true, "c1"), (true, "c2")])?,
         &phase(alloc, &lines, None)?,
-        &parts(
-            alloc,
-            &[
-                &[
-                    answer(&lines[0], None, full),
-                    answer(&lines[2], None, CallEnd::Idle),
-                    answer(&lines[3], None, down),
-                ],
-                &[answer(&lines[1], None, CallEnd::Idle)],
-            ],
-        )?,
+        &parts(alloc, &[&first, &second])?,
         &None,
         &[],
         &[

@@ -51,18 +51,13 @@ fn an_evacuation_is_told_by_its_calls_and_then_by_its_rows(rt: HostRuntime) -> R
         change: Change::Changed,
         row: Row::Cell(cell("c1")?),
     };
+    let runs = [called(&evacuate, drain, OK), called(&evacuate, leave, OK)];
     tells(
         &rt,
         alloc,
         &script(alloc, &[(true, "c1"), (false, "cli")])?,
         &phase(alloc, &[evacuate], None)?,
-        &parts(
-            alloc,
-            &[
-                &[called(&evacuate, drain, OK), called(&evacuate, leave, OK)],
-                &[],
-            ],
-        )?,
+        &parts(alloc, &[&runs, &[]])?,
         &None,
         &[
             emptied,
