@@ -10,7 +10,7 @@ use Rattle.crash_backoff.specs.declared.moment.Moment.{Moment}
 use Rattle.scenario_lines.specs.declared.act.Loss.{Loss}
 use Rattle.scenario_lines.specs.declared.script.Line.{Line}
 use Rattle.actor_runs.specs.Runs.{IsOneActor}
-use Rattle.actor_runs.specs.Turns.{CanDo, IsCutShort, lines_by, Standing, Takes, Turn, mark_at, turn_at, turn_of, turns_in, turns_of}
+use Rattle.actor_runs.specs.Turns.{CanDo, IsCutShort, lines_by, ActorStanding, Takes, Turn, mark_at, turn_at, line_turn, turns_in, turns_of}
 use Rattle.actor_runs.specs.declared.actor_state.ActorState.{ActorState}
 use Rattle.actor_runs.proofs.OneActor.{fits_on}
 use Rattle.actor_runs.proofs.Taking.{cut_before, cut_then, takes_then}
@@ -34,25 +34,25 @@ turns_both by xs ys =
 
 module _ (by : ℕ) (now : Moment) where
   -- one run more of a line
-  pub more_runs : (l : Line) (n other : ℕ) (mark : Option Loss) (s m s' : Standing) → other ≡ by → mark ≡ mark_at l.lost n
-      → Takes by now (first_turns l n) s m → Takes other now (turn_of l mark ∷ []) m s' → Takes by now (first_turns l (n + 1)) s s'
+  pub more_runs : (l : Line) (n other : ℕ) (mark : Option Loss) (s m s' : ActorStanding) → other ≡ by → mark ≡ mark_at l.lost n
+      → Takes by now (first_turns l n) s m → Takes other now (line_turn l mark ∷ []) m s' → Takes by now (first_turns l (n + 1)) s s'
   more_runs l n other mark s m s' by_is mark_is first next =
       subst (λ (ts : List Turn). Takes by now ts s s') (sym (one_more l n))
       (takes_then by now (first_turns l n) (turn_at l n ∷ []) s m s' first
       (subst (λ (k : ℕ). Takes k now (turn_at l n ∷ []) m s') by_is
-      (subst (λ (k : Option Loss). Takes other now (turn_of l k ∷ []) m s') mark_is next)))
+      (subst (λ (k : Option Loss). Takes other now (line_turn l k ∷ []) m s') mark_is next)))
 
   -- the next run of a line is cut off
-  pub line_cut : (l : Line) (n other : ℕ) (mark : Option Loss) (s m : Standing) (a' : ActorState) (w : PortView) → n < l.times
+  pub line_cut : (l : Line) (n other : ℕ) (mark : Option Loss) (s m : ActorStanding) (a' : ActorState) (w : PortView) → n < l.times
       → other ≡ by → mark ≡ mark_at l.lost n → Takes by now (first_turns l n) s m
-      → IsCutShort other now (turn_of l mark ∷ []) m.actor m.view a' w → IsCutShort by now (turns_of l) s.actor s.view a' w
+      → IsCutShort other now (line_turn l mark ∷ []) m.actor m.view a' w → IsCutShort by now (turns_of l) s.actor s.view a' w
   line_cut l n other mark s m a' w within by_is mark_is first cut =
       subst (λ (ts : List Turn). IsCutShort by now ts s.actor s.view a' w) (sym (all_runs l n within))
       (cut_before by now (first_turns l (n + 1)) (drop (n + 1) (turns_of l)) s.actor a' s.view w
       (subst (λ (ts : List Turn). IsCutShort by now ts s.actor s.view a' w) (sym (one_more l n))
       (cut_then by now (first_turns l n) (turn_at l n ∷ []) s m m first a' w
       (subst (λ (k : ℕ). IsCutShort k now (turn_at l n ∷ []) m.actor m.view a' w) by_is
-      (subst (λ (k : Option Loss). IsCutShort other now (turn_of l k ∷ []) m.actor m.view a' w) mark_is cut)))))
+      (subst (λ (k : Option Loss). IsCutShort other now (line_turn l k ∷ []) m.actor m.view a' w) mark_is cut)))))
 
   module _ (lines : List Line) (i : ℕ) (d : Line) (within : i < length lines) (is : d ≡ get_or lines i d) where
     with_next : take (i + 1) lines ≡ take i lines ++ d ∷ []
@@ -62,14 +62,14 @@ module _ (by : ℕ) (now : Moment) where
     turns_more = ap (turns_in by) with_next ∙ turns_both by (take i lines) (d ∷ [])
 
     -- one line more
-    pub more_lines : (s m s' : Standing) → Takes by now (turns_in by (take i lines)) s m → Takes by now (turns_in by (d ∷ [])) m s'
+    pub more_lines : (s m s' : ActorStanding) → Takes by now (turns_in by (take i lines)) s m → Takes by now (turns_in by (d ∷ [])) m s'
         → Takes by now (turns_in by (take (i + 1) lines)) s s'
     more_lines s m s' first next =
         subst (λ (ts : List Turn). Takes by now ts s s') (sym turns_more)
         (takes_then by now (turns_in by (take i lines)) (turns_in by (d ∷ [])) s m s' first next)
 
     -- the next line is cut off
-    pub lines_cut : (s m : Standing) (a' : ActorState) (w : PortView) → Takes by now (turns_in by (take i lines)) s m
+    pub lines_cut : (s m : ActorStanding) (a' : ActorState) (w : PortView) → Takes by now (turns_in by (take i lines)) s m
         → IsCutShort by now (turns_in by (d ∷ [])) m.actor m.view a' w → IsCutShort by now (turns_in by lines) s.actor s.view a' w
     lines_cut s m a' w first cut =
         subst (λ (ts : List Turn). IsCutShort by now ts s.actor s.view a' w) (sym whole)

@@ -2,7 +2,7 @@
 use Rattle.std.proofs.Common.{refl, ◌∙◌}
 use Rattle.scenario_lines.specs.declared.act.Act.{Act}
 use Rattle.scenario_lines.specs.declared.act.Act.TheVariants as act
-use Rattle.actor_runs.specs.Runs.{fits, IsOneActor}
+use Rattle.actor_runs.specs.Runs.{IsActOf, IsOneActor}
 use Rattle.actor_runs.specs.declared.actor_state.ActorState.{ActorState}
 use Rattle.actor_runs.specs.declared.actor_state.ActorState.TheVariants as actor
 
@@ -18,7 +18,7 @@ one_then (actor.Cell rep) (actor.Client name) c p q = absurd p
 one_then (actor.Cell rep) (actor.Cell r') (actor.Client name) p q = q
 one_then (actor.Cell rep) (actor.Cell r') (actor.Cell r'') p q = q ∙ p
 
-pub fits_on : (d : Act) (a b : ActorState) → IsOneActor a b → fits d a → fits d b
+pub fits_on : (d : Act) (a b : ActorState) → IsOneActor a b → IsActOf d a → IsActOf d b
 fits_on (act.Client op) (actor.Client name) (actor.Client n') p f = f
 fits_on (act.Client op) (actor.Client name) (actor.Cell rep) p f = absurd p
 fits_on (act.Client op) (actor.Cell rep) b p f = absurd f

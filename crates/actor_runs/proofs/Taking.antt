@@ -7,20 +7,20 @@ use Rattle.cell_rep.specs.declared.call_end.Called.{Called}
 use Rattle.crash_backoff.specs.declared.moment.Moment.{Moment}
 use Rattle.scenario_lines.specs.declared.answered.Answered.{Answered}
 use Rattle.actor_runs.specs.Runs.{is_any_starved, is_starved_end, HasRun}
-use Rattle.actor_runs.specs.Turns.{answered, is_any_unfed, IsCutAt, IsCutShort, Standing, Takes, TakesTurns, Turn}
+use Rattle.actor_runs.specs.Turns.{is_any_unfed, line_answer, ActorStanding, IsCutAt, IsCutShort, Takes, TakesTurns, Turn}
 use Rattle.actor_runs.specs.declared.actor_state.ActorState.{ActorState}
 
 -- the answers want memory where the calls did
-pub unfed_answers : (by line : ℕ) (calls : List Called) → is_any_unfed (map (answered by line) calls) ≡ is_any_starved calls
+pub unfed_answers : (by line : ℕ) (calls : List Called) → is_any_unfed (map (line_answer by line) calls) ≡ is_any_starved calls
 unfed_answers by line [] = refl
 unfed_answers by line (x ∷ xs) = ap (λ (b : Bool). is_starved_end x.end || b) (unfed_answers by line xs)
 
 module _ (by : ℕ) (now : Moment) where
   -- a run that was made
   pub one_taken : (t : Turn) (a a' : ActorState) (v w : PortView) (first : List Called) → HasRun by now t.act t.mark a a' v w first
-      → TakesTurns by now (t ∷ []) a v (map (answered by t.line) first) a' w
+      → TakesTurns by now (t ∷ []) a v (map (line_answer by t.line) first) a' w
   one_taken t a a' v w first run =
-      (first, [], a', w, sym (append-nil (map (answered by t.line) first)), run, (refl, (refl, refl)))
+      (first, [], a', w, sym (append-nil (map (line_answer by t.line) first)), run, (refl, (refl, refl)))
 
   -- of one run that was made, nothing is left
   pub cut_behind : (t : Turn) (a a' : ActorState) (v w : PortView) (first : List Called) → HasRun by now t.act t.mark a a' v w first
@@ -29,7 +29,7 @@ module _ (by : ℕ) (now : Moment) where
     done = t ∷ [];
     rest = [];
     split = refl;
-    new = map (answered by t.line) first;
+    new = map (line_answer by t.line) first;
     mid = a';
     middle = w;
     taken = one_taken t a a' v w first run;
@@ -48,12 +48,12 @@ module _ (by : ℕ) (now : Moment) where
     rest ++ more,
     mid,
     y,
-    ap (λ (l : List Answered). l ++ more) new_is ∙ append_assoc (map (answered by t.line) first) rest more,
+    ap (λ (l : List Answered). l ++ more) new_is ∙ append_assoc (map (line_answer by t.line) first) rest more,
     run,
     taken_then ts us mid m b y x w rest more others then,
   )
 
-  module _ (ts us : List Turn) (s m s' : Standing) (taken : Takes by now ts s m) where
+  module _ (ts us : List Turn) (s m s' : ActorStanding) (taken : Takes by now ts s m) where
     -- all of both
     pub takes_then : Takes by now us m s' → Takes by now (ts ++ us) s s'
     takes_then more = record {
@@ -99,7 +99,7 @@ module _ (by : ℕ) (now : Moment) where
       begun (t ∷ rest) us is = is
 
   -- nothing was to be done
-  pub takes_none : (s : Standing) → Takes by now [] s s
+  pub takes_none : (s : ActorStanding) → Takes by now [] s s
   takes_none s = record {
     new = [];
     out_is = sym (append-nil s.out);

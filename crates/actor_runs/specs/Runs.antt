@@ -22,13 +22,13 @@ use Rattle.actor_runs.specs.declared.actor_state.ActorState.{ActorState}
 use Rattle.actor_runs.specs.declared.actor_state.ActorState.TheVariants as actor
 
 -- a client asks and a cell acts
-abbrev pub fits : Act → ActorState → Type 0
-fits (act.Client op) (actor.Client name) = Unit {0}
-fits (act.Client op) (actor.Cell rep) = ⊥
-fits (act.Cell a) (actor.Client name) = ⊥
-fits (act.Cell a) (actor.Cell rep) = Unit {0}
-fits act.Evacuate (actor.Client name) = ⊥
-fits act.Evacuate (actor.Cell rep) = Unit {0}
+abbrev pub IsActOf : Act → ActorState → Type 0
+IsActOf (act.Client op) (actor.Client name) = Unit {0}
+IsActOf (act.Client op) (actor.Cell rep) = ⊥
+IsActOf (act.Cell a) (actor.Client name) = ⊥
+IsActOf (act.Cell a) (actor.Cell rep) = Unit {0}
+IsActOf act.Evacuate (actor.Client name) = ⊥
+IsActOf act.Evacuate (actor.Cell rep) = Unit {0}
 
 -- the same client, or a rep of the same cell
 abbrev pub IsOneActor : ActorState → ActorState → Type 0

@@ -8,7 +8,7 @@ use Rattle.scenario_lines.specs.declared.act.Act.{Act}
 use Rattle.scenario_lines.specs.declared.act.Loss.{Loss}
 use Rattle.scenario_lines.specs.declared.answered.Answered.{Answered}
 use Rattle.scenario_lines.specs.declared.script.Line.{Line}
-use Rattle.actor_runs.specs.Runs.{fits, is_starved_end, HasRun, IsCutRun}
+use Rattle.actor_runs.specs.Runs.{is_starved_end, HasRun, IsActOf, IsCutRun}
 use Rattle.actor_runs.specs.declared.actor_state.ActorState.{ActorState}
 
 -- a run that is to be made: of which line, what is done, and what is lost
@@ -18,8 +18,8 @@ pub record Turn : Type 0 where
   pub mark : Option Loss
 
 -- a run of that line
-abbrev pub turn_of : Line → Option Loss → Turn
-turn_of l mark = record { line = l.line; act = l.act; mark = mark }
+abbrev pub line_turn : Line → Option Loss → Turn
+line_turn l mark = record { line = l.line; act = l.act; mark = mark }
 
 -- the first run of a line bears its mark
 abbrev pub mark_at : Option Loss → ℕ → Option Loss
@@ -28,7 +28,7 @@ mark_at mark (suc n) = None
 
 -- the run of a line with that number, counted from 0
 abbrev pub turn_at : Line → ℕ → Turn
-turn_at l n = turn_of l (mark_at l.lost n)
+turn_at l n = line_turn l (mark_at l.lost n)
 
 -- the runs of a line, as many as it says
 abbrev pub turns_of : Line → List Turn
@@ -44,11 +44,11 @@ turns_in by lines = flat_map turns_of (lines_by by lines)
 
 -- the actor is of the kind that each of its lines asks for
 abbrev pub CanDo : ℕ → List Line → ActorState → Type 0
-CanDo by lines a = (l : Line) → Contains (lines_by by lines) l → fits l.act a
+CanDo by lines a = (l : Line) → Contains (lines_by by lines) l → IsActOf l.act a
 
 -- an actor's answer to a line
-abbrev pub answered : ℕ → ℕ → Called → Answered
-answered by line a = record { actor = by; line = line; command = a.command; end = a.end }
+abbrev pub line_answer : ℕ → ℕ → Called → Answered
+line_answer by line a = record { actor = by; line = line; command = a.command; end = a.end }
 
 -- some answer is a want of memory
 abbrev pub is_any_unfed : List Answered → Bool
@@ -59,22 +59,22 @@ abbrev pub TakesTurns : ℕ → Moment → List Turn → ActorState → PortView
 TakesTurns by now [] a v new a' w = (new ≡ []) × ((a' ≡ a) × (w ≡ v))
 TakesTurns by now (t ∷ ts) a v new a' w =
     (first : List Called) × (rest : List Answered) × (mid : ActorState) × (m : PortView)
-    × (new ≡ map (answered by t.line) first ++ rest)
+    × (new ≡ map (line_answer by t.line) first ++ rest)
     × HasRun by now t.act t.mark a mid v m first
     × TakesTurns by now ts mid m rest a' w
 
 -- an actor, what it has seen of the board, and the answers so far
-pub record Standing : Type 0 where
+pub record ActorStanding : Type 0 where
   pub actor : ActorState
   pub view : PortView
   pub out : List Answered
 
 -- these three
-abbrev pub standing : ActorState → PortView → List Answered → Standing
-standing a v out = record { actor = a; view = v; out = out }
+abbrev pub actor_standing : ActorState → PortView → List Answered → ActorStanding
+actor_standing a v out = record { actor = a; view = v; out = out }
 
 -- all these runs were made, none wanted memory, and their answers stand behind those that were there
-pub record Takes (by : ℕ) (now : Moment) (ts : List Turn) (s s' : Standing) : Type 0 where
+pub record Takes (by : ℕ) (now : Moment) (ts : List Turn) (s s' : ActorStanding) : Type 0 where
   pub new : List Answered
   pub out_is : s'.out ≡ s.out ++ new
   pub taken : TakesTurns by now ts s.actor s.view new s'.actor s'.view

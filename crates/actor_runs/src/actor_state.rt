@@ -2,7 +2,7 @@
 ghost use Rattle.std.specs.Prelude.{◌≡◌, [], OnOk, OnErr};
 ghost use Rattle.cell_rep.specs.Follows.{Acts};
 ghost use Rattle.evacuation.specs.Evacuation.{Evacuates, StopsBetween};
-ghost use Rattle.actor_runs.specs.Runs.{fits, HasActed, HasAsked, HasRun, IsCutEmptying, IsCutRun, IsOneActor};
+ghost use Rattle.actor_runs.specs.Runs.{HasActed, HasAsked, HasRun, IsActOf, IsCutEmptying, IsCutRun, IsOneActor};
 
 use crate::run_wire::RunWire;
 use bbs_model::{Command, Port};
@@ -105,7 +105,7 @@ impl ActorState {
         now: Moment,
         out: &mut Vec<Called>,
     ) -> Result<(), OutOfMemory>
-        requires { fits act.now self.old }
+        requires { IsActOf act.now self.old }
         ensures keeps { P.keeps port.old port.new }
         ensures number { P.number port.new ≡ P.number port.old }
         ensures ran { OnOk result (HasRun (P.number port.old) now act.entry.now mark

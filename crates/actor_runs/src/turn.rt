@@ -1,7 +1,7 @@
 //! One run of a line, with its answers.
 ghost use Rattle.std.specs.Prelude.{◌≡◌, [], ◌∷◌, ◌++◌, map, OnOk, OnErr};
-ghost use Rattle.actor_runs.specs.Runs.{fits, is_any_starved, is_starved_end, IsOneActor};
-ghost use Rattle.actor_runs.specs.Turns.{answered, standing, turn_of, IsCutShort, Takes};
+ghost use Rattle.actor_runs.specs.Runs.{is_any_starved, is_starved_end, IsActOf, IsOneActor};
+ghost use Rattle.actor_runs.specs.Turns.{actor_standing, line_answer, line_turn, IsCutShort, Takes};
 
 use crate::actor_state::ActorState;
 use bbs_model::{CallFault, Port};
@@ -27,7 +27,7 @@ fn is_any_starved(calls: &[Called]) -> bool
 }
 
 fn answered(line: &Line, call: &Called) -> Answered
-    ensures { result ≡ answered line.now.actor line.now.line call.now }
+    ensures { result ≡ line_answer line.now.actor line.now.line call.now }
 {
     Answered {
         actor: line.actor,
@@ -39,7 +39,7 @@ fn answered(line: &Line, call: &Called) -> Answered
 
 fn add_all(out: &mut Vec<Answered>, line: &Line, calls: &[Called]) -> Result<(), OutOfMemory>
     ensures { OnOk result
-        (out.new.items ≡ out.old.items ++ map (answered line.now.actor line.now.line) calls.now) }
+        (out.new.items ≡ out.old.items ++ map (line_answer line.now.actor line.now.line) calls.now) }
 {
     for call in calls {
         out.push(answered(line, call))?;
@@ -60,14 +60,14 @@ impl ActorState {
         calls: &mut Vec<Called>,
         out: &mut Vec<Answered>,
     ) -> Result<(), OutOfMemory>
-        requires can { fits line.now.act self.old }
+        requires can { IsActOf line.now.act self.old }
         requires number { P.number port.old ≡ line.now.actor }
         ensures keeps { P.keeps port.old port.new }
         ensures number { P.number port.new ≡ P.number port.old }
-        ensures taken { OnOk result (Takes (P.number port.old) now (turn_of line.now mark ∷ [])
-            (standing self.old (P.view port.old) out.old.items)
-            (standing self.new (P.view port.new) out.new.items)) }
-        ensures cut { OnErr result (IsCutShort (P.number port.old) now (turn_of line.now mark ∷ [])
+        ensures taken { OnOk result (Takes (P.number port.old) now (line_turn line.now mark ∷ [])
+            (actor_standing self.old (P.view port.old) out.old.items)
+            (actor_standing self.new (P.view port.new) out.new.items)) }
+        ensures cut { OnErr result (IsCutShort (P.number port.old) now (line_turn line.now mark ∷ [])
             self.old (P.view port.old) self.new (P.view port.new)) }
         ensures one { IsOneActor self.old self.new }
     {

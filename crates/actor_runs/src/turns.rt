@@ -1,7 +1,7 @@
 //! The lines of an actor in order, each as often as it says.
 ghost use Rattle.std.specs.Prelude.{◌≡◌, ◌==◌, ◌∷◌, [], true, OnOk, OnErr};
-ghost use Rattle.actor_runs.specs.Runs.{fits, IsOneActor};
-ghost use Rattle.actor_runs.specs.Turns.{mark_at, standing, turns_in, turns_of, CanDo, IsCutShort, Takes};
+ghost use Rattle.actor_runs.specs.Runs.{IsActOf, IsOneActor};
+ghost use Rattle.actor_runs.specs.Turns.{actor_standing, mark_at, turns_in, turns_of, CanDo, IsCutShort, Takes};
 
 use crate::actor_state::ActorState;
 use bbs_model::Port;
@@ -27,13 +27,13 @@ impl ActorState {
         calls: &mut Vec<Called>,
         out: &mut Vec<Answered>,
     ) -> Result<(), OutOfMemory>
-        requires can { fits line.now.act self.old }
+        requires can { IsActOf line.now.act self.old }
         requires number { P.number port.old ≡ line.now.actor }
         ensures keeps { P.keeps port.old port.new }
         ensures number { P.number port.new ≡ P.number port.old }
         ensures taken { OnOk result (Takes (P.number port.old) now (turns_of line.now)
-            (standing self.old (P.view port.old) out.old.items)
-            (standing self.new (P.view port.new) out.new.items)) }
+            (actor_standing self.old (P.view port.old) out.old.items)
+            (actor_standing self.new (P.view port.new) out.new.items)) }
         ensures cut { OnErr result (IsCutShort (P.number port.old) now (turns_of line.now)
             self.old (P.view port.old) self.new (P.view port.new)) }
         ensures one { IsOneActor self.old self.new }
@@ -64,8 +64,8 @@ impl ActorState {
         ensures keeps { P.keeps port.old port.new }
         ensures number { P.number port.new ≡ P.number port.old }
         ensures taken { OnOk result (Takes by now (turns_in by (line.now ∷ []))
-            (standing self.old (P.view port.old) out.old.items)
-            (standing self.new (P.view port.new) out.new.items)) }
+            (actor_standing self.old (P.view port.old) out.old.items)
+            (actor_standing self.new (P.view port.new) out.new.items)) }
         ensures cut { OnErr result (IsCutShort by now (turns_in by (line.now ∷ []))
             self.old (P.view port.old) self.new (P.view port.new)) }
         ensures one { IsOneActor self.old self.new }
@@ -94,8 +94,8 @@ impl ActorState {
         ensures keeps { P.keeps port.old port.new }
         ensures number { P.number port.new ≡ P.number port.old }
         ensures taken { OnOk result (Takes by now (turns_in by lines.now)
-            (standing self.old (P.view port.old) out.old.items)
-            (standing self.new (P.view port.new) out.new.items)) }
+            (actor_standing self.old (P.view port.old) out.old.items)
+            (actor_standing self.new (P.view port.new) out.new.items)) }
         ensures cut { OnErr result (IsCutShort by now (turns_in by lines.now)
             self.old (P.view port.old) self.new (P.view port.new)) }
         ensures one { IsOneActor self.old self.new }

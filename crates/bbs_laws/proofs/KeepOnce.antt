@@ -16,7 +16,7 @@ use Rattle.task_records.specs.declared.state.TaskState.TheVariants.{Pending}
 use Rattle.task_records.specs.declared.task.Task.{Task}
 use Rattle.task_records.proofs.Public.{completed_is_finished, KeepsTask-task_move, NeverTurnsBack-task_move}
 use Rattle.bbs_model.specs.Attempts.{if_joined, put, drop_row}
-use Rattle.bbs_laws.specs.Births.{born_at, is_waiting, is_ended, is_completed_between, completions}
+use Rattle.bbs_laws.specs.Births.{born_at, awaits_outcome, is_ended, is_completed_between, completions}
 use Rattle.bbs_model.specs.Found.{found_by, task_in}
 use Rattle.bbs_laws.specs.Laws.{CompletesOnce, CompletesOnceOver}
 use Rattle.bbs_model.specs.Replay.{after_item, command_in, replay_log, IsLawful}
@@ -52,7 +52,7 @@ both_true false b e = cc
 module _ (rows : Rows) (valid : IsValid rows) (b : ℕ) (past : b < rows.next) (now : Moment) where
   -- the task of the birth doesn't wait after the attempt, if it didn't before
   abbrev Rests : Attempt → Type 0
-  Rests attempt = is_waiting rows b ≡ false → is_waiting (changed_by rows attempt) b ≡ false
+  Rests attempt = awaits_outcome rows b ≡ false → awaits_outcome (changed_by rows attempt) b ≡ false
 
   rests-put : (r : Row) → IsNoTask r → Rests (put r)
   rests-put (row.Desired d) other is = is
@@ -99,7 +99,7 @@ module _ (rows : Rows) (valid : IsValid rows) (b : ℕ) (past : b < rows.next) (
       (λ key instance. each-evacuate Rests (λ why is. is) (λ is. is) (found_by rows (op.Evacuate key instance)) instance now (λ old known runs passed is. is))
       rests-new_task rests-move_task rests-move_task_by_cell
 
-pub rests-after_item : (rows : Rows) (item : Item) (b : ℕ) → IsValid rows → b < rows.next → is_waiting rows b ≡ false → is_waiting (after_item rows item) b ≡ false
+pub rests-after_item : (rows : Rows) (item : Item) (b : ℕ) → IsValid rows → b < rows.next → awaits_outcome rows b ≡ false → awaits_outcome (after_item rows item) b ≡ false
 rests-after_item rows (Done by c) b valid past is = rests-attempt rows valid b past c.now c.op is
 rests-after_item rows (Doubt by c) b valid past is = is
 
@@ -111,11 +111,11 @@ none_counted : (a b : Bool) (n : ℕ) → a ≡ false → n ≡ 0 → cond (a &&
 none_counted true b n e is = cc
 none_counted false b n e is = omega arith
 
-pub completions-none : (rows : Rows) (log : List Item) (b : ℕ) → IsValid rows → IsLawful rows log → b < rows.next → is_waiting rows b ≡ false → completions rows log b ≡ 0
+pub completions-none : (rows : Rows) (log : List Item) (b : ℕ) → IsValid rows → IsLawful rows log → b < rows.next → awaits_outcome rows b ≡ false → completions rows log b ≡ 0
 completions-none rows [] b valid lawful past is = refl
 completions-none rows (i ∷ is) b valid lawful past rests =
     let after = after_item rows i in
-    none_counted (is_waiting rows b) (is_ended after b) (completions after is b) rests
+    none_counted (awaits_outcome rows b) (is_ended after b) (completions after is b) rests
     (completions-none after is b (IsValid-after_item rows i valid lawful.0) lawful.1 (past-after_item rows i b lawful.0 past) (rests-after_item rows i b valid past rests))
 
 pub completions-once : (rows : Rows) (log : List Item) (b : ℕ) → IsValid rows → IsLawful rows log → completions rows log b ≤ 1
@@ -125,7 +125,7 @@ completions-once rows (i ∷ is) b valid lawful =
     let valid_after = IsValid-after_item rows i valid lawful.0 in
     elim (is_completed_between rows after b) as (λ t. is_completed_between rows after b ≡ t → cond t 1 0 + completions after is b ≤ 1) [
       | true ↦ λ e.
-          let parts = both_true (is_waiting rows b) (is_ended after b) e in
+          let parts = both_true (awaits_outcome rows b) (is_ended after b) e in
           let past : b < rows.next = waits-below b rows.next rows.tasks (each_weaker (IsTaskRow rows.next) (λ (t : Task). t.birth < rows.next) (λ t there. there.born) rows.tasks valid.tasks.each) parts.0 in
           let none : completions after is b ≡ 0 =
           completions-none after is b valid_after lawful.1 (past-after_item rows i b lawful.0 past) (ended_first (born_at after b) parts.1) in

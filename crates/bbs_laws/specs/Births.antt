@@ -13,8 +13,8 @@ abbrev pub born_at : Rows → ℕ → Option Task
 born_at rows birth = find (λ (t : Task). t.birth == birth) rows.tasks
 
 -- the task of a birth is there, and waits for its outcome
-abbrev pub is_waiting : Rows → ℕ → Bool
-is_waiting rows birth = option_map_or (λ (t : Task). is_unfinished t.state) (born_at rows birth) false
+abbrev pub awaits_outcome : Rows → ℕ → Bool
+awaits_outcome rows birth = option_map_or (λ (t : Task). is_unfinished t.state) (born_at rows birth) false
 
 -- the task of a birth is there, and COMPLETED
 abbrev pub is_ended : Rows → ℕ → Bool
@@ -22,7 +22,7 @@ is_ended rows birth = option_map_or (λ (t : Task). is_completed t.state) (born_
 
 -- the task of a birth gets its outcome between the two
 abbrev pub is_completed_between : Rows → Rows → ℕ → Bool
-is_completed_between old new birth = is_waiting old birth && is_ended new birth
+is_completed_between old new birth = awaits_outcome old birth && is_ended new birth
 
 -- how often the task of a birth gets its outcome in a log
 abbrev pub completions : Rows → List Item → ℕ → ℕ

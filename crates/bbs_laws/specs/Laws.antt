@@ -4,7 +4,7 @@ use Rattle.cell_records.specs.declared.cell_row.CellRow.{CellRow}
 use Rattle.lrp_records.specs.States.{holder_of}
 use Rattle.lrp_records.specs.declared.actual.Actual.{Actual}
 use Rattle.task_records.specs.declared.task.Task.{Task}
-use Rattle.bbs_laws.specs.Births.{is_waiting, completions}
+use Rattle.bbs_laws.specs.Births.{awaits_outcome, completions}
 use Rattle.bbs_model.specs.Limits.{most_wanted}
 use Rattle.bbs_model.specs.Replay.{replay, AreLegal, replay_log, IsLawful, IsReached}
 use Rattle.bbs_model.specs.Runs.{state_after, events_after, state_after_all, legal_ones}
@@ -75,7 +75,7 @@ pub record LogGoesOn (base : Rows) (xs ys : List Item) : Type 0 where
 -- and doesn't wait for its outcome any more
 pub record CompletesOnce (base : Rows) (log : List Item) (birth : ℕ) : Type 0 where
   pub once : completions base log birth ≤ 1
-  pub never_again : birth < base.next → is_waiting base birth ≡ false → completions base log birth ≡ 0
+  pub never_again : birth < base.next → awaits_outcome base birth ≡ false → completions base log birth ≡ 0
 
 -- nor does it in a log that begins where the board was found after at least so many items of this one
 abbrev pub CompletesOnceOver : Rows → List Item → ℕ → ℕ → Type 0

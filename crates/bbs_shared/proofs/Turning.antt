@@ -21,8 +21,8 @@ use Rattle.sole_port.proofs.Public.{goes_as, goes_further, goes_nowhere, sole_we
 use Rattle.ticket_desk.specs.declared.view.View.{View as DeskView}
 use Rattle.ticket_desk.specs.Turns.{Turned}
 use Rattle.ticket_desk.specs.Views.{Begins}
-use Rattle.bbs_shared.specs.Boards.{Standing, HasGone, log_of, origin_of, base_of, IsRead}
-use Rattle.bbs_shared.specs.Passes.{port_of}
+use Rattle.bbs_shared.specs.Boards.{BoardStanding, HasGone, log_of, origin_of, base_of, IsRead}
+use Rattle.bbs_shared.specs.Passes.{port_view_of}
 use Rattle.bbs_shared.specs.declared.origin.Origin.{Origin}
 
 -- the command's verdict behind this log comes out as this end
@@ -31,23 +31,23 @@ EndsAt base log c end = let rows = replay_log base log in Ends (verdict_of rows 
 
 module _ {D : Type 0} where
   -- a turn at a board that was this one before and that one after
-  pub record TurnAt (v w : DeskView Item (Origin (View D))) (before after : Standing D) : Type 0 where
+  pub record TurnAt (v w : DeskView Item (Origin (View D))) (before after : BoardStanding D) : Type 0 where
     pub saw : Begins v.seen before.board.log
     pub base : base_of v.origin ≡ before.board.base
     pub is : w ≡ record v { seen = after.board.log; mine = v.mine ++ drop (length before.board.log) after.board.log }
 
-  pub turn_at : {F R : Type 0} (g : Once F (MutBor (Standing D) × Unit {0}) (R × (MutBor (Standing D) × Unit {0}))) (f : F) (n : ℕ)
+  pub turn_at : {F R : Type 0} (g : Once F (MutBor (BoardStanding D) × Unit {0}) (R × (MutBor (BoardStanding D) × Unit {0}))) (f : F) (n : ℕ)
       (v w : DeskView Item (Origin (View D))) (r : R) (t : Turned log_of origin_of g f by_of n v w r) → TurnAt v w t.ran.shown.now t.ran.left.now
   turn_at g f n v w r t = record {
-    saw = subst (λ (b : Standing D). Begins v.seen b.board.log) (sym t.ran.shows) t.saw;
-    base = ap base_of t.source ∙ ap (λ (b : Standing D). b.board.base) (sym t.ran.shows);
+    saw = subst (λ (b : BoardStanding D). Begins v.seen b.board.log) (sym t.ran.shows) t.saw;
+    base = ap base_of t.source ∙ ap (λ (b : BoardStanding D). b.board.base) (sym t.ran.shows);
     is = t.view_is ∙ (λ j. record v {
       seen = (sym t.ran.leaves j).board.log;
       mine = v.mine ++ drop (length (sym t.ran.shows j).board.log) (sym t.ran.leaves j).board.log;
     });
   }
 
-  module _ (v w : DeskView Item (Origin (View D))) (before after : Standing D) (t : TurnAt v w before after) where
+  module _ (v w : DeskView Item (Origin (View D))) (before after : BoardStanding D) (t : TurnAt v w before after) where
     pub same_origin : w.origin ≡ v.origin
     same_origin = ap (λ (x : DeskView Item (Origin (View D))). x.origin) t.is
 
@@ -68,35 +68,35 @@ module _ {D : Type 0} where
           (subst (λ (xs : List Item). EndsAt before.board.base xs c end) t.saw.1 ends)
 
       pub shared_called : Ends (verdict_of (rows_of before.board) c) (length before.board.log) (rows_of before.board).next end → length after.board.log < 2 ^ 64
-          → IsCalled by (port_of v) c end (port_of w)
+          → IsCalled by (port_view_of v) c end (port_view_of w)
       shared_called ends few = record {
         others = t.saw.0;
         ends = ended ends;
-        is = ap port_of t.is ∙ (λ j. record { base = base_of v.origin; seen = seen_more j; mine = mine_more j });
+        is = ap port_view_of t.is ∙ (λ j. record { base = base_of v.origin; seen = seen_more j; mine = mine_more j });
         few = subst (λ (xs : List Item). length xs < 2 ^ 64) (sym seen_after) few;
       }
 
     module _ (read : IsRead before after) where
       seen_same : after.board.log ≡ v.seen ++ t.saw.0
-      seen_same = ap (λ (b : Standing D). b.board.log) read.same ∙ t.saw.1
+      seen_same = ap (λ (b : BoardStanding D). b.board.log) read.same ∙ t.saw.1
 
       mine_same : v.mine ++ drop (length before.board.log) after.board.log ≡ v.mine
-      mine_same = ap (λ (b : Standing D). v.mine ++ drop (length before.board.log) b.board.log) read.same
+      mine_same = ap (λ (b : BoardStanding D). v.mine ++ drop (length before.board.log) b.board.log) read.same
           ∙ ap (λ (xs : List Item). v.mine ++ xs) (drop-length before.board.log) ∙ append-nil v.mine
 
-      pub shared_looks : Looks (port_of v) (port_of w)
+      pub shared_looks : Looks (port_view_of v) (port_view_of w)
       shared_looks = record {
         others = t.saw.0;
-        is = ap port_of t.is ∙ (λ j. record { base = base_of v.origin; seen = seen_same j; mine = mine_same j });
+        is = ap port_view_of t.is ∙ (λ j. record { base = base_of v.origin; seen = seen_same j; mine = mine_same j });
         few = subst (λ (xs : List Item). length xs < 2 ^ 64) (sym seen_after)
-            (subst (λ (b : Standing D). length b.board.log < 2 ^ 64) (sym read.same) read.few);
+            (subst (λ (b : BoardStanding D). length b.board.log < 2 ^ 64) (sym read.same) read.few);
       }
 
       -- what was read of the board's base and of its log is so of what is seen now
-      pub of_seen : (P : Rows → List Item → Type 0) → P before.board.base before.board.log → P (port_of w).base (port_of w).seen
+      pub of_seen : (P : Rows → List Item → Type 0) → P before.board.base before.board.log → P (port_view_of w).base (port_view_of w).seen
       of_seen P is =
-          subst (λ (r : Rows). P r (port_of w).seen) (sym (ap base_of same_origin ∙ t.base))
-          (subst (λ (xs : List Item). P before.board.base xs) (sym (seen_after ∙ ap (λ (b : Standing D). b.board.log) read.same)) is)
+          subst (λ (r : Rows). P r (port_view_of w).seen) (sym (ap base_of same_origin ∙ t.base))
+          (subst (λ (xs : List Item). P before.board.base xs) (sym (seen_after ∙ ap (λ (b : BoardStanding D). b.board.log) read.same)) is)
 
 module _ {D : Type 0} (told : D → Option Past) (start : View D) where
   -- at its start it has not gone on yet

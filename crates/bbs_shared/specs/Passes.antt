@@ -12,11 +12,11 @@ use Rattle.bbs_shared.specs.Boards.{base_of}
 use Rattle.bbs_shared.specs.declared.origin.Origin.{Origin}
 
 -- what a view of the desk has seen of the board, and has done there
-abbrev pub port_of : {S : Type 0} → View Item (Origin S) → PortView
-port_of v = record { base = base_of v.origin; seen = v.seen; mine = v.mine }
+abbrev pub port_view_of : {S : Type 0} → View Item (Origin S) → PortView
+port_view_of v = record { base = base_of v.origin; seen = v.seen; mine = v.mine }
 
 -- the hearer has seen all that it had seen and all that it was told; nothing else changed
-pub record Hears (told : List Item) (v w : PortView) : Type 0 where
+pub record HearsAll (told : List Item) (v w : PortView) : Type 0 where
   pub others : List Item
   pub is : w ≡ after_others v others
   pub all : Begins told w.seen
@@ -24,7 +24,7 @@ pub record Hears (told : List Item) (v w : PortView) : Type 0 where
 module _ {V S : Type 0} where
   -- what the holder of a pass has seen of the board, and has done there
   abbrev pub seen_by : Pass V Item (Origin S) → PortView
-  seen_by p = port_of (view_of p)
+  seen_by p = port_view_of (view_of p)
 
   -- still the same pass of the same board
   pub record IsSame (p q : Pass V Item (Origin S)) : Type 0 where

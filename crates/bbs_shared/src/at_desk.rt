@@ -16,9 +16,9 @@ pub struct AtDesk<D: Disk> {
 }
 
 impl<D: Disk> Model for AtDesk<D> {
-    ghost use Rattle.bbs_shared.specs.Boards.{Standing, HasGone};
+    ghost use Rattle.bbs_shared.specs.Boards.{BoardStanding, HasGone};
 
-    ghost Value = { Standing D };
+    ghost Value = { BoardStanding D };
 
     ghost view = { λ at. record { board = at.board; start = at.start.value } };
 

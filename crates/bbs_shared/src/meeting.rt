@@ -4,7 +4,7 @@ use disk_trait::Disk;
 
 impl<D: Disk> SharedBoard<D> {
     ghost use Rattle.std.specs.Prelude.{◌≡◌};
-    ghost use Rattle.bbs_shared.specs.Passes.{seen_by, IsSame, Hears};
+    ghost use Rattle.bbs_shared.specs.Passes.{seen_by, IsSame, HearsAll};
 
     /// From now on the hearer knows that the log has all that the teller has seen. It waits for
     /// nobody and takes no memory.
@@ -13,7 +13,7 @@ impl<D: Disk> SharedBoard<D> {
         requires hearer { hearer.old.place.table_id ≡ self.now.desk.table.shared.table_id }
         ensures teller { IsSame teller.old teller.new × (seen_by teller.new ≡ seen_by teller.old) }
         ensures hearer { IsSame hearer.old hearer.new }
-        ensures met { Hears (seen_by teller.old).seen (seen_by hearer.old) (seen_by hearer.new) }
+        ensures met { HearsAll (seen_by teller.old).seen (seen_by hearer.old) (seen_by hearer.new) }
     {
         self.desk.meet(teller, hearer);
     }

@@ -27,7 +27,7 @@ pub record IsSwitched (area : Area) (generation : ℕ) (new : List ℕ) (q : Pas
   pub beside : Has (Beside [] Nothing Loose (generation + 1)) (now q area)
 
 -- and after one that failed: nothing has changed in the old area, and this is known of the other
-pub record IsLeft (area : Area) (generation : ℕ) (new : List ℕ) (waiting : Waiting) (gate : OtherGate) (p q : Past) : Type 0 where
+pub record IsLeftBySwitch (area : Area) (generation : ℕ) (new : List ℕ) (waiting : Waiting) (gate : OtherGate) (p q : Past) : Type 0 where
   pub still : now q area ≡ now p area
   pub beside : Has (Beside new waiting gate generation) (now q (other area))
 
@@ -40,7 +40,7 @@ pub record Switches (ok : Bool) (area : Area) (generation : ℕ) (head : List �
       → OpensAs image area generation head payloads ⊎ OpensAs image (other area) (generation + 1) new []
   pub done : ok ≡ true → (image : Image) → Images q image → OpensAs image (other area) (generation + 1) new []
   pub made : ok ≡ true → IsSwitched area generation new q
-  pub failed : ok ≡ false → IsLeft area generation new waiting gate p q
+  pub failed : ok ≡ false → IsLeftBySwitch area generation new waiting gate p q
 
 -- whatever head and payloads the old area holds, where both generations are ones that a reader takes
 abbrev pub SwitchesAll : Bool → Area → ℕ → Waiting → OtherGate → List ℕ → Past → Past → Type 0
@@ -58,6 +58,6 @@ pub record StaysThere {D : Type 0} (old new : View D) : Type 0 where
   pub waiting : new.waiting ≡ (if is_waiting new.waiting then Header else Nothing)
 
 -- what the journal knows after a switch to a head of this size
-pub record GoesOn {D : Type 0} (ok : Bool) (size : ℕ) (old new : View D) : Type 0 where
+pub record KnowsAfterSwitch {D : Type 0} (ok : Bool) (size : ℕ) (old new : View D) : Type 0 where
   pub made : ok ≡ true → new ≡ with_opened true size old new.disk
   pub failed : ok ≡ false → StaysThere old new

@@ -4,7 +4,7 @@ ghost use Rattle.byte_ports.specs.Cause.{HasCause};
 ghost use Rattle.disk_trait.specs.Steps.{Goes};
 ghost use Rattle.bbs_journal.specs.Calls.{TakesCalls};
 ghost use Rattle.bbs_journal.specs.Switching.{close_calls};
-ghost use Rattle.bbs_snapshot.specs.Switches.{CanSwitch, SwitchesAll, GoesOn};
+ghost use Rattle.bbs_snapshot.specs.Switches.{CanSwitch, SwitchesAll, KnowsAfterSwitch};
 
 use bbs_journal::{DiskFault, Journal};
 use disk_trait::Disk;
@@ -23,7 +23,7 @@ pub fn switch<D: Disk>(journal: &mut Journal<D>, head: &[u8]) -> Result<(), Disk
         (D.moment journal.old.disk) (D.moment journal.new.disk) }
     ensures cause { HasCause (is_err result)
         (D.fault_count journal.old.disk) (D.fault_count journal.new.disk) }
-    ensures goes_on { GoesOn (is_ok result) (length head.now) journal.old journal.new }
+    ensures goes_on { KnowsAfterSwitch (is_ok result) (length head.now) journal.old journal.new }
 {
     journal.close_other()?;
     journal.write_other(head)?;

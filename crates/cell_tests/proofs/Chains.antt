@@ -10,7 +10,7 @@ use Rattle.cell_rep.specs.Wires.{WireEnds}
 use Rattle.cell_rep.specs.declared.call_end.Called.{Called}
 use Rattle.cell_rep.specs.declared.rep.CellRep.{CellRep}
 use Rattle.cell_rep.specs.declared.todo.Todo.{Todo}
-use Rattle.cell_tests.specs.Turns.{IsStopped, IsTaken, HasOneAnswer, ArePlayed}
+use Rattle.cell_tests.specs.Turns.{IsStopAnswer, IsTaken, HasOneAnswer, ArePlayed}
 use Rattle.cell_tests.specs.declared.playing.Turn.{Turn}
 use Rattle.cell_tests.specs.declared.playing.Turn.TheVariants as turn
 use Rattle.crash_backoff.specs.declared.moment.Moment.{Moment}
@@ -67,7 +67,7 @@ call_is_taken by now o rep v w e l a command called heard =
 
 -- a stop, as a turn
 pub stop_is_taken : (by : ℕ) (now : Moment) (i : Instance) (rep rep' : CellRep) (v : PortView) (e : Option WireEnds) (l : ℕ) (a : Called)
-    → IsStopped (stopping rep i) rep rep' a → IsTaken by (turn.Stop i) now (stage rep v e l []) (stage rep' v e l (a ∷ []))
+    → IsStopAnswer (stopping rep i) rep rep' a → IsTaken by (turn.Stop i) now (stage rep v e l []) (stage rep' v e l (a ∷ []))
 stop_is_taken by now i rep rep' v e l a h = record { answer = a; stopped = h; stays = refl }
 
 -- one turn more

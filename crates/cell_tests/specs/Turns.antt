@@ -25,14 +25,14 @@ pub record IsCallOfBoard (by : ℕ) (c : Command) (s s' : Stage) : Type 0 where
   pub stays : s' ≡ record s { view = s'.view; out = s.out ++ answer ∷ [] }
 
 -- the answer to a stop, and the rep after it
-abbrev pub IsStopped : Result CellRep StoreRefusal → CellRep → CellRep → Called → Type 0
-IsStopped (Ok left) rep rep' answer = (rep' ≡ left) × (answer.end ≡ end.Idle)
-IsStopped (Err why) rep rep' answer = (rep' ≡ rep) × (answer.end ≡ end.Local (Store why))
+abbrev pub IsStopAnswer : Result CellRep StoreRefusal → CellRep → CellRep → Called → Type 0
+IsStopAnswer (Ok left) rep rep' answer = (rep' ≡ left) × (answer.end ≡ end.Idle)
+IsStopAnswer (Err why) rep rep' answer = (rep' ≡ rep) × (answer.end ≡ end.Local (Store why))
 
 -- a container was given up, if it was there
 pub record IsGivenUp (i : Instance) (s s' : Stage) : Type 0 where
   pub answer : Called
-  pub stopped : IsStopped (stopping s.rep i) s.rep s'.rep answer
+  pub stopped : IsStopAnswer (stopping s.rep i) s.rep s'.rep answer
   pub stays : s' ≡ record s { rep = s'.rep; out = s.out ++ answer ∷ [] }
 
 -- what a turn does, at a moment

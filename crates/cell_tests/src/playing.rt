@@ -3,7 +3,7 @@ ghost use Rattle.std.specs.Prelude.{◌≡◌, false, [], ◌∷◌, Some, IfOk,
 ghost use Rattle.cell_rep.specs.Deliveries.{is_call_lost, IsDelivered};
 ghost use Rattle.cell_rep.specs.Follows.{stage};
 ghost use Rattle.cell_rep.specs.Reps.{stopping};
-ghost use Rattle.cell_tests.specs.Turns.{IsStopped, IsTaken, HasOneAnswer, ArePlayed};
+ghost use Rattle.cell_tests.specs.Turns.{IsStopAnswer, IsTaken, HasOneAnswer, ArePlayed};
 
 use bbs_model::{Command, Op, Port};
 use cell_records::Job;
@@ -49,7 +49,7 @@ fn call_board<P: Port>(port: &mut P, now: Moment, op: &Op) -> Called
 
 // A container is given up.
 fn give_up(rep: &mut CellRep, instance: &Instance) -> Called
-    ensures { IsStopped (stopping rep.old instance.now) rep.old rep.new result }
+    ensures { IsStopAnswer (stopping rep.old instance.now) rep.old rep.new result }
 {
     let end = match rep.stop(instance) {
         Ok(()) => CallEnd::Idle,

@@ -20,8 +20,8 @@ IsAdded cell job old new =
     (other : List ℕ) → jobs_at new other ≡ jobs_at old other ++ (if same_name cell other then option_to_list job else [])
 
 -- the job of a placement is kept for its cell, if it has one
-abbrev pub IsKept : Rows → Placement → CellJobs → CellJobs → Type 0
-IsKept rows p old new = (cell : List ℕ) → jobs_at new cell ≡ jobs_at old cell ++ option_to_list (job_on rows cell p)
+abbrev pub KeepsJob : Rows → Placement → CellJobs → CellJobs → Type 0
+KeepsJob rows p old new = (cell : List ℕ) → jobs_at new cell ≡ jobs_at old cell ++ option_to_list (job_on rows cell p)
 
 -- for each cell the jobs are kept that go to it
 pub record AreCellJobs (rows : Rows) (list : List Placement) (kept : CellJobs) : Type 0 where

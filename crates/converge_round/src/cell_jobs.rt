@@ -5,7 +5,7 @@ ghost use Rattle.std.specs.Ordering.{is_eq};
 ghost use Rattle.auctioneer.specs.declared.placement.Placement.{Placement as APlacement};
 ghost use Rattle.bbs_model.specs.Valid.{IsValid};
 ghost use Rattle.bbs_model.specs.declared.rows.Rows.{Rows as TheRows};
-ghost use Rattle.converge_round.specs.CellJobs.{jobs_at, AreCellJobs, IsAdded, IsKept};
+ghost use Rattle.converge_round.specs.CellJobs.{jobs_at, AreCellJobs, IsAdded, KeepsJob};
 ghost use Rattle.converge_round.specs.Places.{jobs_on};
 ghost use Rattle.diego_names.specs.Order.{name_order};
 
@@ -50,7 +50,7 @@ impl CellJobs {
     /// Keeps the job of a placement for its cell.
     fn keep(&mut self, alloc: Global, rows: &Rows, placement: &Placement) -> Result<(), OutOfMemory>
         requires { IsValid rows.now }
-        ensures { OnOk result (IsKept rows.entry.now placement.entry.now self.old self.new) }
+        ensures { OnOk result (KeepsJob rows.entry.now placement.entry.now self.old self.new) }
     {
         match placement {
             Placement::NoRoom { .. } => Ok(()),

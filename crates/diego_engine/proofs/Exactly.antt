@@ -8,7 +8,7 @@ use Rattle.program_edge.specs.Ending.{status_of}
 use Rattle.program_edge.specs.Ports.{Ports, IsTold}
 use Rattle.program_edge.specs.declared.ending.Ending.{Ending}
 use Rattle.program_edge.specs.declared.ending.Ending.TheVariants as ending
-use Rattle.program_run.specs.Reading.{ReadsAs, TellsAs, TellsTooMuch}
+use Rattle.program_run.specs.Reading.{ReadsWhole, TellsAs, TellsTooMuch}
 use Rattle.program_run.specs.Runs.{EndsLate, RunEnds, RunsScript}
 use Rattle.program_run.specs.declared.ended.Ended.{Ended}
 use Rattle.scenario_lines.specs.declared.script.Script.{Script}
@@ -94,7 +94,7 @@ module _ {D : Type 0} (told : D → Option Past) (faults moment : D → ℕ) (e 
   -- ---- a byte too much
 
   -- what was read whole isn't too much
-  not_whole : TellsTooMuch left → (said : Result Script ScriptFault) → ReadsAs said left left' → ⊥
+  not_whole : TellsTooMuch left → (said : Result Script ScriptFault) → ReadsWhole said left left' → ⊥
   not_whole tells said reads = by_left left left' tells.left_is reads.consumes reads.end
     where
       by_left : (l l' : Option (List ℕ)) → l ≡ Some tells.bytes → Consumes l l' reads.bytes → IsAtEnd l' → ⊥

@@ -8,7 +8,7 @@ use Rattle.bbs_model.specs.declared.rows.Rows.{Rows}
 use Rattle.program_edge.specs.Ports.{Ports}
 use Rattle.program_edge.specs.declared.ending.Ending.{Ending}
 use Rattle.program_edge.specs.declared.ending.Ending.TheVariants as ending
-use Rattle.program_run.specs.Reading.{ReadsAs}
+use Rattle.program_run.specs.Reading.{ReadsWhole}
 use Rattle.program_run.specs.Runs.{EndsLate, IsEmpty, RunEnds, ScriptEnds}
 use Rattle.program_run.specs.declared.ended.Ended.{Ended}
 use Rattle.run_laws.specs.Headline.{IsFaithful}
@@ -41,7 +41,7 @@ module _ {D : Type 0} (told : D → Option Past) (faults moment : D → ℕ) (la
       p.fresh.log (subst IsValid (sym p.base) p.valid)
       (subst (λ (rows : Rows). IsLawful rows p.left.log) (sym p.base) (subst (λ (log : List Item). IsLawful late.rows log) p.log p.lawful)) p.plays))
 
-  faithfully : (script : Script) (how : Ending) → ReadsAs (Ok script) left left' → IsScript script → EndsLate told faults moment script how e v w
+  faithfully : (script : Script) (how : Ending) → ReadsWhole (Ok script) left left' → IsScript script → EndsLate told faults moment script how e v w
       → DidFaithfully how
   faithfully script how reads sound late = record {
     script = script;
@@ -54,7 +54,7 @@ module _ {D : Type 0} (told : D → Option Past) (faults moment : D → ℕ) (la
   idle : IsEmpty e → IsIdle e.log.items e.answers.items e.reports.items
   idle is = (is.log, is.answers, is.reports)
 
-  starved : (script : Script) → ReadsAs (Ok script) left left' → IsScript script → ScriptEnds told faults moment script ending.OutOfMemory e v w
+  starved : (script : Script) → ReadsWhole (Ok script) left left' → IsScript script → ScriptEnds told faults moment script ending.OutOfMemory e v w
       → Did ending.OutOfMemory
   starved script reads sound (inl late) = inl (faithfully script ending.OutOfMemory reads sound late)
   starved script reads sound (inr ends) = inr (idle ends.0)

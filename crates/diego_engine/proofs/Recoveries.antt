@@ -9,7 +9,7 @@ use Rattle.disk_trait.specs.Shows.{Shows, KeepsContent}
 use Rattle.bbs_model.specs.declared.item.Item.{Item}
 use Rattle.bbs_board.specs.Doubts.{doubts_in, RoseForEach}
 use Rattle.bbs_board.specs.Opening.{IsBoard}
-use Rattle.diego_engine.specs.Headline.{Recovers}
+use Rattle.diego_engine.specs.Headline.{BoardTakesLog}
 use Rattle.program_edge.specs.Opening.{EndsUnopened}
 use Rattle.program_edge.specs.Ports.{Ports, IsTold}
 use Rattle.program_edge.specs.declared.ending.Ending.{Ending}
@@ -38,7 +38,7 @@ told_back (Some q) told' Does goes is = tt
 
 module _ {D : Type 0} (told : D → Option Past) (faults moment : D → ℕ) (e : Ended) (v w : Ports) where
   abbrev pub HasRecovery : Type 0
-  HasRecovery = Recovers e.log.items e.marks.items v.told w.told v.disk_faults w.disk_faults
+  HasRecovery = BoardTakesLog e.log.items e.marks.items v.told w.told v.disk_faults w.disk_faults
 
   -- what was opened is the board that the disk held
   pub opened : (script : Script) (how : Ending) (late : EndsLate told faults moment script how e v w) (image : Image) → Shows v.told image → IsTold w.told
@@ -49,8 +49,8 @@ module _ {D : Type 0} (told : D → Option Past) (faults moment : D → ℕ) (e 
   -- a run that did nothing
   empty : IsEmpty e → v.disk_faults ≤ w.disk_faults → Goes v.told w.told KeepsContent → HasRecovery
   empty is le goes =
-      subst (λ (log : List Item). Recovers log e.marks.items v.told w.told v.disk_faults w.disk_faults) (sym is.log)
-      (subst (λ (marks : List ℕ). Recovers [] marks v.told w.told v.disk_faults w.disk_faults) (sym is.marks)
+      subst (λ (log : List Item). BoardTakesLog log e.marks.items v.told w.told v.disk_faults w.disk_faults) (sym is.log)
+      (subst (λ (marks : List ℕ). BoardTakesLog [] marks v.told w.told v.disk_faults w.disk_faults) (sym is.marks)
       (recovers_resting v.told w.told v.disk_faults w.disk_faults le goes))
 
   untouched : (how : Ending) → EndsUnseen how e v w → HasRecovery

@@ -16,7 +16,7 @@ use Rattle.bbs_board.specs.Doubts.{doubts_in, RoseForEach}
 use Rattle.bbs_board.specs.Kept.{IsFound, RiseBetween, Kept}
 use Rattle.bbs_board.specs.Opening.{IsBoard}
 use Rattle.bbs_board.proofs.Public.{one_board}
-use Rattle.diego_engine.specs.Headline.{HoldsOnly, Takes, Recovers}
+use Rattle.diego_engine.specs.Headline.{HoldsOnly, TakesLog, BoardTakesLog}
 use Rattle.program_edge.specs.Ports.{IsTold}
 
 -- numbers that never fall lie above each smaller one
@@ -62,12 +62,12 @@ module _ (rows : Rows) (p : Past) (holds : HoldsOnly rows p) where
     acknowledged = kept.acknowledged;
   }
 
-  takes_rests : (q : Past) (faults faults' : ℕ) → faults ≤ faults' → KeepsContent p q → Takes rows [] [] p q faults faults'
+  takes_rests : (q : Past) (faults faults' : ℕ) → faults ≤ faults' → KeepsContent p q → TakesLog rows [] [] p q faults faults'
   takes_rests q faults faults' le keeps = record { lawful = tt; kept = kept_rests q keeps; doubts = omega (arith, le) }
 
   -- the rows of the board that was loaded are those that the disk held
   takes_on : (found : Rows) (q r : Past) (log : List Item) (marks : List ℕ) (since faults faults' : ℕ) → IsBoard found (content p) → KeepsContent p q → Extends q r → q.clock ≡ since
-      → IsLawful found log → Kept found log marks since r → RoseForEach (doubts_in log) faults faults' → Takes rows log marks p r faults faults'
+      → IsLawful found log → Kept found log marks since r → RoseForEach (doubts_in log) faults faults' → TakesLog rows log marks p r faults faults'
   takes_on found q r log marks since faults faults' board keeps extends since_is lawful kept doubts =
       let same : found ≡ rows = one_board found rows (content p) board holds.board in
       record {
@@ -78,14 +78,14 @@ module _ (rows : Rows) (p : Past) (holds : HoldsOnly rows p) where
 
 -- ---- the same, where the disk may tell nothing
 
-pub recovers_resting : (told told' : Option Past) (faults faults' : ℕ) → faults ≤ faults' → Goes told told' KeepsContent → Recovers [] [] told told' faults faults'
+pub recovers_resting : (told told' : Option Past) (faults faults' : ℕ) → faults ≤ faults' → Goes told told' KeepsContent → BoardTakesLog [] [] told told' faults faults'
 recovers_resting told told' faults faults' le goes p is q is' rows holds =
     let keeps : Goes told (Some q) KeepsContent = subst (λ (t : Option Past). Goes told t KeepsContent) is' goes in
     takes_rests rows p holds q faults faults' le (subst (λ (t : Option Past). Goes t (Some q) KeepsContent) is keeps)
 
 pub recovers_on : (told between told' : Option Past) (found : Rows) (log : List Item) (marks : List ℕ) (since faults faults' : ℕ)
     → ((image : Image) → Shows told image → IsTold told' → IsBoard found image) → Goes told between Secures → Goes between told' Extends → ((q : Past) → between ≡ Some q → q.clock ≡ since)
-    → IsLawful found log → ForSome told' (Kept found log marks since) → RoseForEach (doubts_in log) faults faults' → Recovers log marks told told' faults faults'
+    → IsLawful found log → ForSome told' (Kept found log marks since) → RoseForEach (doubts_in log) faults faults' → BoardTakesLog log marks told told' faults faults'
 recovers_on told between told' found log marks since faults faults' opens first second timed lawful kept doubts p is r is' rows holds =
     let (q, told_is, extends) = goes_back between told' Extends second r is' in
     let secures : Goes told (Some q) Secures = subst (λ (t : Option Past). Goes told t Secures) told_is first in

@@ -18,7 +18,7 @@ use Rattle.program_edge.specs.Opening.{is_before_board}
 use Rattle.program_edge.specs.Ports.{Ports, PrintsTo, IsTold}
 use Rattle.program_edge.specs.declared.ending.Ending.{Ending}
 use Rattle.program_edge.specs.declared.ending.Ending.TheVariants as ending
-use Rattle.program_run.specs.Reading.{ReadsAs, TellsAs, limit}
+use Rattle.program_run.specs.Reading.{ReadsWhole, TellsAs, limit}
 use Rattle.program_run.specs.Runs.{EndsLate, IsEmpty, RunEnds, RunsScript}
 use Rattle.program_run.specs.declared.ended.Ended.{Ended}
 use Rattle.scenario_lines.specs.declared.script.Script.{Script}
@@ -34,7 +34,7 @@ use Rattle.diego_engine.specs.Top.{ProgramEnds, RunsWhole, Meets}
 module _ {D : Type 0} (told : D → Option Past) (faults moment : D → ℕ) (e : Ended) (left left' : Option (List ℕ)) (v w : Ports) where
   -- the source gave no scenario, and its first fault was told, whole or up to a fault of the sink
   abbrev pub TellsFault : Type 0
-  TellsFault = (fault : ScriptFault) × ReadsAs (Err fault) left left'
+  TellsFault = (fault : ScriptFault) × ReadsWhole (Err fault) left left'
       × (whole : Bool) × PrintsTo whole (script_line fault) v.held w.held v.write_faults w.write_faults
 
   -- ---- a run
@@ -171,7 +171,7 @@ module _ {D : Type 0} (told : D → Option Past) (faults moment : D → ℕ) (e 
   -- ---- completeness
 
   -- what was read of a source that tells its bytes is what it tells
-  pub as_told : (said said' : Result Script ScriptFault) → TellsAs said left → ReadsAs said' left left' → said ≡ said'
+  pub as_told : (said said' : Result Script ScriptFault) → TellsAs said left → ReadsWhole said' left left' → said ≡ said'
   as_told said said' tells reads = by_left left left' tells.left_is reads.consumes reads.end
     where
       by_left : (l l' : Option (List ℕ)) → l ≡ Some tells.bytes → Consumes l l' reads.bytes → IsAtEnd l' → said ≡ said'

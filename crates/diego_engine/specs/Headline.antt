@@ -14,7 +14,7 @@ use Rattle.convergence.specs.declared.report.Report.{Report}
 use Rattle.program_edge.specs.Ports.{IsTold}
 use Rattle.program_edge.specs.declared.ending.Ending.{Ending}
 use Rattle.program_edge.specs.declared.ending.Ending.TheVariants as ending
-use Rattle.program_run.specs.Reading.{ReadsAs}
+use Rattle.program_run.specs.Reading.{ReadsWhole}
 use Rattle.run_laws.specs.Headline.{IsFaithful}
 use Rattle.scenario_lines.specs.declared.answered.Answered.{Answered}
 use Rattle.scenario_lines.specs.declared.script.Script.{Script}
@@ -27,15 +27,15 @@ pub record HoldsOnly (rows : Rows) (p : Past) : Type 0 where
 -- from p to q a board that began with these rows took this log: each command in it is legal at its place; whatever a
 -- stop since p left is a board that the log reaches, with each item that was acknowledged by then; and each doubt in
 -- it has a fault of the disk for its cause
-pub record Takes (rows : Rows) (log : List Item) (marks : List ℕ) (p q : Past) (faults faults' : ℕ) : Type 0 where
+pub record TakesLog (rows : Rows) (log : List Item) (marks : List ℕ) (p q : Past) (faults faults' : ℕ) : Type 0 where
   pub lawful : IsLawful rows log
   pub kept : Kept rows log marks p.clock q
   pub doubts : RoseForEach (doubts_in log) faults faults'
 
 -- where the disk tells its past at entry and at the end, and holds a board at entry: that board took this log
-abbrev pub Recovers : List Item → List ℕ → Option Past → Option Past → ℕ → ℕ → Type 0
-Recovers log marks told told' faults faults' =
-    ForSome told (λ p. ForSome told' (λ q. (rows : Rows) → HoldsOnly rows p → Takes rows log marks p q faults faults'))
+abbrev pub BoardTakesLog : List Item → List ℕ → Option Past → Option Past → ℕ → ℕ → Type 0
+BoardTakesLog log marks told told' faults faults' =
+    ForSome told (λ p. ForSome told' (λ q. (rows : Rows) → HoldsOnly rows p → TakesLog rows log marks p q faults faults'))
 
 -- nothing was done, and nothing is told of it
 abbrev pub IsIdle : List Item → List Answered → List Report → Type 0
@@ -47,7 +47,7 @@ pub record IsFaithfulTo (how : Ending) (log : List Item) (answers : List Answere
     (left left' : Option (List ℕ)) (told told' : Option Past) : Type 0 where
   pub script : Script
   pub rows : Rows
-  pub reads : ReadsAs (Ok script) left left'
+  pub reads : ReadsWhole (Ok script) left left'
   pub opened : (image : Image) → Shows told image → IsTold told' → IsBoard rows image
   pub faithful : IsFaithful script how answers reports rows log
 
@@ -71,5 +71,5 @@ DidRun other log answers reports left left' told told' = IsIdle log answers repo
 -- complete round leaves exactly one ordinary live or backing-off instance per desired index, and none undesired (`run`).
 pub record Headline (how : Ending) (log : List Item) (marks : List ℕ) (answers : List Answered) (reports : List Report)
     (left left' : Option (List ℕ)) (told told' : Option Past) (faults faults' : ℕ) : Type 0 where
-  pub recovery : Recovers log marks told told' faults faults'
+  pub recovery : BoardTakesLog log marks told told' faults faults'
   pub run : DidRun how log answers reports left left' told told'

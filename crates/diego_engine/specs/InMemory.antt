@@ -16,14 +16,14 @@ use Rattle.program_edge.specs.Ports.{Ports}
 use Rattle.program_edge.specs.declared.ending.Ending.{Ending}
 use Rattle.program_edge.specs.declared.ending.Ending.TheVariants as ending
 use Rattle.program_edge.specs.declared.top_end.TopEnd.{TopEnd}
-use Rattle.program_run.specs.Reading.{ReadsAs, limit}
+use Rattle.program_run.specs.Reading.{ReadsWhole, limit}
 use Rattle.program_run.specs.Runs.{EndsIdle, EndsUnseen, IsEmpty, PlaysOn}
 use Rattle.program_run.specs.declared.ended.Ended.{Ended}
 use Rattle.scenario_lines.specs.declared.script.Script.{Script}
 use Rattle.scenario_reader.specs.Facts.{IsScript}
 use Rattle.still_words.specs.declared.words.Asked.{Asked}
 use Rattle.still_words.specs.declared.words.Asked.TheVariants as asked
-use Rattle.diego_engine.specs.Top.{EndsWithoutRun, run_of, seen}
+use Rattle.diego_engine.specs.Top.{EndsWithoutRun, ports_now, run_of}
 
 -- what the disk tells, at every moment
 abbrev pub memory_told : MemoryDisk → Option Past
@@ -57,13 +57,13 @@ ScriptEndsInMemory script other e v w = EndsIdle other e v w
 -- the source gave a scenario, whose run ended so
 pub record RunsScriptInMemory (how : Ending) (e : Ended) (left left' : Option (List ℕ)) (v w : Ports) : Type 0 where
   pub script : Script
-  pub reads : ReadsAs (Ok script) left left'
+  pub reads : ReadsWhole (Ok script) left left'
   pub sound : IsScript script
   pub ends : ScriptEndsInMemory script how e v w
 
 -- how `run` ends
 abbrev pub RunEndsInMemory : Ending → Ended → Option (List ℕ) → Option (List ℕ) → Ports → Ports → Type 0
-RunEndsInMemory (ending.Script fault) e left left' v w = EndsUnseen (ending.Script fault) e v w × ReadsAs (Err fault) left left'
+RunEndsInMemory (ending.Script fault) e left left' v w = EndsUnseen (ending.Script fault) e v w × ReadsWhole (Err fault) left left'
 RunEndsInMemory ending.Read e left left' v w = EndsUnseen ending.Read e v w × LostAtMost left left' limit
 RunEndsInMemory ending.TooLong e left left' v w = EndsUnseen ending.TooLong e v w × Lost left left' (limit + 1)
 RunEndsInMemory ending.OutOfMemory e left left' v w =
@@ -86,7 +86,7 @@ RunsWholeInMemory e left left' v w = RunsScriptInMemory ending.Done e left left'
 -- what is told of a source and a sink
 module _ {S K : Type 0} (left : S → Option (List ℕ)) (held : K → Option (List ℕ)) (write_faults : K → ℕ) where
   abbrev pub seen_in_memory : K → MemoryDisk → Ports
-  seen_in_memory sink disk = seen held write_faults memory_told faults_of calls_of sink disk
+  seen_in_memory sink disk = ports_now held write_faults memory_told faults_of calls_of sink disk
 
   -- how the program ends that was asked for this and was given these, by what it hands back
   abbrev pub EndsInMemoryAt : Option Asked → S → K → MemoryDisk → TopEnd S K MemoryDisk → Type 0

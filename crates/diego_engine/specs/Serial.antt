@@ -10,12 +10,12 @@ use Rattle.bbs_model.specs.declared.rows.Rows.{Rows}
 use Rattle.program_edge.specs.Ports.{IsTold, Ports, Prints}
 use Rattle.program_edge.specs.declared.ending.Ending.{Ending}
 use Rattle.program_edge.specs.declared.top_end.TopEnd.{TopEnd}
-use Rattle.program_run.specs.Reading.{ReadsAs}
+use Rattle.program_run.specs.Reading.{ReadsWhole}
 use Rattle.program_run.specs.declared.ended.Ended.{Ended}
 use Rattle.scenario_lines.specs.declared.script.Script.{Script}
 use Rattle.serial_runs.specs.Boards.{SoleBoard}
 use Rattle.serial_runs.specs.Scripts.{IsSerialScript, SoleCourse, script_alone, words_alone}
-use Rattle.diego_engine.specs.Top.{run_of, seen}
+use Rattle.diego_engine.specs.Top.{run_of, ports_now}
 
 -- a board with these rows, on which nothing was done yet
 abbrev pub opened_with : Rows → SoleBoard
@@ -38,7 +38,7 @@ pub record IsSerialRun (script : Script) (rows : Rows) (e : Ended) (v w : Ports)
 pub record RunsSerially (e : Ended) (left left' : Option (List ℕ)) (v w : Ports) : Type 0 where
   pub script : Script
   pub rows : Rows
-  pub reads : ReadsAs (Ok script) left left'
+  pub reads : ReadsWhole (Ok script) left left'
   pub opened : (image : Image) → Shows v.told image → IsTold w.told → IsBoard rows image
   pub serial : IsSerialScript script → IsSerialRun script rows e v w
 
@@ -49,5 +49,5 @@ module _ {S K D : Type 0} (left : S → Option (List ℕ)) (held : K → Option 
   abbrev pub RunsSeriallyAt : S → K → D → TopEnd S K D → Type 0
   RunsSeriallyAt source sink disk end =
       (how : Ending) × RunsSerially (run_of how end)
-      (left source) (left end.source) (seen held write_faults told faults moment sink disk)
-      (seen held write_faults told faults moment end.sink end.disk)
+      (left source) (left end.source) (ports_now held write_faults told faults moment sink disk)
+      (ports_now held write_faults told faults moment end.sink end.disk)

@@ -9,7 +9,7 @@ use Rattle.program_edge.specs.Ports.{Ports, ports_of}
 use Rattle.program_edge.specs.declared.ending.Ending.{Ending}
 use Rattle.program_edge.specs.declared.ending.Ending.TheVariants as ending
 use Rattle.program_edge.specs.declared.top_end.TopEnd.{TopEnd}
-use Rattle.program_run.specs.Reading.{ReadsAs, TellsAs}
+use Rattle.program_run.specs.Reading.{ReadsWhole, TellsAs}
 use Rattle.program_run.specs.Runs.{IsEmpty, RunEnds, RunsScript}
 use Rattle.program_run.specs.declared.ended.Ended.{Ended}
 use Rattle.scenario_lines.specs.declared.script.Script.{Script}
@@ -34,7 +34,7 @@ ProgramEnds told faults moment how None e left left' v w = EndsWithoutRun how No
 
 -- what was asked for came as far as the opening of the board: a run once its source gave a scenario
 abbrev pub ReachesBoard : Option Asked → Option (List ℕ) → Option (List ℕ) → Type 0
-ReachesBoard (Some asked.Run) left left' = (script : Script) × ReadsAs (Ok script) left left'
+ReachesBoard (Some asked.Run) left left' = (script : Script) × ReadsWhole (Ok script) left left'
 ReachesBoard (Some asked.Prepare) left left' = ⊥
 ReachesBoard (Some asked.Records) left left' = Unit {0}
 ReachesBoard (Some asked.Check) left left' = Unit {0}
@@ -65,8 +65,8 @@ run_of how end = record {
 }
 
 -- what a sink and a disk tell of themselves
-abbrev pub seen : {K D : Type 0} → (K → Option (List ℕ)) → (K → ℕ) → (D → Option Past) → (D → ℕ) → (D → ℕ) → K → D → Ports
-seen held write_faults told faults moment sink disk =
+abbrev pub ports_now : {K D : Type 0} → (K → Option (List ℕ)) → (K → ℕ) → (D → Option Past) → (D → ℕ) → (D → ℕ) → K → D → Ports
+ports_now held write_faults told faults moment sink disk =
     ports_of (held sink) (write_faults sink) (told disk) (faults disk) (moment disk)
 
 -- what is told of a source, a sink and a disk
@@ -76,12 +76,12 @@ module _ {S K D : Type 0} (left : S → Option (List ℕ)) (held : K → Option 
   abbrev pub EndsAt : Option Asked → S → K → D → TopEnd S K D → Type 0
   EndsAt what source sink disk end =
       (how : Ending) × (end.status ≡ status_of how) × ProgramEnds told faults moment how what (run_of how end)
-      (left source) (left end.source) (seen held write_faults told faults moment sink disk)
-      (seen held write_faults told faults moment end.sink end.disk)
+      (left source) (left end.source) (ports_now held write_faults told faults moment sink disk)
+      (ports_now held write_faults told faults moment end.sink end.disk)
 
   -- a run that was given these did all of its scenario, by what it hands back
   abbrev pub RunsWholeAt : S → K → D → TopEnd S K D → Type 0
   RunsWholeAt source sink disk end =
       (how : Ending) × RunsWhole told faults moment (run_of how end)
-      (left source) (left end.source) (seen held write_faults told faults moment sink disk)
-      (seen held write_faults told faults moment end.sink end.disk)
+      (left source) (left end.source) (ports_now held write_faults told faults moment sink disk)
+      (ports_now held write_faults told faults moment end.sink end.disk)

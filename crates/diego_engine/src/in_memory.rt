@@ -15,7 +15,7 @@ ghost use Rattle.program_edge.specs.Ports.{PrintsTo};
 ghost use Rattle.still_words.specs.Still.{IsStopped, MeetsNoBoard, MeetsObstacle};
 ghost use Rattle.still_words.specs.Words.{asked_of};
 ghost use Rattle.still_words.specs.declared.words.Asked.TheVariants as wanted;
-ghost use Rattle.program_run.specs.Reading.{ReadsAs, TellsAs, TellsTooMuch, limit};
+ghost use Rattle.program_run.specs.Reading.{ReadsWhole, TellsAs, TellsTooMuch, limit};
 ghost use Rattle.scenario_lines.specs.declared.script.Script.{Script as AScript};
 ghost use Rattle.scenario_reader.specs.declared.fault.ScriptFault.{ScriptFault as AFault};
 ghost use Rattle.diego_engine.specs.InMemory.{EndsInMemoryAt, RunsWholeInMemoryAt};
@@ -42,7 +42,7 @@ pub fn diego_top_in_memory<S: Source, K: Sink, G: Gate>(
     // Each status exactly where, or only where, this holds.
     ensures usage { (result.status ≡ 1) ↔ (asked_of (map (λ w. string_bytes w) words.now) ≡ None) }
     ensures script { result.status ≡ 2 → (fault : AFault)
-        × ReadsAs (Err fault) (S.left source) (S.left result.source)
+        × ReadsWhole (Err fault) (S.left source) (S.left result.source)
         × (whole : Bool) × PrintsTo whole (script_line fault)
         (K.held sink) (K.held result.sink) (K.faults sink) (K.faults result.sink) }
     ensures no_script { (fault : AFault) → asked_of (map (λ w. string_bytes w) words.now) ≡ Some wanted.Run

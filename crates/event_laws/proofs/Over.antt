@@ -5,7 +5,7 @@ use Rattle.std.proofs.lemmas.List.{take-append-drop, take-take}
 use Rattle.task_records.specs.States.{is_unfinished, is_completed}
 use Rattle.task_records.specs.declared.task.Task.{Task}
 use Rattle.task_records.proofs.Public.{completed_is_finished}
-use Rattle.bbs_laws.specs.Births.{born_at, is_waiting, is_ended, is_completed_between, completions}
+use Rattle.bbs_laws.specs.Births.{born_at, awaits_outcome, is_ended, is_completed_between, completions}
 use Rattle.bbs_model.specs.Replay.{after_item, command_in, replay_log, rows_at, IsLawful, IsReached}
 use Rattle.bbs_model.specs.Step.{IsLegal}
 use Rattle.bbs_model.specs.Valid.{IsTaskRow, IsValid}
@@ -76,7 +76,7 @@ both_true false b e = cc
 over-completed : (rows : Rows) (item : Item) (b : ℕ) → IsValid rows → IsLegal rows (command_in item) → is_completed_between rows (after_item rows item) b ≡ true
     → IsOver (after_item rows item) b
 over-completed rows item b valid legal is =
-    let parts = both_true (is_waiting rows b) (is_ended (after_item rows item) b) is in
+    let parts = both_true (awaits_outcome rows b) (is_ended (after_item rows item) b) is in
     let born : b < rows.next = waits-below b rows.next rows.tasks (each_weaker (IsTaskRow rows.next) (λ (t : Task). t.birth < rows.next) (λ t there. there.born) rows.tasks valid.tasks.each) parts.0 in
     record {
       born = born-after_item rows item b legal born;

@@ -1,6 +1,6 @@
 -- A board over any number of stops: what it logged each time, and what it was found at after it.
 use Rattle.std.specs.Prelude.{◌≡◌, ℕ, ◌+◌, ◌<◌, ◌≤◌, false, List, [], ◌∷◌, take}
-use Rattle.bbs_laws.specs.Births.{is_waiting, completions}
+use Rattle.bbs_laws.specs.Births.{awaits_outcome, completions}
 use Rattle.bbs_model.specs.Replay.{IsLawful, IsReached}
 use Rattle.bbs_model.specs.Valid.{IsValid}
 use Rattle.bbs_model.specs.declared.item.Item.{Item}
@@ -10,7 +10,7 @@ use Rattle.bbs_model.specs.declared.rows.Rows.{Rows}
 -- RESOLVING, or it is gone
 pub record IsOver (rows : Rows) (birth : ℕ) : Type 0 where
   pub born : birth < rows.next
-  pub rests : is_waiting rows birth ≡ false
+  pub rests : awaits_outcome rows birth ≡ false
 
 -- what is over when a log begins is over wherever the board is found after it
 abbrev pub StaysOver : Rows → List Item → ℕ → Type 0

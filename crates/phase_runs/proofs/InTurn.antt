@@ -12,12 +12,12 @@ use Rattle.crash_backoff.specs.declared.moment.Moment.{Moment}
 use Rattle.scenario_lines.specs.declared.answered.Answered.{Answered}
 use Rattle.scenario_lines.specs.declared.script.Line.{Line}
 use Rattle.actor_runs.specs.Runs.{IsOneActor}
-use Rattle.actor_runs.specs.Turns.{CanDo, IsCutShort, standing, Takes, turns_in}
+use Rattle.actor_runs.specs.Turns.{actor_standing, CanDo, IsCutShort, Takes, turns_in}
 use Rattle.actor_runs.specs.declared.actor_state.ActorState.{ActorState}
 use Rattle.actor_runs.proofs.Public.{one_same}
 use Rattle.sole_port.specs.Went.{seen_of, Went}
-use Rattle.phase_runs.specs.Actors.{ActorsCut, AreByFirst, AreSame, CanAllDo, FirstRan, PartCut, PartRan}
-use Rattle.phase_runs.specs.Boards.{IsAlone}
+use Rattle.phase_runs.specs.Actors.{ActorsCut, AreByFirst, AreSameActors, CanAllDo, FirstRan, PartCut, PartRan}
+use Rattle.phase_runs.specs.Boards.{IsCalledByOne}
 use Rattle.sole_port.proofs.Public.{goes_as, goes_further, goes_nowhere}
 use Rattle.phase_runs.proofs.Parts.{by_both, not_begun, part_cut, part_ran, ran_on, ran_whole}
 use Rattle.phase_runs.proofs.Places.{at_last, at_set, before_last, beside_set, one_of}
@@ -54,7 +54,7 @@ module _ {D : Type 0} (told : D → Option Past) (now : Moment) (lines : List Li
     abbrev after : List ActorState
     after = set news count a'
 
-    same_after : AreSame olds after
+    same_after : AreSameActors olds after
     same_after = record {
       length_is = length-set news count a' ∙ ran.same.length_is;
       one = λ k b b' old new. same_at k b b' old new (cases_eq k count);
@@ -75,7 +75,7 @@ module _ {D : Type 0} (told : D → Option Past) (now : Moment) (lines : List Li
         ∙ of_others by (λ e. absurd (omega (arith, behind, e)))
 
     -- one more had its turn
-    pub one_more_ran : (out : List Answered) → Takes (suc count) now (turns_in (suc count) lines) (standing a (seen_of (suc count) m) []) (standing a' (seen_of (suc count) w) out)
+    pub one_more_ran : (out : List Answered) → Takes (suc count) now (turns_in (suc count) lines) (actor_standing a (seen_of (suc count) m) []) (actor_standing a' (seen_of (suc count) w) out)
         → FirstRan told now lines (count + 1) olds after (parts ++ out ∷ []) v w
     one_more_ran out takes = record {
       fresh = ran.fresh ++ went.more;
@@ -165,7 +165,7 @@ one_can lines olds news count d can same within still =
 module _ {D : Type 0} (told : D → Option Past) (now : Moment) (lines : List Line) (olds : List ActorState) (v : View D) (count : ℕ) (news : List ActorState)
     (parts : List (List Answered)) (m w : View D) (ran : FirstRan told now lines count olds news parts v m) (d a' : ActorState)
     (same : length news ≡ length olds) (within : count < length olds) (one : IsOneActor (get_or news count d) a')
-    (alone : IsAlone told (count + 1) m w) where
+    (alone : IsCalledByOne told (count + 1) m w) where
   inside : count < length news
   inside = omega (arith, same, within)
 
@@ -180,11 +180,11 @@ module _ {D : Type 0} (told : D → Option Past) (now : Moment) (lines : List Li
 
   -- its turn, whole
   pub one_ran : (out : List Answered)
-      → Takes (count + 1) now (turns_in (count + 1) lines) (standing (get_or news count d) (seen_of (count + 1) m) []) (standing a' (seen_of (count + 1) w) out)
+      → Takes (count + 1) now (turns_in (count + 1) lines) (actor_standing (get_or news count d) (seen_of (count + 1) m) []) (actor_standing a' (seen_of (count + 1) w) out)
       → FirstRan told now lines (count + 1) olds (set news count a') (parts ++ out ∷ []) v w
   one_ran out takes =
       one_more_ran told now lines olds v count news parts m w ran (get_or news count d) a' inside its one alone.name alone.name' went out
-      (subst (λ n. Takes n now (turns_in n lines) (standing (get_or news count d) (seen_of n m) []) (standing a' (seen_of n w) out)) down takes)
+      (subst (λ n. Takes n now (turns_in n lines) (actor_standing (get_or news count d) (seen_of n m) []) (actor_standing a' (seen_of n w) out)) down takes)
 
   -- its turn, cut off
   pub one_cut : IsCutShort (count + 1) now (turns_in (count + 1) lines) (get_or news count d) (seen_of (count + 1) m) a' (seen_of (count + 1) w)
@@ -195,7 +195,7 @@ module _ {D : Type 0} (told : D → Option Past) (now : Moment) (lines : List Li
 
   -- its turn was whole, and memory ran out behind it
   pub ran_then_cut : (first out : List Answered) → first ≡ []
-      → Takes (count + 1) now (turns_in (count + 1) lines) (standing (get_or news count d) (seen_of (count + 1) m) first) (standing a' (seen_of (count + 1) w) out)
+      → Takes (count + 1) now (turns_in (count + 1) lines) (actor_standing (get_or news count d) (seen_of (count + 1) m) first) (actor_standing a' (seen_of (count + 1) w) out)
       → ActorsCut told now lines olds (set news count a') v w
   ran_then_cut first out none takes = one_cut (record {
     done = turns_in (count + 1) lines;

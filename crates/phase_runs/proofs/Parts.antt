@@ -11,11 +11,11 @@ use Rattle.bbs_model.specs.declared.rows.Rows.{Rows}
 use Rattle.crash_backoff.specs.declared.moment.Moment.{Moment}
 use Rattle.scenario_lines.specs.declared.answered.Answered.{Answered}
 use Rattle.scenario_lines.specs.declared.script.Line.{Line}
-use Rattle.actor_runs.specs.Turns.{is_any_unfed, IsCutAt, IsCutShort, standing, Takes, TakesTurns, turns_in, Turn}
+use Rattle.actor_runs.specs.Turns.{is_any_unfed, IsCutAt, IsCutShort, actor_standing, Takes, TakesTurns, turns_in, Turn}
 use Rattle.actor_runs.specs.declared.actor_state.ActorState.{ActorState}
 use Rattle.sole_port.specs.Went.{seen_of, Went}
 use Rattle.phase_runs.specs.Actors.{PartCut, PartRan, SeesPhase}
-use Rattle.phase_runs.specs.Boards.{GoesOn}
+use Rattle.phase_runs.specs.Boards.{BoardGoesOn}
 
 pub by_both : (by : ℕ) (xs ys : List Item) → by_number by (xs ++ ys) ≡ by_number by xs ++ by_number by ys
 by_both by xs ys = filter-append (λ (i : Item). by_of i == by) xs ys
@@ -105,7 +105,7 @@ own_sees told by name name' m w went = record {
 }
 
 -- what is seen behind others is seen of the phase
-pub sees_behind : {D : Type 0} (told : D → Option Past) (by : ℕ) (v m : View D) (fresh more : List Item) → GoesOn told fresh v m
+pub sees_behind : {D : Type 0} (told : D → Option Past) (by : ℕ) (v m : View D) (fresh more : List Item) → BoardGoesOn told fresh v m
     → by_number by fresh ≡ [] → (first last : PortView) → SeesPhase m.base m.log more by first last → SeesPhase v.base v.log (fresh ++ more) by first last
 sees_behind told by v m fresh more goes none first last sees = record {
   base_is = sees.base_is ∙ goes.base;
@@ -116,14 +116,14 @@ sees_behind told by v m fresh more goes none first last sees = record {
 }
 
 module _ {D : Type 0} (told : D → Option Past) (by name name' : ℕ) (v m w : View D) (fresh : List Item)
-    (goes : GoesOn told fresh v m) (none : by_number by fresh ≡ []) (went : Went told by by name name' m w) where
+    (goes : BoardGoesOn told fresh v m) (none : by_number by fresh ≡ []) (went : Went told by by name name' m w) where
   -- an actor whose turn it is sees the phase as it is by then
   sole_sees : SeesPhase v.base v.log (fresh ++ went.more) by (seen_of by m) (seen_of by w)
   sole_sees =
       sees_behind told by v m fresh went.more goes none (seen_of by m) (seen_of by w) (own_sees told by name name' m w went)
 
   pub part_ran : (now : Moment) (lines : List Line) (a a' : ActorState) (out : List Answered)
-      → Takes by now (turns_in by lines) (standing a (seen_of by m) []) (standing a' (seen_of by w) out)
+      → Takes by now (turns_in by lines) (actor_standing a (seen_of by m) []) (actor_standing a' (seen_of by w) out)
       → PartRan v.base now lines v.log (fresh ++ went.more) by a a' out
   part_ran now lines a a' out takes = record {
     first = seen_of by m;

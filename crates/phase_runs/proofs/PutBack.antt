@@ -9,7 +9,7 @@ use Rattle.actor_runs.specs.Runs.{IsOneActor}
 use Rattle.actor_runs.specs.declared.actor_state.ActorState.{ActorState}
 use Rattle.actor_runs.specs.declared.actor_state.ActorState.TheVariants.{Client, Cell}
 use Rattle.actor_runs.proofs.Public.{one_same, one_then}
-use Rattle.phase_runs.specs.Actors.{AreSame}
+use Rattle.phase_runs.specs.Actors.{AreSameActors}
 use Rattle.phase_runs.specs.Reps.{bare, reps_of, with_reps}
 use Rattle.phase_runs.proofs.Places.{one_of}
 
@@ -65,10 +65,10 @@ one_put (Cell rep ∷ xs) (r ∷ rs) kept zero a a' old new = between (Cell rep)
 one_put (Cell rep ∷ xs) (r ∷ rs) kept (suc k) a a' old new = one_put xs rs kept.1 k a a' old new
 
 -- each is the client or the cell that it was
-pub same_put : (xs : List ActorState) (rs : List CellRep) → KeepReps (reps_of xs) rs → AreSame xs (with_reps xs rs)
+pub same_put : (xs : List ActorState) (rs : List CellRep) → KeepReps (reps_of xs) rs → AreSameActors xs (with_reps xs rs)
 same_put xs rs kept = record { length_is = as_many xs rs; one = one_put xs rs kept }
 
-pub same_as : (xs ys : List ActorState) → ys ≡ xs → AreSame xs ys
+pub same_as : (xs ys : List ActorState) → ys ≡ xs → AreSameActors xs ys
 same_as xs ys is = record {
   length_is = ap length is;
   one = λ k a a' old new.
@@ -76,7 +76,7 @@ same_as xs ys is = record {
       (one_same a);
 }
 
-pub same_then : (xs ys zs : List ActorState) → AreSame xs ys → AreSame ys zs → AreSame xs zs
+pub same_then : (xs ys zs : List ActorState) → AreSameActors xs ys → AreSameActors ys zs → AreSameActors xs zs
 same_then xs ys zs first second = record {
   length_is = second.length_is ∙ first.length_is;
   one = λ k a c old new.

@@ -19,7 +19,7 @@ use Rattle.crash_backoff.specs.declared.moment.Moment.{Moment}
 use Rattle.scenario_lines.specs.declared.script.RoundLine.{RoundLine}
 use Rattle.actor_runs.specs.declared.actor_state.ActorState.{ActorState}
 use Rattle.sole_port.specs.Went.{seen_of}
-use Rattle.phase_runs.specs.Boards.{IsAlone}
+use Rattle.phase_runs.specs.Boards.{IsCalledByOne}
 use Rattle.phase_runs.specs.Phases.{CutAlone, IsToldBy, RoundAlone}
 use Rattle.phase_runs.specs.Reps.{reps_of, with_reps}
 use Rattle.sole_port.proofs.Public.{goes_as, goes_nowhere}
@@ -39,7 +39,7 @@ module _ {D : Type 0} (told : D → Option Past) (now : Moment) (v : View D) whe
   pub no_begin : (line : RoundLine) (mids : List ActorState) → CutAlone told now (Some line) mids v v
   no_begin line mids = record { fresh = []; goes = goes_nowhere told v; others = λ by ne. refl; cut = inl refl }
 
-  module _ (w : View D) (alone : IsAlone told 0 v w) where
+  module _ (w : View D) (alone : IsCalledByOne told 0 v w) where
     abbrev its : List Item
     its = alone.went.more
 

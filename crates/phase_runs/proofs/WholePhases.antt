@@ -17,8 +17,8 @@ use Rattle.scenario_lines.specs.declared.answered.Answered.{Answered}
 use Rattle.scenario_lines.specs.declared.script.Phase.{Phase}
 use Rattle.scenario_lines.specs.declared.script.RoundLine.{RoundLine}
 use Rattle.actor_runs.specs.declared.actor_state.ActorState.{ActorState}
-use Rattle.phase_runs.specs.Actors.{ActorsCut, ActorsRan, AreSame, PartCut, PartRan}
-use Rattle.phase_runs.specs.Boards.{GoesOn}
+use Rattle.phase_runs.specs.Actors.{ActorsCut, ActorsRan, AreSameActors, PartCut, PartRan}
+use Rattle.phase_runs.specs.Boards.{BoardGoesOn}
 use Rattle.phase_runs.specs.Phases.{CutAlone, IsRoundCut, IsToldBy, PhaseCut, PhaseRan, RoundAlone, RoundRan}
 use Rattle.phase_runs.specs.Reps.{reps_of}
 use Rattle.sole_port.proofs.Public.{goes_further}
@@ -27,17 +27,17 @@ use Rattle.phase_runs.proofs.PutBack.{same_as, same_put, same_then}
 
 -- each is the client or the cell that it was
 pub same_held : (round : Option RoundLine) (base : Rows) (before fresh : List Item) (now : Moment) (mids news : List ActorState)
-    (report : Option Report) → RoundRan round base before fresh now mids news report → AreSame mids news
+    (report : Option Report) → RoundRan round base before fresh now mids news report → AreSameActors mids news
 same_held None base before fresh now mids news report ran = same_as mids news ran.1.0
 same_held (Some line) base before fresh now mids news report ran =
-    subst (AreSame mids) (sym ran.news_are) (same_put mids ran.reps ran.kept)
+    subst (AreSameActors mids) (sym ran.news_are) (same_put mids ran.reps ran.kept)
 
 pub not_begun_round : (round : Option RoundLine) (base : Rows) (before fresh : List Item) (now : Moment) (reps : List CellRep) → by_number 0 fresh ≡ []
     → IsRoundCut round base before fresh now reps
 not_begun_round None base before fresh now reps none = none
 not_begun_round (Some line) base before fresh now reps none = inl none
 
-module _ {D : Type 0} (told : D → Option Past) (v m : View D) (fresh more : List Item) (goes : GoesOn told fresh v m) where
+module _ {D : Type 0} (told : D → Option Past) (v m : View D) (fresh more : List Item) (goes : BoardGoesOn told fresh v m) where
   -- items by a caller that did none of the first ones
   none_then : (by : ℕ) → by_number by fresh ≡ [] → by_number by more ≡ [] → by_number by (fresh ++ more) ≡ []
   none_then by none nor = by_both by fresh more ∙ ap (λ (xs : List Item). xs ++ by_number by more) none ∙ nor
@@ -88,11 +88,11 @@ module _ {D : Type 0} (told : D → Option Past) (phase : Phase) (olds mids : Li
   }
 
   module _ (parts : List (List Answered)) (acted : ActorsRan told phase.at phase.lines olds mids parts v m) (w : View D) (more : List Item)
-      (goes : GoesOn told more m w) (others : (by : ℕ) → by ≢ 0 → by_number by more ≡ []) where
+      (goes : BoardGoesOn told more m w) (others : (by : ℕ) → by ≢ 0 → by_number by more ≡ []) where
     abbrev all : List Item
     all = acted.fresh ++ more
 
-    goes_all : GoesOn told all v w
+    goes_all : BoardGoesOn told all v w
     goes_all = goes_further told v m w acted.fresh more acted.goes goes
 
     none_behind : (by : ℕ) → length olds < by → by_number by all ≡ []

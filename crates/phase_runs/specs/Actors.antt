@@ -13,17 +13,17 @@ use Rattle.scenario_lines.specs.declared.script.Line.{Line}
 use Rattle.actor_runs.specs.Runs.{IsOneActor}
 use Rattle.actor_runs.specs.Turns.{CanDo, is_any_unfed, IsCutShort, TakesTurns, turns_in}
 use Rattle.actor_runs.specs.declared.actor_state.ActorState.{ActorState}
-use Rattle.phase_runs.specs.Boards.{GoesOn}
+use Rattle.phase_runs.specs.Boards.{BoardGoesOn}
 
 -- the second log goes on from the first
-abbrev pub Begins : List Item → List Item → Type 0
-Begins first log = (rest : List Item) × (log ≡ first ++ rest)
+abbrev pub LogBegins : List Item → List Item → Type 0
+LogBegins first log = (rest : List Item) × (log ≡ first ++ rest)
 
 -- a caller's two views lie within a phase that began at a log and added these items, and it did its own of them
 pub record SeesPhase (base : Rows) (before fresh : List Item) (by : ℕ) (v w : PortView) : Type 0 where
   pub base_is : v.base ≡ base
-  pub from : Begins before v.seen
-  pub upto : Begins w.seen (before ++ fresh)
+  pub from : LogBegins before v.seen
+  pub upto : LogBegins w.seen (before ++ fresh)
   pub own : w.mine ≡ v.mine ++ by_number by fresh
 
 -- the actor with that number did all of its lines, with these answers, and none wanted memory
@@ -47,7 +47,7 @@ abbrev pub CanAllDo : List Line → List ActorState → Type 0
 CanAllDo lines actors = (k : ℕ) (a : ActorState) → slice_get actors k ≡ Some a → CanDo (suc k) lines a
 
 -- each is still the client or the cell that it was
-pub record AreSame (olds news : List ActorState) : Type 0 where
+pub record AreSameActors (olds news : List ActorState) : Type 0 where
   pub length_is : length news ≡ length olds
   pub one : (k : ℕ) (a a' : ActorState) → slice_get olds k ≡ Some a → slice_get news k ≡ Some a' → IsOneActor a a'
 
@@ -59,13 +59,13 @@ AreByFirst count fresh = (by : ℕ) → (by ≡ 0) ⊎ (count < by) → by_numbe
 pub record FirstRan {D : Type 0} (told : D → Option Past) (now : Moment) (lines : List Line) (count : ℕ) (olds news : List ActorState)
     (parts : List (List Answered)) (v w : View D) : Type 0 where
   pub fresh : List Item
-  pub goes : GoesOn told fresh v w
+  pub goes : BoardGoesOn told fresh v w
   pub count_is : length parts ≡ count
   pub ran : (k : ℕ) (a a' : ActorState) (answers : List Answered) → slice_get olds k ≡ Some a → slice_get news k ≡ Some a'
       → slice_get parts k ≡ Some answers → PartRan v.base now lines v.log fresh (suc k) a a' answers
   pub still : (k : ℕ) (a : ActorState) → count ≤ k → slice_get news k ≡ Some a → slice_get olds k ≡ Some a
   pub others : AreByFirst count fresh
-  pub same : AreSame olds news
+  pub same : AreSameActors olds news
 
 -- all actors did all of their lines
 abbrev pub ActorsRan : {D : Type 0} → (D → Option Past) → Moment → List Line → List ActorState → List ActorState →
@@ -76,8 +76,8 @@ ActorsRan told now lines olds news parts v w = FirstRan told now lines (length o
 pub record ActorsCut {D : Type 0} (told : D → Option Past) (now : Moment) (lines : List Line)
     (olds news : List ActorState) (v w : View D) : Type 0 where
   pub fresh : List Item
-  pub goes : GoesOn told fresh v w
+  pub goes : BoardGoesOn told fresh v w
   pub cut : (k : ℕ) (a a' : ActorState) → slice_get olds k ≡ Some a → slice_get news k ≡ Some a'
       → PartCut v.base now lines v.log fresh (suc k) a a'
   pub others : AreByFirst (length olds) fresh
-  pub same : AreSame olds news
+  pub same : AreSameActors olds news

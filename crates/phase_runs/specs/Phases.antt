@@ -18,8 +18,8 @@ use Rattle.scenario_lines.specs.declared.answered.Answered.{Answered}
 use Rattle.scenario_lines.specs.declared.script.Phase.{Phase}
 use Rattle.scenario_lines.specs.declared.script.RoundLine.{RoundLine}
 use Rattle.actor_runs.specs.declared.actor_state.ActorState.{ActorState}
-use Rattle.phase_runs.specs.Actors.{AreSame, PartCut, PartRan, SeesPhase}
-use Rattle.phase_runs.specs.Boards.{GoesOn}
+use Rattle.phase_runs.specs.Actors.{AreSameActors, PartCut, PartRan, SeesPhase}
+use Rattle.phase_runs.specs.Boards.{BoardGoesOn}
 use Rattle.phase_runs.specs.Reps.{reps_of, with_reps}
 use Rattle.phase_runs.specs.Rounds.{RoundOf}
 
@@ -64,7 +64,7 @@ IsRoundCut (Some line) base before fresh now reps = (by_number 0 fresh ≡ []) �
 pub record RoundAlone {D : Type 0} (told : D → Option Past) (now : Moment) (round : Option RoundLine)
     (mids news : List ActorState) (report : Option Report) (v w : View D) : Type 0 where
   pub fresh : List Item
-  pub goes : GoesOn told fresh v w
+  pub goes : BoardGoesOn told fresh v w
   pub others : (by : ℕ) → by ≢ 0 → by_number by fresh ≡ []
   pub ran : RoundRan round v.base v.log fresh now mids news report
 
@@ -72,7 +72,7 @@ pub record RoundAlone {D : Type 0} (told : D → Option Past) (now : Moment) (ro
 pub record CutAlone {D : Type 0} (told : D → Option Past) (now : Moment) (round : Option RoundLine)
     (mids : List ActorState) (v w : View D) : Type 0 where
   pub fresh : List Item
-  pub goes : GoesOn told fresh v w
+  pub goes : BoardGoesOn told fresh v w
   pub others : (by : ℕ) → by ≢ 0 → by_number by fresh ≡ []
   pub cut : IsRoundCut round v.base v.log fresh now (reps_of mids)
 
@@ -81,24 +81,24 @@ pub record CutAlone {D : Type 0} (told : D → Option Past) (now : Moment) (roun
 pub record PhaseRan {D : Type 0} (told : D → Option Past) (phase : Phase) (olds news : List ActorState)
     (parts : List (List Answered)) (report : Option Report) (v w : View D) : Type 0 where
   pub fresh : List Item
-  pub goes : GoesOn told fresh v w
+  pub goes : BoardGoesOn told fresh v w
   pub mids : List ActorState
   pub count_is : length parts ≡ length olds
   pub ran : (k : ℕ) (a a' : ActorState) (answers : List Answered) → slice_get olds k ≡ Some a
       → slice_get mids k ≡ Some a' → slice_get parts k ≡ Some answers → PartRan v.base phase.at phase.lines v.log fresh (suc k) a a' answers
   pub others : (by : ℕ) → length olds < by → by_number by fresh ≡ []
-  pub same : AreSame olds mids
+  pub same : AreSameActors olds mids
   pub round : RoundRan phase.round v.base v.log fresh phase.at mids news report
-  pub kept : AreSame olds news
+  pub kept : AreSameActors olds news
 
 -- a phase that was cut off: each actor did its lines up to some place, and the round its items up to some
 pub record PhaseCut {D : Type 0} (told : D → Option Past) (phase : Phase) (olds : List ActorState)
     (v w : View D) : Type 0 where
   pub fresh : List Item
-  pub goes : GoesOn told fresh v w
+  pub goes : BoardGoesOn told fresh v w
   pub mids : List ActorState
   pub cut : (k : ℕ) (a a' : ActorState) → slice_get olds k ≡ Some a → slice_get mids k ≡ Some a'
       → PartCut v.base phase.at phase.lines v.log fresh (suc k) a a'
   pub others : (by : ℕ) → length olds < by → by_number by fresh ≡ []
-  pub same : AreSame olds mids
+  pub same : AreSameActors olds mids
   pub round : IsRoundCut phase.round v.base v.log fresh phase.at (reps_of mids)

@@ -11,8 +11,8 @@ use Rattle.scenario_lines.specs.declared.script.RoundLine.{RoundLine}
 use Rattle.phase_runs.specs.declared.round_wire.RoundWire.{RoundWire}
 
 -- the cell is one of these
-abbrev pub is_named : List (List ℕ) → List ℕ → Bool
-is_named names cell = list_any (λ n. pointwise nat_eq n cell) names
+abbrev pub is_among : List (List ℕ) → List ℕ → Bool
+is_among names cell = list_any (λ n. pointwise nat_eq n cell) names
 
 -- a delivery that ends so, if it is lost
 abbrev pub end_if : Bool → Delivery → Delivery
@@ -20,10 +20,10 @@ end_if lost end = if lost then end else Through
 
 -- what becomes of a delivery of that kind to a cell
 abbrev pub end_to : RoundLine → List ℕ → CallKind → Delivery
-end_to r cell Ask = end_if (is_named r.lose_ask cell) CallLost
-end_to r cell Stop = end_if (is_named r.lose_stop cell) CallLost
-end_to r cell Start = end_if (is_named r.lose_start cell) CallLost
-end_to r cell Board = end_if (is_named r.lose_reply cell) ReplyLost
+end_to r cell Ask = end_if (is_among r.lose_ask cell) CallLost
+end_to r cell Stop = end_if (is_among r.lose_stop cell) CallLost
+end_to r cell Start = end_if (is_among r.lose_start cell) CallLost
+end_to r cell Board = end_if (is_among r.lose_reply cell) ReplyLost
 
 -- the ends of a round's wire, which don't depend on the number
 abbrev pub round_ends : RoundLine → WireEnds

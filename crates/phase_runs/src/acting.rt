@@ -1,9 +1,9 @@
 //! One actor's lines on a board that nobody else calls meanwhile.
 ghost use Rattle.std.specs.Prelude.{◌≡◌, OnOk, OnErr};
 ghost use Rattle.actor_runs.specs.Runs.{IsOneActor};
-ghost use Rattle.actor_runs.specs.Turns.{standing, turns_in, CanDo, IsCutShort, Takes};
+ghost use Rattle.actor_runs.specs.Turns.{actor_standing, turns_in, CanDo, IsCutShort, Takes};
 ghost use Rattle.sole_port.specs.Went.{seen_of};
-ghost use Rattle.phase_runs.specs.Boards.{IsAlone};
+ghost use Rattle.phase_runs.specs.Boards.{IsCalledByOne};
 
 use actor_runs::{ActorState, GatedPort};
 use bbs_board::Board;
@@ -27,10 +27,10 @@ pub(crate) fn act_on<D: Disk, G: Gate>(
     out: &mut Vec<Answered>,
 ) -> Result<(), OutOfMemory>
     requires { CanDo by lines.now actor.old }
-    ensures alone { IsAlone D.told by board.old board.new }
+    ensures alone { IsCalledByOne D.told by board.old board.new }
     ensures taken { OnOk result (Takes by now (turns_in by lines.now)
-        (standing actor.old (seen_of by board.old) out.old.items)
-        (standing actor.new (seen_of by board.new) out.new.items)) }
+        (actor_standing actor.old (seen_of by board.old) out.old.items)
+        (actor_standing actor.new (seen_of by board.new) out.new.items)) }
     ensures cut { OnErr result (IsCutShort by now (turns_in by lines.now)
         actor.old (seen_of by board.old) actor.new (seen_of by board.new)) }
     ensures one { IsOneActor actor.old actor.new }

@@ -1,6 +1,6 @@
 //! The wire of a round.
 ghost use Rattle.std.specs.Prelude.{◌≡◌};
-ghost use Rattle.phase_runs.specs.RoundMarks.{end_to, is_named, IsRoundWire};
+ghost use Rattle.phase_runs.specs.RoundMarks.{end_to, is_among, IsRoundWire};
 
 use cell_rep::{CallKind, Delivery, Wire, WireCall};
 use diego_names::{List, Name};
@@ -14,7 +14,7 @@ pub(crate) struct RoundWire<'a> {
 }
 
 fn is_named(names: &List<Name>, cell: &Name) -> bool
-    ensures { result ≡ is_named names.now cell.now }
+    ensures { result ≡ is_among names.now cell.now }
 {
     names.items().iter().any(|name| name == cell)
 }

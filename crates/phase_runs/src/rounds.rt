@@ -4,7 +4,7 @@ ghost use Rattle.converge_round.specs.Faults.{IsCausedBy};
 ghost use Rattle.converge_round.specs.Items.{HasItems};
 ghost use Rattle.converge_round.specs.Reps.{KeepReps};
 ghost use Rattle.sole_port.specs.Went.{seen_of};
-ghost use Rattle.phase_runs.specs.Boards.{IsAlone};
+ghost use Rattle.phase_runs.specs.Boards.{IsCalledByOne};
 ghost use Rattle.phase_runs.specs.Rounds.{RoundOf};
 
 use crate::round_wire::RoundWire;
@@ -53,7 +53,7 @@ pub fn round_on<D: Disk, G: Gate>(
     line: &RoundLine,
     now: Moment,
 ) -> Result<Report, CallFault>
-    ensures alone { IsAlone D.told 0 board.old board.new }
+    ensures alone { IsCalledByOne D.told 0 board.old board.new }
     ensures items { HasItems 0 now cells.old (seen_of 0 board.old) (seen_of 0 board.new) }
     ensures cause { IfErr result (IsCausedBy 0 (seen_of 0 board.old) (seen_of 0 board.new)) }
     ensures cells { KeepReps cells.old cells.new }

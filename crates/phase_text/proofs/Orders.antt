@@ -13,7 +13,7 @@ use Rattle.diego_names.proofs.Public.{IsKeyOrder-name_order}
 use Rattle.lrp_records.specs.Presence.{rank_of}
 use Rattle.scenario_lines.specs.declared.answered.Answered.{Answered}
 use Rattle.phase_text.specs.Laws.{StandsInOrder}
-use Rattle.phase_text.specs.Sorting.{by_key, is_earlier_line, sorted_by, spot_of, spot_order}
+use Rattle.phase_text.specs.Sorting.{by_key, event_order, is_earlier_line, sorted_by, spot_of}
 use Rattle.phase_text.proofs.StableSorts.{sorted_by_is}
 
 less_by_test : (b c : Bool) → is_lt (cond b Less (cond c Equal Greater)) ≡ b
@@ -31,15 +31,15 @@ by_line_is xs ys sorted stable =
     ∙ ap (λ (is_before : Answered → Answered → Bool). sorted_by is_before xs) (λ i a b. less_is a.line b.line i)
 
 -- any two spots compare
-spots_total : IsTotalOrder spot_order
+spots_total : IsTotalOrder event_order
 spots_total =
     then_total (on_total (λ s. s.table) nat_cmp_total)
     (then_total (on_total (λ s. s.name) IsKeyOrder-name_order.total)
     (then_total (on_total (λ s. s.index) nat_cmp_total) (on_total (λ s. s.presence) (on_total rank_of nat_cmp_total))))
 
-pub by_key_is : (xs ys : List Event) → IsSortedByKey (λ (e : Event). spot_of e.row) spot_order ys → IsStableByKey (λ (e : Event). spot_of e.row) spot_order xs ys → ys ≡ by_key xs
+pub by_key_is : (xs ys : List Event) → IsSortedByKey (λ (e : Event). spot_of e.row) event_order ys → IsStableByKey (λ (e : Event). spot_of e.row) event_order xs ys → ys ≡ by_key xs
 by_key_is xs ys sorted stable =
-    sorted_by_is (λ (a b : Event). is_lt (spot_order (spot_of a.row) (spot_of b.row))) (ranks_by spots_total (λ (e : Event). spot_of e.row)) xs ys sorted stable
+    sorted_by_is (λ (a b : Event). is_lt (event_order (spot_of a.row) (spot_of b.row))) (ranks_by spots_total (λ (e : Event). spot_of e.row)) xs ys sorted stable
 
 -- a tie of what isn't there leaves the order as it is
 then_tied : (o : Ordering) → ordering_then o Equal ≡ o

@@ -14,15 +14,15 @@ use Rattle.scenario_lines.specs.declared.script.Line.{Line}
 use Rattle.scenario_lines.specs.declared.script.Phase.{Phase}
 use Rattle.scenario_lines.specs.declared.script.RoundLine.{RoundLine}
 use Rattle.scenario_lines.specs.declared.script.Script.{Script}
-use Rattle.phase_text.specs.Answers.{AreAnswers, IsAnswer}
+use Rattle.phase_text.specs.Answers.{AreActorAnswers, IsActorAnswer}
 use Rattle.phase_text.specs.Asking.{asked_at}
-use Rattle.phase_text.specs.Texts.{answer_at, answer_words, answers_before, answers_behind, answers_words, events_words, line_of, lines_words, name_of, phase_words, round_words}
+use Rattle.phase_text.specs.Texts.{actor_name, answer_at, answer_words, answers_before, answers_behind, answers_words, events_words, line_numbered, lines_words, phase_words, round_words}
 
 -- what is told of an answer, by its actor's name, what it is about and its line
-pub told_as : (actors : List Actor) (lines : List Line) (a : Answered) (line : Line) (name : List ℕ) (asked : Asked) → name ≡ name_of actors a.actor → asked ≡ asked_at line a.command → line_of lines a.line ≡ Some line → line_text (answer_data name a.line asked a.end) ≡ answer_words actors lines a
+pub told_as : (actors : List Actor) (lines : List Line) (a : Answered) (line : Line) (name : List ℕ) (asked : Asked) → name ≡ actor_name actors a.actor → asked ≡ asked_at line a.command → line_numbered lines a.line ≡ Some line → line_text (answer_data name a.line asked a.end) ≡ answer_words actors lines a
 told_as actors lines a line name asked named about at =
     (λ i. line_text (answer_data (named i) a.line (about i) a.end))
-    ∙ ap (λ (o : Option Line). option_map_or (answer_at (name_of actors a.actor) a) o []) (sym at)
+    ∙ ap (λ (o : Option Line). option_map_or (answer_at (actor_name actors a.actor) a) o []) (sym at)
 
 -- one more is told behind the others
 pub told_more : {X : Type 0} (words : X → List ℕ) (start : List ℕ) (xs : List X) (i : ℕ) (x : X) → i < length xs → x ≡ get_or xs i x → (start ++ flat_map words (take i xs)) ++ words x ≡ start ++ flat_map words (take (i + 1) xs)
@@ -32,16 +32,16 @@ told_more words start xs i x l at =
     ∙ ap (λ ys. start ++ flat_map words ys) (sym (take_more xs i x l))
 
 -- some of them are answers too
-some_answers : (actors : List Actor) (lines : List Line) (answers some : List Answered) (p : Answered → Bool) → some ≡ filter p answers → AreAnswers actors lines answers → AreAnswers actors lines some
+some_answers : (actors : List Actor) (lines : List Line) (answers some : List Answered) (p : Answered → Bool) → some ≡ filter p answers → AreActorAnswers actors lines answers → AreActorAnswers actors lines some
 some_answers actors lines answers some p is h = record {
   rising = h.rising;
-  each = subst (λ (ones : List Answered). All (IsAnswer actors lines) ones) (sym is) (All-filter p (IsAnswer actors lines) answers h.each);
+  each = subst (λ (ones : List Answered). All (IsActorAnswer actors lines) ones) (sym is) (All-filter p (IsActorAnswer actors lines) answers h.each);
 }
 
-pub some_before : (actors : List Actor) (lines : List Line) (answers some : List Answered) (number : ℕ) → some ≡ answers_before number answers → AreAnswers actors lines answers → AreAnswers actors lines some
+pub some_before : (actors : List Actor) (lines : List Line) (answers some : List Answered) (number : ℕ) → some ≡ answers_before number answers → AreActorAnswers actors lines answers → AreActorAnswers actors lines some
 some_before actors lines answers some number is h = some_answers actors lines answers some (λ a. nat_lt a.line number) is h
 
-pub some_behind : (actors : List Actor) (lines : List Line) (answers some : List Answered) (number : ℕ) → some ≡ answers_behind number answers → AreAnswers actors lines answers → AreAnswers actors lines some
+pub some_behind : (actors : List Actor) (lines : List Line) (answers some : List Answered) (number : ℕ) → some ≡ answers_behind number answers → AreActorAnswers actors lines answers → AreActorAnswers actors lines some
 some_behind actors lines answers some number is h = some_answers actors lines answers some (λ a. not (nat_lt a.line number)) is h
 
 -- the answers before a round, the round, and the answers behind it

@@ -13,19 +13,19 @@ pub record IsToLine (lines : List Line) (a : Answered) : Type 0 where
   pub actor : line.actor ≡ a.actor
 
 -- it is to one of these actors too, which count from 1
-pub record IsAnswer (actors : List Actor) (lines : List Line) (a : Answered) : Type 0 where
+pub record IsActorAnswer (actors : List Actor) (lines : List Line) (a : Answered) : Type 0 where
   pub line : IsToLine lines a
   pub actor : (1 ≤ a.actor) × (a.actor ≤ length actors)
 
 -- the numbers of lines rise
-abbrev pub AreRising : List Line → Type 0
-AreRising lines = AllPairs (λ a b. a.line < b.line) lines
+abbrev pub LineNumbersRise : List Line → Type 0
+LineNumbersRise lines = AllPairs (λ a b. a.line < b.line) lines
 
 -- the lines that answers are to don't fall
 abbrev pub AreByLine : List Answered → Type 0
 AreByLine answers = IsNonDecreasingBy (λ a. a.line) answers
 
 -- the answers are to these lines, whose numbers rise, and by these actors
-pub record AreAnswers (actors : List Actor) (lines : List Line) (answers : List Answered) : Type 0 where
-  pub rising : AreRising lines
-  pub each : All (IsAnswer actors lines) answers
+pub record AreActorAnswers (actors : List Actor) (lines : List Line) (answers : List Answered) : Type 0 where
+  pub rising : LineNumbersRise lines
+  pub each : All (IsActorAnswer actors lines) answers

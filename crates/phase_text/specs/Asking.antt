@@ -26,21 +26,21 @@ word_of cell.Settle = word.Settle
 word_of cell.Die = word.Die
 
 -- the job that it names
-abbrev pub job_in : CellAct → Option JobName
-job_in (cell.Join zone tag totals ttl) = None
-job_in (cell.Renew ttl) = None
-job_in (cell.Claim job memory disk) = Some job
-job_in (cell.Run key memory disk) = Some (Lrp key)
-job_in (cell.Up job) = job
-job_in (cell.Crash key) = Some (Lrp key)
-job_in (cell.Finish name failed) = Some (Task name)
-job_in cell.Settle = None
-job_in cell.Die = None
+abbrev pub act_job : CellAct → Option JobName
+act_job (cell.Join zone tag totals ttl) = None
+act_job (cell.Renew ttl) = None
+act_job (cell.Claim job memory disk) = Some job
+act_job (cell.Run key memory disk) = Some (Lrp key)
+act_job (cell.Up job) = job
+act_job (cell.Crash key) = Some (Lrp key)
+act_job (cell.Finish name failed) = Some (Task name)
+act_job cell.Settle = None
+act_job cell.Die = None
 
 -- what a line asks by itself: a client its command, and a cell by its word and the job that it names
 abbrev pub asked_by : Act → Asked
 asked_by (act.Client op) = Command op
-asked_by (act.Cell a) = Word (word_of a) (job_in a)
+asked_by (act.Cell a) = Word (word_of a) (act_job a)
 asked_by act.Evacuate = Word word.Evacuate None
 
 -- what an answer to a line is about: the command where one was made, and else what the line asks

@@ -11,11 +11,11 @@ use Rattle.lrp_records.specs.Place.{place_of, place_order}
 use Rattle.lrp_records.specs.declared.actual.Actual.{Actual as AnActual}
 use Rattle.lrp_records.specs.declared.desired.Desired.{Desired as ADesired}
 use Rattle.task_records.specs.declared.task.Task.{Task as ATask}
-use Rattle.phase_text.specs.Sorting.{spot_of, spot_order}
+use Rattle.phase_text.specs.Sorting.{spot_of, event_order}
 
 -- how two rows stand to one another
 abbrev pub row_order : Row → Row → Ordering
-row_order a b = spot_order (spot_of a) (spot_of b)
+row_order a b = event_order (spot_of a) (spot_of b)
 
 -- rows of one table stand by what the table's rows are ordered by, and a desired row comes first, then an actual one,
 -- then a task, then a cell

@@ -27,12 +27,12 @@ abbrev pub is_earlier_line : Answered → Answered → Bool
 is_earlier_line a b = nat_lt a.line b.line
 
 -- the parts, one behind the other
-abbrev pub joined : List (List Answered) → List Answered
-joined parts = flat_map (λ part. part) parts
+abbrev pub joined_parts : List (List Answered) → List Answered
+joined_parts parts = flat_map (λ part. part) parts
 
 -- all answers of the parts by line; those to one line stay in their order
 abbrev pub by_line : List (List Answered) → List Answered
-by_line parts = sorted_by is_earlier_line (joined parts)
+by_line parts = sorted_by is_earlier_line (joined_parts parts)
 
 -- where a row stands: desired rows, actual rows, tasks and cells come in this order
 abbrev pub spot_of : Row → Spot
@@ -42,15 +42,15 @@ spot_of (row.Task t) = record { table = 2; name = t.name; index = 0; presence = 
 spot_of (row.Cell c) = record { table = 3; name = c.cell; index = 0; presence = Ordinary }
 
 -- by table, then by key, and the ORDINARY row of an instance before the EVACUATING one
-abbrev pub spot_order : Spot → Spot → Ordering
-spot_order =
+abbrev pub event_order : Spot → Spot → Ordering
+event_order =
     then_cmp (on (λ s. s.table) nat_cmp)
     (then_cmp (on (λ s. s.name) name_order)
     (then_cmp (on (λ s. s.index) nat_cmp) (on (λ s. s.presence) presence_order)))
 
 -- an event is about a row that stands before that of another
 abbrev pub is_earlier_row : Event → Event → Bool
-is_earlier_row a b = is_lt (spot_order (spot_of a.row) (spot_of b.row))
+is_earlier_row a b = is_lt (event_order (spot_of a.row) (spot_of b.row))
 
 -- the events by table, key and presence; those of one row stay in their order
 abbrev pub by_key : List Event → List Event

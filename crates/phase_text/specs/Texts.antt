@@ -15,12 +15,12 @@ use Rattle.scenario_lines.specs.declared.script.Script.{Script}
 use Rattle.phase_text.specs.Asking.{asked_at}
 
 -- the name of an actor, by its number; actors count from 1
-abbrev pub name_of : List Actor → ℕ → List ℕ
-name_of actors number = option_map_or (λ actor. actor.name) (slice_get actors (number - 1)) []
+abbrev pub actor_name : List Actor → ℕ → List ℕ
+actor_name actors number = option_map_or (λ actor. actor.name) (slice_get actors (number - 1)) []
 
 -- the first of these lines that has a number
-abbrev pub line_of : List Line → ℕ → Option Line
-line_of lines number = find (λ line. line.line == number) lines
+abbrev pub line_numbered : List Line → ℕ → Option Line
+line_numbered lines number = find (λ line. line.line == number) lines
 
 -- what is told of an answer to a line: how its actor's call ended, or that it made none
 abbrev pub answer_at : List ℕ → Answered → Line → List ℕ
@@ -28,7 +28,7 @@ answer_at name a line = line_text (answer_data name a.line (asked_at line a.comm
 
 -- what is told of an answer; nothing of one to none of these lines
 abbrev pub answer_words : List Actor → List Line → Answered → List ℕ
-answer_words actors lines a = option_map_or (answer_at (name_of actors a.actor) a) (line_of lines a.line) []
+answer_words actors lines a = option_map_or (answer_at (actor_name actors a.actor) a) (line_numbered lines a.line) []
 
 -- what is told of answers, each in its turn
 abbrev pub answers_words : List Actor → List Line → List Answered → List ℕ

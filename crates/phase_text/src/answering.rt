@@ -1,8 +1,8 @@
 //! One answer of a phase, by the line that it is to.
 ghost use Rattle.std.specs.Prelude.{◌≡◌, ◌≤◌, IfOk, Some, length};
-ghost use Rattle.phase_text.specs.Answers.{AreRising, IsAnswer, IsToLine};
+ghost use Rattle.phase_text.specs.Answers.{IsActorAnswer, IsToLine, LineNumbersRise};
 ghost use Rattle.phase_text.specs.Asking.{asked_at};
-ghost use Rattle.phase_text.specs.Texts.{answer_words, line_of, name_of};
+ghost use Rattle.phase_text.specs.Texts.{actor_name, answer_words, line_numbered};
 
 use crate::asking::asked_by;
 use diego_names::{Name, OutOfMemory};
@@ -17,8 +17,8 @@ pub fn answer_line(
     lines: &[Line],
     answered: &Answered,
 ) -> Result<Vec<u8>, OutOfMemory>
-    requires rising { AreRising lines.now }
-    requires answer { IsAnswer actors.now lines.now answered.now }
+    requires rising { LineNumbersRise lines.now }
+    requires answer { IsActorAnswer actors.now lines.now answered.now }
     ensures { IfOk result (λ text. text.items ≡ answer_words actors.now lines.now answered.now) }
 {
     let line = line_of(lines, answered);
@@ -30,9 +30,9 @@ pub fn answer_line(
 
 // The numbers of lines rise, so it takes as many steps as their count has binary digits.
 fn line_of<'a>(lines: &'a [Line], answered: &Answered) -> &'a Line
-    requires rising { AreRising lines.now }
+    requires rising { LineNumbersRise lines.now }
     requires answer { IsToLine lines.now answered.now }
-    ensures { line_of lines.now answered.now.line ≡ Some result.now }
+    ensures { line_numbered lines.now answered.now.line ≡ Some result.now }
 {
     let at = lines.partition_point(|line| line.line < answered.line);
     &lines[at]
@@ -40,7 +40,7 @@ fn line_of<'a>(lines: &'a [Line], answered: &Answered) -> &'a Line
 
 fn name_of(actors: &[Actor], number: u32) -> &Name
     requires { (1 ≤ number) × (number ≤ length actors.now) }
-    ensures { result.now ≡ name_of actors.now number }
+    ensures { result.now ≡ actor_name actors.now number }
 {
     let at = number as usize - 1;
     &actors[at].name

@@ -1,6 +1,6 @@
 //! What an answer is about.
 ghost use Rattle.std.specs.Prelude.{◌≡◌};
-ghost use Rattle.phase_text.specs.Asking.{asked_by, job_in, word_of};
+ghost use Rattle.phase_text.specs.Asking.{act_job, asked_by, word_of};
 
 use cell_records::JobName;
 use cell_rep::CellAct;
@@ -35,7 +35,7 @@ fn word_of(act: &CellAct) -> ActWord
 }
 
 fn job_in(act: &CellAct) -> Option<JobName>
-    ensures { result ≡ job_in act.now }
+    ensures { result ≡ act_job act.now }
 {
     match *act {
         CellAct::Claim { job, .. } => Some(job),

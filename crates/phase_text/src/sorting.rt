@@ -2,7 +2,7 @@
 ghost use Rattle.std.specs.Prelude.{◌≡◌, IfOk};
 ghost use Rattle.std.specs.List.Sorted.{IsPermutation};
 ghost use Rattle.phase_text.specs.Answers.{AreByLine};
-ghost use Rattle.phase_text.specs.Sorting.{by_key, by_line, joined, spot_of};
+ghost use Rattle.phase_text.specs.Sorting.{by_key, by_line, joined_parts, spot_of};
 
 use bbs_model::{Event, Row};
 use diego_names::{List, Name, OutOfMemory};
@@ -18,7 +18,7 @@ pub fn answers_by_line(
 ) -> Result<List<Answered>, OutOfMemory>
     ensures value { IfOk result (λ answers. answers ≡ by_line parts.now) }
     ensures rising { IfOk result AreByLine }
-    ensures same { IfOk result (λ answers. IsPermutation (joined parts.now) answers) }
+    ensures same { IfOk result (λ answers. IsPermutation (joined_parts parts.now) answers) }
 {
     let mut all = joined(alloc, parts)?;
     all.sort_by_key(|answered| answered.line)?;
@@ -26,7 +26,7 @@ pub fn answers_by_line(
 }
 
 fn joined(alloc: Global, parts: &List<List<Answered>>) -> Result<Vec<Answered>, OutOfMemory>
-    ensures { IfOk result (λ all. all.items ≡ joined parts.now) }
+    ensures { IfOk result (λ all. all.items ≡ joined_parts parts.now) }
 {
     let mut all = Vec::new(alloc);
     for part in parts.items() {

@@ -1,6 +1,6 @@
 //! The text of a phase.
 ghost use Rattle.std.specs.Prelude.{◌≡◌, ◌++◌, IfOk, OnOk, Some};
-ghost use Rattle.phase_text.specs.Answers.{AreAnswers, AreByLine};
+ghost use Rattle.phase_text.specs.Answers.{AreActorAnswers, AreByLine};
 ghost use Rattle.phase_text.specs.Texts.{answers_before, answers_behind, answers_words, events_words, lines_words, phase_words, round_words};
 
 use crate::answering::answer_line;
@@ -23,7 +23,7 @@ pub fn phase_text(
     report: &Option<Report>,
     events: &[Event],
 ) -> Result<Vec<u8>, OutOfMemory>
-    requires answers { AreAnswers script.now.actors phase.now.lines answers.now }
+    requires answers { AreActorAnswers script.now.actors phase.now.lines answers.now }
     requires by_line { AreByLine answers.now }
     ensures { IfOk result (λ text.
         text.items ≡ phase_words script.now phase.now answers.now report.now events.now) }
@@ -53,7 +53,7 @@ fn add_lines(
     answers: &[Answered],
     report: &Option<Report>,
 ) -> Result<(), OutOfMemory>
-    requires answers { AreAnswers actors.now lines.now answers.now }
+    requires answers { AreActorAnswers actors.now lines.now answers.now }
     requires by_line { AreByLine answers.now }
     ensures { OnOk result (text.new.items ≡ text.old.items
         ++ lines_words actors.now lines.now round.now answers.now report.now) }
@@ -81,7 +81,7 @@ fn add_around(
     answers: &[Answered],
     report: &Option<Report>,
 ) -> Result<(), OutOfMemory>
-    requires answers { AreAnswers actors.now lines.now answers.now }
+    requires answers { AreActorAnswers actors.now lines.now answers.now }
     requires by_line { AreByLine answers.now }
     ensures { OnOk result (text.new.items ≡ text.old.items
         ++ lines_words actors.now lines.now (Some round.now) answers.now report.now) }
@@ -110,7 +110,7 @@ fn add_answers(
     lines: &[Line],
     answers: &[Answered],
 ) -> Result<(), OutOfMemory>
-    requires { AreAnswers actors.now lines.now answers.now }
+    requires { AreActorAnswers actors.now lines.now answers.now }
     ensures { OnOk result (text.new.items ≡ text.old.items
         ++ answers_words actors.now lines.now answers.now) }
 {

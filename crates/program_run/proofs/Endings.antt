@@ -15,7 +15,7 @@ use Rattle.program_edge.specs.declared.ending.Ending.{Ending}
 use Rattle.program_edge.specs.declared.ending.Ending.TheVariants as ending
 use Rattle.scenario_lines.specs.declared.script.Script.{Script}
 use Rattle.scenario_reader.specs.declared.fault.ScriptFault.{ScriptFault}
-use Rattle.program_run.specs.Reading.{ReadsAs, ReadsScript, is_read, limit}
+use Rattle.program_run.specs.Reading.{ReadsScript, ReadsWhole, is_read, limit}
 use Rattle.program_run.specs.Runs.{EndsUnseen, IsEmpty, PlaysOn, RunEnds, RunsScript, ScriptEnds}
 use Rattle.program_run.specs.declared.ended.Ended.{Ended}
 
@@ -93,7 +93,7 @@ module _ {D : Type 0} (told : D → Option Past) (faults moment : D → ℕ) whe
         lost,
       )
 
-      lost_of : (fault : ScriptFault) → ReadsAs (Err fault) left left' → LostAtMost left left' limit
+      lost_of : (fault : ScriptFault) → ReadsWhole (Err fault) left left' → LostAtMost left left' limit
       lost_of fault reads = (reads.bytes, reads.few, reads.consumes)
 
       as_ends : (how other : Ending) → other ≡ how → RunEnds told faults moment how e left left' v w → RunEnds told faults moment other e left left' v w

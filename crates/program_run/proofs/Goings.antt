@@ -5,35 +5,35 @@ use Rattle.bbs_board.specs.View.{View}
 use Rattle.bbs_model.specs.declared.item.Item.{Item}
 use Rattle.convergence.specs.declared.report.Report.{Report}
 use Rattle.converge_round.specs.Each.{Each}
-use Rattle.phase_runs.specs.Boards.{GoesOn}
+use Rattle.phase_runs.specs.Boards.{BoardGoesOn}
 use Rattle.phase_runs.proofs.Public.{goes_further, goes_nowhere}
 use Rattle.program_edge.specs.declared.ending.Ending.{Ending}
 use Rattle.program_edge.specs.declared.ending.Ending.TheVariants as ending
 use Rattle.scenario_lines.specs.declared.answered.Answered.{Answered}
 use Rattle.scenario_lines.specs.declared.script.Phase.{Phase}
 use Rattle.scenario_lines.specs.declared.script.Script.{Script}
-use Rattle.scenario_runs.specs.Courses.{beginning, Course, PlaysPhase}
+use Rattle.scenario_runs.specs.Courses.{beginning, PlaysPhase, RunCourse}
 use Rattle.scenario_runs.specs.Plays.{EndsAt, IsUntold, Plays, PlaysCut, PlaysPart}
 
 module _ {D : Type 0} (told : D → Option Past) (script : Script) where
   abbrev pub GoesFrom : View D → View D → Type 0
-  GoesFrom v w = (fresh : List Item) × GoesOn told fresh v w
+  GoesFrom v w = (fresh : List Item) × BoardGoesOn told fresh v w
 
   goes_on : (u v w : View D) → GoesFrom u v → GoesFrom v w → GoesFrom u w
   goes_on u v w (first, f) (second, g) = (first ++ second, goes_further told u v w first second f g)
 
   -- by each of these phases
-  each_goes : (phases : List Phase) (s s' : Course D) → Each (PlaysPhase told script) phases s s' → GoesFrom s.board s'.board
-  each_goes [] s s' same = subst (λ (x : Course D). GoesFrom s.board x.board) (sym same) ([], goes_nowhere told s.board)
+  each_goes : (phases : List Phase) (s s' : RunCourse D) → Each (PlaysPhase told script) phases s s' → GoesFrom s.board s'.board
+  each_goes [] s s' same = subst (λ (x : RunCourse D). GoesFrom s.board x.board) (sym same) ([], goes_nowhere told s.board)
   each_goes (phase ∷ phases) s s' (m, plays, more) =
       goes_on s.board m.board s'.board (plays.ran.fresh, plays.ran.goes) (each_goes phases m s' more)
 
-  untold_goes : (phase : Phase) (s : Course D) (w : View D) → IsUntold told phase s.actors s.board w → GoesFrom s.board w
+  untold_goes : (phase : Phase) (s : RunCourse D) (w : View D) → IsUntold told phase s.actors s.board w → GoesFrom s.board w
   untold_goes phase s w (inl cut) = (cut.fresh, cut.goes)
   untold_goes phase s w (inr (news, parts, report, ran)) = (ran.fresh, ran.goes)
 
   module _ (answers : List Answered) (reports : List Report) (v w : View D) where
-    ends_goes : (ran rest : List Phase) (s : Course D) → EndsAt told script answers reports v w ran rest s → GoesFrom v w
+    ends_goes : (ran rest : List Phase) (s : RunCourse D) → EndsAt told script answers reports v w ran rest s → GoesFrom v w
     ends_goes ran rest s ends =
         subst (λ (x : View D). GoesFrom v x) (sym ends.board) (each_goes ran (beginning script v) s ends.first.each)
 

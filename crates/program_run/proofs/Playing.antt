@@ -12,7 +12,7 @@ use Rattle.bbs_board.specs.Doubts.{doubts_in, RoseForEach}
 use Rattle.bbs_board.specs.Kept.{Kept}
 use Rattle.bbs_board.specs.View.{View, IsFresh}
 use Rattle.bbs_board.specs.Written.{WritesOn}
-use Rattle.phase_runs.specs.Boards.{GoesOn}
+use Rattle.phase_runs.specs.Boards.{BoardGoesOn}
 use Rattle.program_edge.specs.Ports.{Ports}
 use Rattle.program_edge.specs.declared.ending.Ending.{Ending}
 use Rattle.scenario_lines.specs.declared.script.Script.{Script}
@@ -31,7 +31,7 @@ module _ {D : Type 0} (told : D → Option Past) (faults moment : D → ℕ) (sc
   module _ (since : board.since ≡ moment board.disk) (count : board.faults ≡ faults board.disk)
       (opened : IsOn told faults moment board v) (closed : IsOn told faults moment left w)
       (log : e.log.items ≡ left.log) (marks : e.marks.items ≡ left.marks) (gives : Gives told faults left)
-      (fresh : List Item) (goes : GoesOn told fresh board left) where
+      (fresh : List Item) (goes : BoardGoesOn told fresh board left) where
     since_is : left.since ≡ v.clock
     since_is = goes.since ∙ since ∙ sym opened.clock_is
 

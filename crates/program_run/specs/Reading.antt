@@ -14,7 +14,7 @@ abbrev pub limit : ℕ
 limit = 16777216
 
 -- the source was read whole, and the scenario that its bytes are, or their first fault, is this
-pub record ReadsAs (said : Result Script ScriptFault) (left left' : Option (List ℕ)) : Type 0 where
+pub record ReadsWhole (said : Result Script ScriptFault) (left left' : Option (List ℕ)) : Type 0 where
   pub bytes : List ℕ
   pub consumes : Consumes left left' bytes
   pub end : IsAtEnd left'
@@ -35,18 +35,18 @@ pub record TellsTooMuch (left : Option (List ℕ)) : Type 0 where
   pub many : limit < length bytes
 
 -- how a run ends whose bytes have this fault: want of memory is none of theirs
-abbrev pub ending_for : ScriptFault → Ending
-ending_for (BadJson line) = ending.Script (BadJson line)
-ending_for (BadShape line) = ending.Script (BadShape line)
-ending_for (BadName line) = ending.Script (BadName line)
-ending_for (BadOrder line) = ending.Script (BadOrder line)
-ending_for (TooMuch line) = ending.Script (TooMuch line)
-ending_for OutOfMemory = ending.OutOfMemory
+abbrev pub script_ending : ScriptFault → Ending
+script_ending (BadJson line) = ending.Script (BadJson line)
+script_ending (BadShape line) = ending.Script (BadShape line)
+script_ending (BadName line) = ending.Script (BadName line)
+script_ending (BadOrder line) = ending.Script (BadOrder line)
+script_ending (TooMuch line) = ending.Script (TooMuch line)
+script_ending OutOfMemory = ending.OutOfMemory
 
 -- what was read of a source, by the answer
 abbrev pub ReadsScript : Result Script Ending → Option (List ℕ) → Option (List ℕ) → Type 0
-ReadsScript (Ok script) left left' = ReadsAs (Ok script) left left'
-ReadsScript (Err (ending.Script fault)) left left' = ReadsAs (Err fault) left left'
+ReadsScript (Ok script) left left' = ReadsWhole (Ok script) left left'
+ReadsScript (Err (ending.Script fault)) left left' = ReadsWhole (Err fault) left left'
 ReadsScript (Err ending.Read) left left' = LostAtMost left left' limit
 ReadsScript (Err ending.OutOfMemory) left left' = LostAtMost left left' limit
 ReadsScript (Err ending.TooLong) left left' = Lost left left' (limit + 1)

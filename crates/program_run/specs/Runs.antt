@@ -19,7 +19,7 @@ use Rattle.program_edge.specs.declared.ending.Ending.TheVariants as ending
 use Rattle.scenario_lines.specs.declared.script.Script.{Script}
 use Rattle.scenario_reader.specs.Facts.{IsScript}
 use Rattle.scenario_runs.specs.Plays.{Plays}
-use Rattle.program_run.specs.Reading.{ReadsAs, limit}
+use Rattle.program_run.specs.Reading.{ReadsWhole, limit}
 use Rattle.program_run.specs.declared.ended.Ended.{Ended}
 
 -- nothing was done
@@ -87,7 +87,7 @@ ScriptEnds told faults moment script other e v w = EndsIdle other e v w
 pub record RunsScript {D : Type 0} (told : D → Option Past) (faults moment : D → ℕ) (how : Ending) (e : Ended)
     (left left' : Option (List ℕ)) (v w : Ports) : Type 0 where
   pub script : Script
-  pub reads : ReadsAs (Ok script) left left'
+  pub reads : ReadsWhole (Ok script) left left'
   pub sound : IsScript script
   pub ends : ScriptEnds told faults moment script how e v w
 
@@ -95,7 +95,7 @@ pub record RunsScript {D : Type 0} (told : D → Option Past) (faults moment : D
 abbrev pub RunEnds : {D : Type 0} → (D → Option Past) → (D → ℕ) → (D → ℕ) → Ending → Ended →
     Option (List ℕ) → Option (List ℕ) → Ports → Ports → Type 0
 RunEnds told faults moment (ending.Script fault) e left left' v w =
-    EndsUnseen (ending.Script fault) e v w × ReadsAs (Err fault) left left'
+    EndsUnseen (ending.Script fault) e v w × ReadsWhole (Err fault) left left'
 RunEnds told faults moment ending.Read e left left' v w = EndsUnseen ending.Read e v w × LostAtMost left left' limit
 RunEnds told faults moment ending.TooLong e left left' v w = EndsUnseen ending.TooLong e v w × Lost left left' (limit + 1)
 RunEnds told faults moment ending.OutOfMemory e left left' v w =

@@ -2,7 +2,7 @@
 ghost use Rattle.std.specs.Prelude.{◌≡◌, IfOk};
 ghost use Rattle.byte_ports.specs.Cause.{HasCause};
 ghost use Rattle.scenario_reader.specs.Facts.{IsScript};
-ghost use Rattle.program_run.specs.Reading.{ReadsScript, ending_for, is_unread};
+ghost use Rattle.program_run.specs.Reading.{ReadsScript, is_unread, script_ending};
 
 use byte_ports::{ReadFault, Source, read_whole};
 use program_edge::Ending;
@@ -15,7 +15,7 @@ const LIMIT: usize = 16_777_216;
 
 /// How it ends whose scenario could not be read.
 fn ending_for(fault: ScriptFault) -> Ending
-    ensures { result ≡ ending_for fault }
+    ensures { result ≡ script_ending fault }
 {
     match fault {
         ScriptFault::OutOfMemory => Ending::OutOfMemory,

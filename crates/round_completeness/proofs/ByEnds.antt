@@ -15,7 +15,7 @@ use Rattle.converge_round.specs.Stops.{stops_at, so_far}
 use Rattle.converge_round.specs.Tallies.{no_calls}
 use Rattle.converge_round.specs.declared.tally.Tally.{Tally}
 use Rattle.round_laws.proofs.Public.{are-heard, heard_cell, heard_named, in_course, lost_each}
-use Rattle.round_completeness.specs.Ends.{AreHeard, RoundsLoseByTheEnds}
+use Rattle.round_completeness.specs.Ends.{AreHeardByEnds, RoundsLoseByTheEnds}
 use Rattle.round_completeness.proofs.Ready.{are-ready}
 use Rattle.round_completeness.proofs.StartsTold.{serves-so}
 use Rattle.round_completeness.proofs.Telling.{Tells, asks-so, stops-so}
@@ -49,7 +49,7 @@ by-ends by now line s s' r h ends apart told steady =
     let few = serves.counts.is (omega (arith, none)) in
     let stopped : r.stopped ≡ h.opens.stops.stopped = h.reports.stopped ∙ h.opens.stopped_is in
     record {
-      heard = subst (AreHeard ends s.reps cells) (sym asks.is) asks.heard;
+      heard = subst (AreHeardByEnds ends s.reps cells) (sym asks.is) asks.heard;
       stopped = stopped ∙ stops.is;
       lost = omega (
         arith,

@@ -24,7 +24,7 @@ use Rattle.converge_round.specs.Sendings.{WireAt, IsSent}
 use Rattle.converge_round.specs.Stops.{StopsIf, if_done, Stopped, StopsOne}
 use Rattle.diego_names.specs.declared.instance.Instance.{Instance}
 use Rattle.round_laws.proofs.Public.{names_after}
-use Rattle.round_completeness.specs.Ends.{gets_through, AreHeard, is_stopped}
+use Rattle.round_completeness.specs.Ends.{gets_through, AreHeardByEnds, is_stopped}
 
 -- the wire tells these ends, whatever the number
 abbrev pub Tells : WireEnds → Option WireEnds → Type 0
@@ -60,7 +60,7 @@ fits_told ends (Some x) cell e t h = subst (λ (d : Delivery). EndFits (Some d) 
 pub record AreAskedSo (ends : WireEnds) (reps : List CellRep) (cs : List CellRow) (s t : Asking) : Type 0 where
   pub more : List Answer
   pub is : t.got ≡ s.got ++ more
-  pub heard : AreHeard ends reps cs more
+  pub heard : AreHeardByEnds ends reps cs more
   pub tells : Tells ends t.wire.ends
 
 pub asks-so : (ends : WireEnds) (reps : List CellRep) (cs : List CellRow) (s t : Asking) → Tells ends s.wire.ends

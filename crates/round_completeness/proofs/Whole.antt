@@ -24,7 +24,7 @@ use Rattle.crash_backoff.specs.declared.moment.Moment.{Moment}
 use Rattle.round_laws.specs.Losses.{mute_if, mute_among, mute_of}
 use Rattle.round_laws.proofs.Public.{alone-refused, has-causes}
 use Rattle.round_completeness.specs.Completeness.{IsCountSame, TellsThrough, IsUndisturbed, RoundsThatNothingDisturbsAreComplete}
-use Rattle.round_completeness.specs.Ends.{gets_through, AreHeard, is_stopped, starts_lost}
+use Rattle.round_completeness.specs.Ends.{gets_through, AreHeardByEnds, is_stopped, starts_lost}
 use Rattle.round_completeness.proofs.ByEnds.{by-ends}
 use Rattle.round_completeness.proofs.Ready.{decline-none}
 
@@ -59,7 +59,7 @@ heard_some cells c (Some x) apart a heard h = refl
 module _ (ends : WireEnds) (through : (cell : List ℕ) (kind : CallKind) → gets_through ends cell kind ≡ true) where
   all_heard : (cells : List CellRep) (cs : List CellRow) (got : List Answer) → StandApart (names_of cells)
       → ((c : CellRow) → Contains cs c → (a : Answer) × IsHeardFrom cells c.cell c.epoch a)
-      → AreHeard ends cells cs got → length got ≡ length cs
+      → AreHeardByEnds ends cells cs got → length got ≡ length cs
   all_heard cells [] got apart answers h = ap length h
   all_heard cells (c ∷ cs) got apart answers h =
       let a = answers c (inside_first c cs) in

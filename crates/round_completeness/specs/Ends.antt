@@ -23,11 +23,11 @@ abbrev pub gets_through : WireEnds → List ℕ → CallKind → Bool
 gets_through ends cell kind = not (is_delivery_lost (ends (record { actor = cell; kind = kind }) 0))
 
 -- in the order of the cells, what those answer whose question gets through
-abbrev pub AreHeard : WireEnds → List CellRep → List CellRow → List Answer → Type 0
-AreHeard ends reps [] got = got ≡ []
-AreHeard ends reps (c ∷ cs) got =
+abbrev pub AreHeardByEnds : WireEnds → List CellRep → List CellRow → List Answer → Type 0
+AreHeardByEnds ends reps [] got = got ≡ []
+AreHeardByEnds ends reps (c ∷ cs) got =
     (answer : Option Answer) × (rest : List Answer) × (got ≡ option_to_list answer ++ rest)
-    × HearsIf (gets_through ends c.cell Ask) reps c.cell c.epoch answer × AreHeard ends reps cs rest
+    × HearsIf (gets_through ends c.cell Ask) reps c.cell c.epoch answer × AreHeardByEnds ends reps cs rest
 
 -- the stop of a container gets through
 abbrev pub is_stopped : WireEnds → List ℕ × Instance → Bool
@@ -43,7 +43,7 @@ starts_lost ends p x =
 -- heard, the strays that weren't stopped, and the starts, up to the last value of the count
 pub record IsByEnds (by : ℕ) (now : Moment) (line : ℕ) (s s' : Standing) (r : Report)
     (h : IsRound by now line s s' r) (ends : WireEnds) : Type 0 where
-  pub heard : AreHeard ends s.reps (present (rows_seen h.opens.first) now) h.opens.hearing.got
+  pub heard : AreHeardByEnds ends s.reps (present (rows_seen h.opens.first) now) h.opens.hearing.got
   pub stopped : r.stopped ≡ filter (is_stopped ends) (strays (rows_seen h.opens.third) h.opens.hearing.got)
   pub lost : r.lost ≡ min ((r.asked - length h.opens.hearing.got)
       + ((length (strays (rows_seen h.opens.third) h.opens.hearing.got) - length r.stopped)

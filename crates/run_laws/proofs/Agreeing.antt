@@ -11,8 +11,8 @@ use Rattle.scenario_lines.specs.declared.answered.Answered.{Answered}
 use Rattle.scenario_lines.specs.declared.script.Phase.{Phase}
 use Rattle.actor_runs.specs.Turns.{turns_in}
 use Rattle.actor_runs.specs.declared.actor_state.ActorState.{ActorState}
-use Rattle.phase_runs.specs.Actors.{Begins, PartCut, PartRan, SeesPhase}
-use Rattle.run_laws.specs.Answers.{IsTrueOf, items_of, LieBetween}
+use Rattle.phase_runs.specs.Actors.{LogBegins, PartCut, PartRan, SeesPhase}
+use Rattle.run_laws.specs.Answers.{answer_items, IsTrueOf, LieBetween}
 use Rattle.run_laws.specs.Cuts.{ActorCut}
 use Rattle.run_laws.specs.Phases.{ActorAgrees, between}
 use Rattle.run_laws.proofs.Calls.{lie_wider, Says}
@@ -20,16 +20,16 @@ use Rattle.run_laws.proofs.Turns.{did_first, did_turns}
 use Rattle.run_laws.proofs.Logs.{begins_then, begins_within}
 use Rattle.run_laws.proofs.Rounds.{its_items}
 
-module _ (base : Rows) (before fresh log : List Item) (goes : Begins (before ++ fresh) log) (by : ℕ) where
+module _ (base : Rows) (before fresh log : List Item) (goes : LogBegins (before ++ fresh) log) (by : ℕ) where
   -- what an actor says of the phase's stretch
   record Fits (answers : List Answered) : Type 0 where
-    items : by_number by (between (length before) (length (before ++ fresh)) log) ≡ flat_map items_of answers
+    items : by_number by (between (length before) (length (before ++ fresh)) log) ≡ flat_map answer_items answers
     places : LieBetween (length before) (length (before ++ fresh)) answers
     replies : All (IsTrueOf base log) answers
 
   fits : (answers : List Answered) (v w : PortView) → SeesPhase base before fresh by v w → Says answers v w → Fits answers
   fits answers v w sees says = record {
-    items = its_items base before fresh log goes by ∙ append_cancel_left v.mine (by_number by fresh) (flat_map items_of answers) (sym sees.own ∙ says.items);
+    items = its_items base before fresh log goes by ∙ append_cancel_left v.mine (by_number by fresh) (flat_map answer_items answers) (sym sees.own ∙ says.items);
     places =
         lie_wider (length before) (length v.seen) (length w.seen) (length (before ++ fresh)) answers (begins_within before v.seen sees.from)
         (begins_within w.seen (before ++ fresh) sees.upto) says.places;

@@ -23,8 +23,8 @@ use Rattle.cell_rep.specs.Deliveries.{IsDelivered}
 use Rattle.cell_rep.specs.declared.call_end.CallEnd.{CallEnd}
 use Rattle.cell_rep.specs.declared.call_end.CallEnd.TheVariants.{Got, Fault, CallLost, ReplyLost, Local, Idle}
 use Rattle.scenario_lines.specs.declared.answered.Answered.{Answered}
-use Rattle.phase_runs.specs.Actors.{Begins}
-use Rattle.run_laws.specs.Answers.{answer_in, ComesTo, IsTrueOf, items_if, items_of, LieBetween, place_named, Tells, TellsIf}
+use Rattle.phase_runs.specs.Actors.{LogBegins}
+use Rattle.run_laws.specs.Answers.{answer_items, AnswerTells, board_answer, ComesTo, IsTrueOf, items_if, LieBetween, place_named, TellsIf}
 use Rattle.run_laws.proofs.Logs.{begins_behind, begins_same, begins_taken, begins_then, begins_within, stands_behind}
 
 -- a place, or without one an earlier one, is no later
@@ -41,26 +41,26 @@ place_earlier n from (Some (Err fault.OutOfMemory)) le within = (omega arith, le
 pub lie_wider : (n from upto m : ℕ) (as' : List Answered) → n ≤ from → upto ≤ m → LieBetween from upto as' → LieBetween n m as'
 lie_wider n from upto m [] low high lie = omega (arith, low, high, lie)
 lie_wider n from upto m (a ∷ as') low high lie =
-    let earlier = place_earlier n from (answer_in a.end) low lie.0 in (
+    let earlier = place_earlier n from (board_answer a.end) low lie.0 in (
       earlier.0,
-      lie_wider (place_named n (answer_in a.end) + length (items_of a)) (place_named from (answer_in a.end) + length (items_of a)) upto m as'
+      lie_wider (place_named n (board_answer a.end) + length (answer_items a)) (place_named from (board_answer a.end) + length (answer_items a)) upto m as'
           (omega (arith, earlier.1)) high lie.1,
     )
 
 pub lie_both : (from mid upto : ℕ) (as' bs : List Answered) → LieBetween from mid as' → LieBetween mid upto bs → LieBetween from upto (as' ++ bs)
 lie_both from mid upto [] bs f g = lie_wider from mid upto upto bs f (omega arith) g
 lie_both from mid upto (a ∷ as') bs f g =
-    (f.0, lie_both (place_named from (answer_in a.end) + length (items_of a)) mid upto as' bs f.1 g)
+    (f.0, lie_both (place_named from (board_answer a.end) + length (answer_items a)) mid upto as' bs f.1 g)
 
 -- what one call says, of the log that it left and of each longer one
 record SaysOne (by : ℕ) (c : Command) (end : Result Reply CallFault) (base : Rows) (first before : List Item) : Type 0 where
   low : length first ≤ place_named (length first) (Some end)
   high : place_named (length first) (Some end) + length (added end by c) ≤ length (before ++ added end by c)
-  tells : (log : List Item) → Begins (before ++ added end by c) log → Tells base log by c end
+  tells : (log : List Item) → LogBegins (before ++ added end by c) log → AnswerTells base log by c end
 
 module _ (base : Rows) (by : ℕ) (c : Command) (first before : List Item) (behind : length first ≤ length before) where
   -- the rows there are those that were seen
-  comes : (items log : List Item) (v : Verdict) → verdict_of (replay_log base before) c ≡ v → Begins (before ++ items) log
+  comes : (items log : List Item) (v : Verdict) → verdict_of (replay_log base before) c ≡ v → LogBegins (before ++ items) log
       → ComesTo base log (length before) c v
   comes items log v is f =
       let g = begins_behind before items log f in
@@ -69,7 +69,7 @@ module _ (base : Rows) (by : ℕ) (c : Command) (first before : List Item) (behi
         verdict_is = ap (λ (xs : List Item). verdict_of (replay_log base xs) c) (begins_taken before log g) ∙ is;
       }
 
-  stands : (i : Item) (log : List Item) → Begins (before ++ i ∷ []) log → slice_get log (length before) ≡ Some i
+  stands : (i : Item) (log : List Item) → LogBegins (before ++ i ∷ []) log → slice_get log (length before) ≡ Some i
   stands i log f =
       ap (λ (xs : List Item). slice_get xs (length before)) (f.1 ∙ append_assoc before (i ∷ []) f.0) ∙ stands_behind before f.0 i
 
@@ -122,10 +122,10 @@ module _ (base : Rows) (by : ℕ) (c : Command) (first before : List Item) (behi
 -- what the answers of a caller say, who saw a board so before and after its calls
 pub record Says (answers : List Answered) (v w : PortView) : Type 0 where
   pub base_is : w.base ≡ v.base
-  pub grows : Begins v.seen w.seen
+  pub grows : LogBegins v.seen w.seen
   pub places : LieBetween (length v.seen) (length w.seen) answers
-  pub items : w.mine ≡ v.mine ++ flat_map items_of answers
-  pub replies : (log : List Item) → Begins w.seen log → All (IsTrueOf v.base log) answers
+  pub items : w.mine ≡ v.mine ++ flat_map answer_items answers
+  pub replies : (log : List Item) → LogBegins w.seen log → All (IsTrueOf v.base log) answers
 
 -- nothing was done
 pub says_none : (v : PortView) → Says [] v v
@@ -138,11 +138,11 @@ says_none v = record {
 }
 
 -- the one thing that was done was no call
-pub says_nothing : (a : Answered) (v : PortView) → answer_in a.end ≡ None → items_of a ≡ [] → Says (a ∷ []) v v
+pub says_nothing : (a : Answered) (v : PortView) → board_answer a.end ≡ None → answer_items a ≡ [] → Says (a ∷ []) v v
 says_nothing a v none no_items = record {
   base_is = refl;
   grows = begins_same v.seen;
-  places = subst (λ (o : Option (Result Reply CallFault)). (length v.seen ≤ place_named (length v.seen) o) × (place_named (length v.seen) o + length (items_of a) ≤ length v.seen)) (sym none)
+  places = subst (λ (o : Option (Result Reply CallFault)). (length v.seen ≤ place_named (length v.seen) o) × (place_named (length v.seen) o + length (answer_items a) ≤ length v.seen)) (sym none)
       (subst (λ (xs : List Item). (length v.seen ≤ length v.seen) × (length v.seen + length xs ≤ length v.seen)) (sym no_items) (omega arith, omega arith));
   items = sym (append-nil v.mine) ∙ ap (λ (xs : List Item). v.mine ++ (xs ++ [])) (sym no_items);
   replies = λ log f.
@@ -155,9 +155,9 @@ says_then as' bs u v w f g = record {
   base_is = g.base_is ∙ f.base_is;
   grows = begins_then u.seen v.seen w.seen f.grows g.grows;
   places = lie_both (length u.seen) (length v.seen) (length w.seen) as' bs f.places g.places;
-  items = g.items ∙ ap (λ (xs : List Item). xs ++ flat_map items_of bs) f.items
-      ∙ append_assoc u.mine (flat_map items_of as') (flat_map items_of bs)
-      ∙ ap (λ (xs : List Item). u.mine ++ xs) (sym (flat_map-append items_of as' bs));
+  items = g.items ∙ ap (λ (xs : List Item). xs ++ flat_map answer_items bs) f.items
+      ∙ append_assoc u.mine (flat_map answer_items as') (flat_map answer_items bs)
+      ∙ ap (λ (xs : List Item). u.mine ++ xs) (sym (flat_map-append answer_items as' bs));
   replies = λ log h.
       All-append (IsTrueOf u.base log) as' bs (f.replies log (begins_then v.seen w.seen log g.grows h))
       (subst (λ (r : Rows). All (IsTrueOf r log) bs) f.base_is (g.replies log h));
@@ -168,7 +168,7 @@ module _ (by line : ℕ) (v : PortView) (c : Command) (e : CallEnd) (w : PortVie
   abbrev its : Answered
   its = record { actor = by; line = line; command = Some c; end = e }
 
-  says_called : (end : Result Reply CallFault) → answer_in e ≡ Some end → IsCalled by v c end w → Says (its ∷ []) v w
+  says_called : (end : Result Reply CallFault) → board_answer e ≡ Some end → IsCalled by v c end w → Says (its ∷ []) v w
   says_called end is h = record {
     base_is = ap (λ (x : PortView). x.base) h.is;
     grows = (h.others ++ added end by c, seen ∙ append_assoc v.seen h.others (added end by c));
@@ -179,7 +179,7 @@ module _ (by line : ℕ) (v : PortView) (c : Command) (e : CallEnd) (w : PortVie
         ∙ ap (λ (o : Option (Result Reply CallFault)). v.mine ++ (items_if by (Some c) o ++ [])) (sym is);
     replies = λ log f.
         All-cons (IsTrueOf v.base log) its []
-        (subst (TellsIf v.base log by (Some c)) (sym is) (one.tells log (subst (λ (xs : List Item). Begins xs log) seen f)))
+        (subst (TellsIf v.base log by (Some c)) (sym is) (one.tells log (subst (λ (xs : List Item). LogBegins xs log) seen f)))
         (All-nil (IsTrueOf v.base log));
   }
     where

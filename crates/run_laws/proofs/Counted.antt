@@ -16,7 +16,7 @@ use Rattle.bbs_model.specs.declared.reply.Reply.TheVariants as reply
 use Rattle.bbs_model.specs.declared.rows.Rows.{Rows}
 use Rattle.converge_laws.proofs.Public.{inside_first, inside_rest}
 use Rattle.scenario_lines.specs.declared.answered.Answered.{Answered}
-use Rattle.run_laws.specs.Answers.{answer_in, IsTrueOf, items_if, items_of, LieBetween, place_named, TellsIf}
+use Rattle.run_laws.specs.Answers.{answer_items, board_answer, IsTrueOf, items_if, LieBetween, place_named, TellsIf}
 use Rattle.run_laws.specs.Laws.{IsAnswered}
 
 -- an element within the first so many is there
@@ -96,24 +96,24 @@ module _ (base : Rows) (log : List Item) (by : ℕ) where
   abbrev pub IsOwn : Answered → Type 0
   IsOwn a = IsTrueOf base log a × (a.actor ≡ by)
 
-  made : (a : Answered) → IsOwn a → (items_of a ≡ []) ⊎ MadeOne (items_of a) (answer_in a.end)
-  made a own = made_of a.actor a.command (answer_in a.end) own.0 own.1
+  made : (a : Answered) → IsOwn a → (answer_items a ≡ []) ⊎ MadeOne (answer_items a) (board_answer a.end)
+  made a own = made_of a.actor a.command (board_answer a.end) own.0 own.1
 
   module _ (upto : ℕ) where
     abbrev pub its : List Item
     its = take upto log
 
     abbrev after : ℕ → Answered → ℕ
-    after from a = place_named from (answer_in a.end) + length (items_of a)
+    after from a = place_named from (board_answer a.end) + length (answer_items a)
 
     lie_rises : (from : ℕ) (as' : List Answered) → LieBetween from upto as' → from ≤ upto
     lie_rises from [] lie = lie
     lie_rises from (a ∷ as') lie = let rest = lie_rises (after from a) as' lie.1 in omega (arith, lie.0, rest)
 
     -- an answer that made an item, where others follow
-    module _ (from : ℕ) (a : Answered) (as' : List Answered) (lie : LieBetween from upto (a ∷ as')) (one : MadeOne (items_of a) (answer_in a.end)) where
+    module _ (from : ℕ) (a : Answered) (as' : List Answered) (lie : LieBetween from upto (a ∷ as')) (one : MadeOne (answer_items a) (board_answer a.end)) where
       abbrev place : ℕ
-      place = place_named from (answer_in a.end)
+      place = place_named from (board_answer a.end)
 
       next_is : after from a ≡ suc place
       next_is = let count = ap length one.is in omega (arith, count)
@@ -127,21 +127,21 @@ module _ (base : Rows) (log : List Item) (by : ℕ) where
 
     -- there are as many items as the answers made
     enough : (from : ℕ) (as' : List Answered) → LieBetween from upto as' → AllByRecursion IsOwn as'
-        → length (flat_map items_of as') ≤ length (behind its by from)
+        → length (flat_map answer_items as') ≤ length (behind its by from)
     enough from [] lie own = omega arith
     enough from (a ∷ as') lie own =
         let rest = enough (after from a) as' lie.1 own.1 in
         ⊎_elim
-        (λ (none : items_of a ≡ []).
-        omega (arith, rest, fewer its by from (after from a) (omega (arith, lie.0)), ap (λ (ys : List Item). length (ys ++ flat_map items_of as')) none))
-        (λ (one : MadeOne (items_of a) (answer_in a.end)).
+        (λ (none : answer_items a ≡ []).
+        omega (arith, rest, fewer its by from (after from a) (omega (arith, lie.0)), ap (λ (ys : List Item). length (ys ++ flat_map answer_items as')) none))
+        (λ (one : MadeOne (answer_items a) (board_answer a.end)).
         omega (
           arith,
           rest,
-          fewer its by from (place_named from (answer_in a.end)) lie.0,
+          fewer its by from (place_named from (board_answer a.end)) lie.0,
           ap length (first_there from a as' lie one),
           ap (λ n. length (behind its by n)) (next_is from a as' lie one),
-          ap (λ (ys : List Item). length (ys ++ flat_map items_of as')) one.is,
+          ap (λ (ys : List Item). length (ys ++ flat_map answer_items as')) one.is,
         ))
         (made a own.0)
 
@@ -155,19 +155,19 @@ module _ (base : Rows) (log : List Item) (by : ℕ) where
 
     -- an item of the caller is that of the first answer or of those behind it
     module _ (from : ℕ) (a : Answered) (as' : List Answered) (lie : LieBetween from upto (a ∷ as')) (own : AllByRecursion IsOwn (a ∷ as'))
-        (same : behind its by from ≡ flat_map items_of (a ∷ as')) (p : ℕ) (i : Item) (low : from ≤ p) (is : slice_get its p ≡ Some i)
-        (by_is : by_of i ≡ by) (more : behind its by (after from a) ≡ flat_map items_of as' → after from a ≤ p → IsAnswered as' p i) where
+        (same : behind its by from ≡ flat_map answer_items (a ∷ as')) (p : ℕ) (i : Item) (low : from ≤ p) (is : slice_get its p ≡ Some i)
+        (by_is : by_of i ≡ by) (more : behind its by (after from a) ≡ flat_map answer_items as' → after from a ≤ p → IsAnswered as' p i) where
       abbrev q : ℕ
-      q = place_named from (answer_in a.end)
+      q = place_named from (board_answer a.end)
 
-      rest : length (flat_map items_of as') ≤ length (behind its by (after from a))
+      rest : length (flat_map answer_items as') ≤ length (behind its by (after from a))
       rest = enough (after from a) as' lie.1 own.1
 
-      when_none : items_of a ≡ [] → IsAnswered (a ∷ as') p i
+      when_none : answer_items a ≡ [] → IsAnswered (a ∷ as') p i
       when_none none = wider a as' p i (more (same_behind its by from (after from a) (omega (arith, lie.0)) many ∙ those) (at_least (cases_lt p (after from a))))
         where
-          those : behind its by from ≡ flat_map items_of as'
-          those = same ∙ ap (λ (ys : List Item). ys ++ flat_map items_of as') none
+          those : behind its by from ≡ flat_map answer_items as'
+          those = same ∙ ap (λ (ys : List Item). ys ++ flat_map answer_items as') none
 
           many : length (behind its by from) ≤ length (behind its by (after from a))
           many = omega (arith, ap length those, rest)
@@ -176,9 +176,9 @@ module _ (base : Rows) (log : List Item) (by : ℕ) where
           at_least (inl less) = absurd (not_passed from (after from a) p i low less many is by_is)
           at_least (inr m) = m
 
-      module _ (one : MadeOne (items_of a) (answer_in a.end)) where
-        those_one : behind its by from ≡ one.item ∷ flat_map items_of as'
-        those_one = same ∙ ap (λ (ys : List Item). ys ++ flat_map items_of as') one.is
+      module _ (one : MadeOne (answer_items a) (board_answer a.end)) where
+        those_one : behind its by from ≡ one.item ∷ flat_map answer_items as'
+        those_one = same ∙ ap (λ (ys : List Item). ys ++ flat_map answer_items as') one.is
 
         many_one : length (behind its by from) ≤ length (behind its by q)
         many_one = omega (
@@ -189,10 +189,10 @@ module _ (base : Rows) (log : List Item) (by : ℕ) where
           ap (λ n. length (behind its by n)) (next_is from a as' lie one),
         )
 
-        later : one.item ∷ behind its by (suc q) ≡ one.item ∷ flat_map items_of as' → behind its by (suc q) ≡ flat_map items_of as'
+        later : one.item ∷ behind its by (suc q) ≡ one.item ∷ flat_map answer_items as' → behind its by (suc q) ≡ flat_map answer_items as'
         later whole = cc (whole)
 
-        tails : behind its by (after from a) ≡ flat_map items_of as'
+        tails : behind its by (after from a) ≡ flat_map answer_items as'
         tails =
             ap (behind its by) (next_is from a as' lie one)
             ∙ later (sym (first_there from a as' lie one) ∙ same_behind its by from q lie.0 many_one ∙ those_one)
@@ -221,11 +221,11 @@ module _ (base : Rows) (log : List Item) (by : ℕ) where
             past (inr under) = absurd (other (omega (arith, under, up)))
 
       of_these : IsAnswered (a ∷ as') p i
-      of_these = ⊎_elim when_none (λ (one : MadeOne (items_of a) (answer_in a.end)). which one (cases_lt p q) (cases_eq p q)) (made a own.0)
+      of_these = ⊎_elim when_none (λ (one : MadeOne (answer_items a) (board_answer a.end)). which one (cases_lt p q) (cases_eq p q)) (made a own.0)
 
     -- each item of the caller is that of an answer
     pub answered_there : (as' : List Answered) (from : ℕ) → LieBetween from upto as' → AllByRecursion IsOwn as'
-        → behind its by from ≡ flat_map items_of as' → (p : ℕ) (i : Item) → from ≤ p → slice_get its p ≡ Some i → by_of i ≡ by → IsAnswered as' p i
+        → behind its by from ≡ flat_map answer_items as' → (p : ℕ) (i : Item) → from ≤ p → slice_get its p ≡ Some i → by_of i ≡ by → IsAnswered as' p i
     answered_there [] from lie own same p i low is by_is =
         absurd (omega (arith, fewer its by from p low, ap length (one_there its by p i is by_is), ap length same))
     answered_there (a ∷ as') from lie own same p i low is by_is =

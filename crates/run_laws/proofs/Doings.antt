@@ -20,7 +20,7 @@ use Rattle.scenario_lines.specs.declared.act.Act.TheVariants as act
 use Rattle.scenario_lines.specs.declared.act.Loss.{Loss}
 use Rattle.actor_runs.specs.Marks.{ends_under}
 use Rattle.actor_runs.specs.Runs.{HasActed, HasRun, IsCutRun}
-use Rattle.actor_runs.specs.Turns.{answered}
+use Rattle.actor_runs.specs.Turns.{line_answer}
 use Rattle.actor_runs.specs.declared.actor_state.ActorState.{ActorState}
 use Rattle.actor_runs.specs.declared.actor_state.ActorState.TheVariants as actor
 use Rattle.run_laws.specs.Actors.{DoesOnce, DrainsAlone, FitsWire, HasDone, HasEmptied}
@@ -44,33 +44,33 @@ has_done by cell ends (t ∷ ts) rep v (a ∷ as') rep' w f =
 module _ (by line : ℕ) where
   -- one thing that was to be done
   says_todo : (cell : List ℕ) (ends : Option WireEnds) (t : Todo) (v : PortView) (a : Called) (m : PortView) → IsAnswer t a → EndsOf by cell ends t v a m
-      → Says (answered by line a ∷ []) v m
+      → Says (line_answer by line a ∷ []) v m
   says_todo cell ends (Call c) v a m is e =
       subst (λ k. Says (record { actor = by; line = line; command = k; end = a.end } ∷ []) v m) (sym is)
       (says_delivered by line v c a.end m e.1)
   says_todo cell ends Idle v a m is e =
-      subst (λ (x : PortView). Says (answered by line a ∷ []) v x) (sym e)
-      (subst (λ (x : Called). Says (answered by line x ∷ []) v v) (sym is)
+      subst (λ (x : PortView). Says (line_answer by line a ∷ []) v x) (sym e)
+      (subst (λ (x : Called). Says (line_answer by line x ∷ []) v v) (sym is)
       (says_nothing (record { actor = by; line = line; command = None; end = end.Idle }) v refl refl))
   says_todo cell ends (Local why) v a m is e =
-      subst (λ (x : PortView). Says (answered by line a ∷ []) v x) (sym e)
-      (subst (λ (x : Called). Says (answered by line x ∷ []) v v) (sym is)
+      subst (λ (x : PortView). Says (line_answer by line a ∷ []) v x) (sym e)
+      (subst (λ (x : Called). Says (line_answer by line x ∷ []) v v) (sym is)
       (says_nothing (record { actor = by; line = line; command = None; end = end.Local why }) v refl refl))
 
   -- all of it
   says_follows : (cell : List ℕ) (ends : Option WireEnds) (ts : List Todo) (rep : CellRep) (v : PortView) (as' : List Called) (rep' : CellRep) (w : PortView)
-      → Follows by cell ends ts rep v as' rep' w → Says (map (answered by line) as') v w
+      → Follows by cell ends ts rep v as' rep' w → Says (map (line_answer by line) as') v w
   says_follows cell ends [] rep v [] rep' w f = subst (Says [] v) (sym f.1) (says_none v)
   says_follows cell ends [] rep v (a ∷ as') rep' w f = absurd f
   says_follows cell ends (t ∷ ts) rep v [] rep' w f = absurd f
   says_follows cell ends (t ∷ ts) rep v (a ∷ as') rep' w f =
-      says_then (answered by line a ∷ []) (map (answered by line) as') v f.0 w (says_todo cell ends t v a f.0 f.1 f.2)
+      says_then (line_answer by line a ∷ []) (map (line_answer by line) as') v f.0 w (says_todo cell ends t v a f.0 f.1 f.2)
       (says_follows cell (moved_by t ends) ts (after_todo t a.end rep) f.0 as' rep' w f.3)
 
   -- what was done once, and what was said
   pub record Did (Does : List Called → Type 0) (calls : List Called) (v w : PortView) : Type 0 where
     pub does : Does calls
-    pub says : Says (map (answered by line) calls) v w
+    pub says : Says (map (line_answer by line) calls) v w
 
   module _ (now : Moment) (mark : Option Loss) (rep : CellRep) (v : PortView) where
     -- an act of a cell
@@ -100,7 +100,7 @@ module _ (by line : ℕ) where
       calls_are : w.out ≡ m.out ++ behind
       does : MatchBool agreed (HasDone m.rep.cell m.ends (plan cell.Settle now m.rep) (begun cell.Settle m.rep) behind w.rep)
           ((behind ≡ []) × (w.rep ≡ m.rep))
-      says : Says (map (answered by line) behind) m.view w.view
+      says : Says (map (line_answer by line) behind) m.view w.view
 
     settled : (agreed : Bool) (m w : Stage) (a : Called) → MatchBool agreed (Acts by cell.Settle now m w) (w ≡ m) → Settled agreed m w a
     settled true m w a h = record {
@@ -133,8 +133,8 @@ module _ (by line : ℕ) where
         settled = subst (λ (e : Option WireEnds). MatchBool (is_agreed a.end) (HasDone m.rep.cell e (plan cell.Settle now m.rep) (begun cell.Settle m.rep) rest.behind rep')
             ((rest.behind ≡ []) × (rep' ≡ m.rep))) h.does.drained.performs.ends_are rest.does;
       };
-      says = subst (λ (xs : List Called). Says (map (answered by line) xs) v w) (sym calls_are)
-          (says_then (answered by line a ∷ []) (map (answered by line) rest.behind) v m.view w drained.says rest.says);
+      says = subst (λ (xs : List Called). Says (map (line_answer by line) xs) v w) (sym calls_are)
+          (says_then (line_answer by line a ∷ []) (map (line_answer by line) rest.behind) v m.view w drained.says rest.says);
     }
       where
         m : Stage
@@ -158,7 +158,7 @@ module _ (by line : ℕ) where
       → Did (λ (xs : List Called). DoesOnce now d mark a xs a') calls v w
   did_run now (act.Client op) mark (actor.Client name) a' v w calls (same, h) = record {
     does = (same, record { end = h.end; fits = h.fits_mark; calls_are = h.new_is });
-    says = subst (λ (xs : List Called). Says (map (answered by line) xs) v w) (sym h.new_is) (says_delivered by line v (at now op) h.end w h.delivered);
+    says = subst (λ (xs : List Called). Says (map (line_answer by line) xs) v w) (sym h.new_is) (says_delivered by line v (at now op) h.end w h.delivered);
   }
   did_run now (act.Client op) mark (actor.Cell rep) a' v w calls h = absurd h
   did_run now (act.Cell c) mark (actor.Client name) a' v w calls h = absurd h
@@ -173,14 +173,14 @@ module _ (by line : ℕ) where
   -- a run that was cut off
   pub record CutOff (now : Moment) (d : Act) (mark : Option Loss) (a a' : ActorState) (v w : PortView) (calls : List Called) : Type 0 where
     pub does : ((calls ≡ []) × (a' ≡ a)) ⊎ ((drain : Called) × (calls ≡ drain ∷ []) × DrainsAlone now d mark a drain a')
-    pub says : Says (map (answered by line) calls) v w
+    pub says : Says (map (line_answer by line) calls) v w
 
   cut_nothing : (now : Moment) (d : Act) (mark : Option Loss) (a a' : ActorState) (v w : PortView) (calls : List Called) → a' ≡ a → w ≡ v → calls ≡ []
       → CutOff now d mark a a' v w calls
   cut_nothing now d mark a a' v w calls same still none = record {
     does = inl (none, same);
-    says = subst (λ (x : PortView). Says (map (answered by line) calls) v x) (sym still)
-        (subst (λ (xs : List Called). Says (map (answered by line) xs) v v) (sym none) (says_none v));
+    says = subst (λ (x : PortView). Says (map (line_answer by line) calls) v x) (sym still)
+        (subst (λ (xs : List Called). Says (map (line_answer by line) xs) v v) (sym none) (says_none v));
   }
 
   pub cut_run : (now : Moment) (d : Act) (mark : Option Loss) (a a' : ActorState) (v w : PortView) (calls : List Called) → IsCutRun by now d mark a a' v w calls
@@ -195,5 +195,5 @@ module _ (by line : ℕ) where
       let drained = did_drain now mark rep v (stage rep' w h.ends h.losses calls) h.does.answer h.does.drained in
       record {
         does = inr (h.does.answer, h.does.drained.out_is, drained.does);
-        says = subst (λ (xs : List Called). Says (map (answered by line) xs) v w) (sym h.does.drained.out_is) drained.says;
+        says = subst (λ (xs : List Called). Says (map (line_answer by line) xs) v w) (sym h.does.drained.out_is) drained.says;
       }

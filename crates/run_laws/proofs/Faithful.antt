@@ -21,8 +21,8 @@ use Rattle.scenario_lines.specs.declared.script.Phase.{Phase}
 use Rattle.scenario_lines.specs.declared.script.Script.{Script}
 use Rattle.scenario_reader.specs.Facts.{IsScript}
 use Rattle.actor_runs.specs.Runs.{is_starved_end}
-use Rattle.phase_runs.specs.Actors.{Begins}
-use Rattle.scenario_runs.specs.Courses.{beginning, Course, PlaysPhase}
+use Rattle.phase_runs.specs.Actors.{LogBegins}
+use Rattle.scenario_runs.specs.Courses.{beginning, PlaysPhase, RunCourse}
 use Rattle.scenario_runs.specs.Plays.{IsCutIn, IsUntold, Plays, PlaysCut, PlaysPart, PlaysUnsummed, PlaysWhole, RanFirst}
 use Rattle.run_laws.specs.Answers.{IsTrueOf}
 use Rattle.run_laws.specs.Headline.{RunEndsAt, IsFaithful, outset}
@@ -37,7 +37,7 @@ each_last : {X S : Type 0} (Step : X → S → S → Type 0) (xs : List X) (x : 
 each_last Step [] x s m t same step = (t, subst (λ a. Step x a t) same step, refl)
 each_last Step (y ∷ xs) x s m t each step = (each.0, each.1, each_last Step xs x each.0 m t each.2 step)
 
-begins_as : (first log : List Item) → log ≡ first → Begins first log
+begins_as : (first log : List Item) → log ≡ first → LogBegins first log
 begins_as first log same = ([], same ∙ sym (append-nil first))
 
 -- no task gets its outcome twice
@@ -46,13 +46,13 @@ TasksCompleteOnce = (base : Rows) (log : List Item) (birth : ℕ) → IsValid ba
 
 module _ {D : Type 0} (told : D → Option Past) (once : TasksCompleteOnce) (converges : CompleteRoundsConverge) (accounts : RoundsHaveAccounts) (script : Script)
     (is_script : IsScript script) (v : View D) (fresh : v.log ≡ []) (valid : IsValid v.base) where
-  agreed : (ran rest : List Phase) (s : Course D) → RanFirst told script v ran rest s → Agreed told v.base converges accounts script ran (beginning script v) s
+  agreed : (ran rest : List Phase) (s : RunCourse D) → RanFirst told script v ran rest s → Agreed told v.base converges accounts script ran (beginning script v) s
   agreed ran rest s first =
       phases_agree told v.base converges accounts script ran (beginning script v) s first.each refl (names_apart script.actors is_script.distinct)
 
   -- the first phases ran, and the log goes on from theirs
-  faithful : (how : Ending) (answers : List Answered) (reports : List Report) (log : List Item) (ran rest : List Phase) (s : Course D)
-      → RanFirst told script v ran rest s → IsLawful v.base log → answers ≡ s.answers → reports ≡ s.reports → Begins s.board.log log
+  faithful : (how : Ending) (answers : List Answered) (reports : List Report) (log : List Item) (ran rest : List Phase) (s : RunCourse D)
+      → RanFirst told script v ran rest s → IsLawful v.base log → answers ≡ s.answers → reports ≡ s.reports → LogBegins s.board.log log
       → RunEndsAt how v.base log rest (point_of s) → IsFaithful script how answers reports v.base log
   faithful how answers reports log ran rest s first lawful answers_are reports_are goes ends = record {
     replies = λ a inside. its_true a inside;
@@ -92,7 +92,7 @@ module _ {D : Type 0} (told : D → Option Past) (once : TasksCompleteOnce) (con
 
   module _ (answers : List Answered) (reports : List Report) (w : View D) (lawful : IsLawful v.base w.log) where
     -- the board is as the last phase left it
-    at_last : (how : Ending) (ran rest : List Phase) (s : Course D) → RanFirst told script v ran rest s → answers ≡ s.answers → reports ≡ s.reports
+    at_last : (how : Ending) (ran rest : List Phase) (s : RunCourse D) → RanFirst told script v ran rest s → answers ≡ s.answers → reports ≡ s.reports
         → w ≡ s.board → (length s.board.log ≡ length w.log → RunEndsAt how v.base w.log rest (point_of s)) → IsFaithful script how answers reports v.base w.log
     at_last how ran rest s first answers_are reports_are board ends =
         faithful how answers reports w.log ran rest s first lawful answers_are reports_are
@@ -120,7 +120,7 @@ module _ {D : Type 0} (told : D → Option Past) (once : TasksCompleteOnce) (con
           })
           p.answers_are p.reports_are p.board (λ e. e)
 
-      untold_grows : (phase : Phase) (s : Course D) → IsUntold told phase s.actors s.board w → Begins s.board.log w.log
+      untold_grows : (phase : Phase) (s : RunCourse D) → IsUntold told phase s.actors s.board w → LogBegins s.board.log w.log
       untold_grows phase s (inl cut) = (cut.fresh, cut.goes.grows)
       untold_grows phase s (inr (news, parts, report, ran)) = (ran.fresh, ran.goes.grows)
 
@@ -166,12 +166,12 @@ played_faithful told once converges accounts script how answers reports v w held
     played told once converges accounts script is_script v fresh valid answers reports w lawful held held' faults faults' how plays
 
 module _ {D : Type 0} (told : D → Option Past) (script : Script) where
-  base_each : (phases : List Phase) (s t : Course D) → Each (PlaysPhase told script) phases s t → t.board.base ≡ s.board.base
-  base_each [] s t same = ap (λ (c : Course D). c.board.base) same
+  base_each : (phases : List Phase) (s t : RunCourse D) → Each (PlaysPhase told script) phases s t → t.board.base ≡ s.board.base
+  base_each [] s t same = ap (λ (c : RunCourse D). c.board.base) same
   base_each (phase ∷ phases) s t (m, plays, others) = base_each phases m t others ∙ plays.ran.goes.base
 
   module _ (answers : List Answered) (reports : List Report) (v w : View D) (held held' : Option (List ℕ)) (faults faults' : ℕ) where
-    base_last : (ran rest : List Phase) (s : Course D) → RanFirst told script v ran rest s → w ≡ s.board → w.base ≡ v.base
+    base_last : (ran rest : List Phase) (s : RunCourse D) → RanFirst told script v ran rest s → w ≡ s.board → w.base ≡ v.base
     base_last ran rest s first board = ap (λ (x : View D). x.base) board ∙ base_each ran (beginning script v) s first.each
 
     base_part : PlaysPart told script answers reports v w held held' faults faults' ⊎ PlaysUnsummed told script answers reports v w held held' faults faults'
@@ -180,7 +180,7 @@ module _ {D : Type 0} (told : D → Option Past) (script : Script) where
         ap (λ (x : View D). x.base) p.board ∙ p.plays.ran.goes.base ∙ base_each p.ran (beginning script v) p.before p.first.each
     base_part (inr p) = base_last p.ran p.rest p.last p.ends.first p.ends.board
 
-    base_untold : (phase : Phase) (s : Course D) → IsUntold told phase s.actors s.board w → w.base ≡ s.board.base
+    base_untold : (phase : Phase) (s : RunCourse D) → IsUntold told phase s.actors s.board w → w.base ≡ s.board.base
     base_untold phase s (inl cut) = cut.goes.base
     base_untold phase s (inr (news, parts, report, ran)) = ran.goes.base
 

@@ -13,9 +13,9 @@ use Rattle.converge_round.specs.Each.{Each}
 use Rattle.crash_backoff.specs.declared.moment.Moment.{Moment}
 use Rattle.scenario_lines.specs.declared.answered.Answered.{Answered}
 use Rattle.scenario_lines.specs.declared.script.Phase.{Phase}
-use Rattle.actor_runs.specs.Turns.{answered, Turn, turns_in}
+use Rattle.actor_runs.specs.Turns.{line_answer, Turn, turns_in}
 use Rattle.actor_runs.specs.declared.actor_state.ActorState.{ActorState}
-use Rattle.phase_text.specs.Sorting.{by_line, is_earlier_line, joined, sorted_by, with_placed}
+use Rattle.phase_text.specs.Sorting.{by_line, is_earlier_line, joined_parts, sorted_by, with_placed}
 use Rattle.run_laws.specs.Actors.{DoesTurns}
 use Rattle.run_laws.specs.Answers.{IsTrueOf}
 use Rattle.run_laws.specs.Headline.{outset}
@@ -67,7 +67,7 @@ module _ (by : ℕ) where
   bears_both [] ys f g = g
   bears_both (x ∷ xs) ys f g = (f.0, bears_both xs ys f.1 g)
 
-  bears_run : (line : ℕ) (calls : List Called) → AllByRecursion Bears (map (answered by line) calls)
+  bears_run : (line : ℕ) (calls : List Called) → AllByRecursion Bears (map (line_answer by line) calls)
   bears_run line [] = tt
   bears_run line (c ∷ calls) = (refl, bears_run line calls)
 
@@ -75,7 +75,7 @@ module _ (by : ℕ) where
       → AllByRecursion Bears answers
   bears now [] a answers a' did = subst (AllByRecursion Bears) (sym did.0) tt
   bears now (t ∷ ts) a answers a' (calls, rest, mid, is, one, others) =
-      subst (AllByRecursion Bears) (sym is) (bears_both (map (answered by t.line) calls) rest (bears_run t.line calls) (bears now ts mid rest a' others))
+      subst (AllByRecursion Bears) (sym is) (bears_both (map (line_answer by t.line) calls) rest (bears_run t.line calls) (bears now ts mid rest a' others))
 
   own_true : (base : Rows) (log : List Item) (as' : List Answered) → AllByRecursion (IsTrueOf base log) as' → AllByRecursion Bears as'
       → AllByRecursion (IsOwn base log by) as'
@@ -121,7 +121,7 @@ module _ (base : Rows) (log : List Item) where
         (λ x inside.
         subst (λ (xs : List Answered). Contains xs x) (sym agrees.answers)
         (Contains-append_right s.answers (by_line agrees.parts) x
-        (inside_sorted is_earlier_line (joined agrees.parts) x (inside_joined agrees.parts k part x there inside))))
+        (inside_sorted is_earlier_line (joined_parts agrees.parts) x (inside_joined agrees.parts k part x there inside))))
         (in_part phase s.place t.place (suc k) (get_or s.actors k a) (get_or agrees.mids k a) part
         (agrees.actors k (get_or s.actors k a) (get_or agrees.mids k a) part (slice_get-get_or s.actors k a within)
         (slice_get-get_or agrees.mids k a (omega (arith, within, agrees.same.length_is))) there)

@@ -9,9 +9,9 @@ use Rattle.scenario_lines.specs.declared.actor.Actor.{Actor}
 use Rattle.actor_runs.specs.Runs.{IsOneActor}
 use Rattle.actor_runs.specs.declared.actor_state.ActorState.{ActorState}
 use Rattle.actor_runs.specs.declared.actor_state.ActorState.TheVariants.{Client, Cell}
-use Rattle.phase_runs.specs.Actors.{AreSame}
+use Rattle.phase_runs.specs.Actors.{AreSameActors}
 use Rattle.phase_runs.specs.Reps.{reps_of}
-use Rattle.scenario_runs.specs.Actors.{actors_of}
+use Rattle.scenario_runs.specs.Actors.{starting_actors}
 
 -- the names of the cells among actors
 abbrev pub cell_names : List ActorState → List (List ℕ)
@@ -25,7 +25,7 @@ one_name (Cell r) (Client m) olds news is rest = absurd is
 one_name (Cell r) (Cell q) olds news is rest = cc (is, rest)
 
 -- they stay where each actor is the client or the cell that it was
-pub names_same : (olds news : List ActorState) → AreSame olds news → cell_names news ≡ cell_names olds
+pub names_same : (olds news : List ActorState) → AreSameActors olds news → cell_names news ≡ cell_names olds
 names_same [] [] same = refl
 names_same [] (b ∷ news) same = absurd (omega (arith, same.length_is))
 names_same (a ∷ olds) [] same = absurd (omega (arith, same.length_is))
@@ -41,8 +41,8 @@ of_cell name = record { cell = true; name = name }
 
 -- a name among them is that of a cell
 one_in : (cell : Bool) (n : List ℕ) (rest : List Actor) (j : ℕ) (name : List ℕ)
-    → ((i : ℕ) → slice_get (cell_names (actors_of rest)) i ≡ Some name → Contains rest (of_cell name))
-    → slice_get (cell_names (actors_of (record { cell = cell; name = n } ∷ rest))) j ≡ Some name
+    → ((i : ℕ) → slice_get (cell_names (starting_actors rest)) i ≡ Some name → Contains rest (of_cell name))
+    → slice_get (cell_names (starting_actors (record { cell = cell; name = n } ∷ rest))) j ≡ Some name
     → Contains (record { cell = cell; name = n } ∷ rest) (of_cell name)
 one_in false n rest j name more is = inside_rest (of_cell name) (record { cell = false; name = n }) rest (more j is)
 one_in true n rest zero name more is =
@@ -50,13 +50,13 @@ one_in true n rest zero name more is =
     subst (λ (m : List ℕ). Contains (of_cell n ∷ rest) (of_cell m)) same (inside_first (of_cell n) rest)
 one_in true n rest (suc j) name more is = inside_rest (of_cell name) (of_cell n) rest (more j is)
 
-named_cell : (actors : List Actor) (j : ℕ) (name : List ℕ) → slice_get (cell_names (actors_of actors)) j ≡ Some name
+named_cell : (actors : List Actor) (j : ℕ) (name : List ℕ) → slice_get (cell_names (starting_actors actors)) j ≡ Some name
     → Contains actors (of_cell name)
 named_cell [] j name is = cc (is)
 named_cell (a ∷ rest) j name is = one_in a.cell a.name rest j name (λ i. named_cell rest i name) is
 
-one_apart : (cell : Bool) (n : List ℕ) (rest : List Actor) → StandApart (cell_names (actors_of rest))
-    → (cell ≡ true → Contains rest (of_cell n) → ⊥) → StandApart (cell_names (actors_of (record { cell = cell; name = n } ∷ rest)))
+one_apart : (cell : Bool) (n : List ℕ) (rest : List Actor) → StandApart (cell_names (starting_actors rest))
+    → (cell ≡ true → Contains rest (of_cell n) → ⊥) → StandApart (cell_names (starting_actors (record { cell = cell; name = n } ∷ rest)))
 one_apart false n rest more new i j name p q = more i j name p q
 one_apart true n rest more new zero zero name p q = refl
 one_apart true n rest more new zero (suc j) name p q =
@@ -68,7 +68,7 @@ one_apart true n rest more new (suc i) zero name p q =
 one_apart true n rest more new (suc i) (suc j) name p q = ap suc (more i j name p q)
 
 -- those of a scenario stand apart
-pub names_apart : (actors : List Actor) → AllPairs (λ a b. a ≢ b) actors → StandApart (cell_names (actors_of actors))
+pub names_apart : (actors : List Actor) → AllPairs (λ a b. a ≢ b) actors → StandApart (cell_names (starting_actors actors))
 names_apart [] pairs = λ i j name p q. cc (p)
 names_apart (a ∷ rest) pairs =
     one_apart a.cell a.name rest (names_apart rest (λ i j d before within. pairs (suc i) (suc j) d (omega (arith, before)) (omega (arith, within))))

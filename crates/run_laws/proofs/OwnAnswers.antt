@@ -12,9 +12,9 @@ use Rattle.scenario_lines.specs.declared.answered.Answered.{Answered}
 use Rattle.scenario_lines.specs.declared.script.Line.{Line}
 use Rattle.scenario_lines.specs.declared.script.Phase.{Phase}
 use Rattle.scenario_reader.specs.Facts.{IsPhase}
-use Rattle.actor_runs.specs.Turns.{answered, lines_by, Turn, turn_at, turns_in, turns_of}
+use Rattle.actor_runs.specs.Turns.{line_answer, lines_by, Turn, turn_at, turns_in, turns_of}
 use Rattle.actor_runs.specs.declared.actor_state.ActorState.{ActorState}
-use Rattle.phase_text.specs.Sorting.{is_earlier_line, joined, sorted_by}
+use Rattle.phase_text.specs.Sorting.{is_earlier_line, joined_parts, sorted_by}
 use Rattle.run_laws.specs.Actors.{DoesTurns}
 use Rattle.run_laws.specs.Laws.{ActorsAnswersStand, answers_by}
 use Rattle.run_laws.proofs.ItemsAnswered.{Bears, bears, some_actor}
@@ -29,7 +29,7 @@ runs_from : (low mid : ℕ) (ts : List Turn) → low ≤ mid → RunsRise mid ts
 runs_from low mid [] le f = tt
 runs_from low mid (t ∷ ts) le f = (omega (arith, le, f.0), f.1)
 
-calls_rise : (by line low : ℕ) (calls : List Called) (rest : List Answered) → low ≤ line → Rises line rest → Rises low (map (answered by line) calls ++ rest)
+calls_rise : (by line low : ℕ) (calls : List Called) (rest : List Answered) → low ≤ line → Rises line rest → Rises low (map (line_answer by line) calls ++ rest)
 calls_rise by line low [] rest le f = rises_from low line rest le f
 calls_rise by line low (c ∷ calls) rest le f = (le, calls_rise by line line calls rest (omega arith) f)
 
@@ -90,27 +90,27 @@ abbrev BearNumbers : ℕ → List (List Answered) → Type 0
 BearNumbers n [] = Unit {0}
 BearNumbers n (p ∷ parts) = AllByRecursion (Bears n) p × BearNumbers (suc n) parts
 
-none_of : (by n : ℕ) (parts : List (List Answered)) → by < n → BearNumbers n parts → answers_by by (joined parts) ≡ []
+none_of : (by n : ℕ) (parts : List (List Answered)) → by < n → BearNumbers n parts → answers_by by (joined_parts parts) ≡ []
 none_of by n [] less f = refl
 none_of by n (p ∷ parts) less f =
-    filter-append (λ (a : Answered). a.actor == by) p (joined parts)
-    ∙ ap (λ (l : List Answered). l ++ answers_by by (joined parts)) (none_by by n p (λ is. absurd (omega (arith, less, is))) f.0)
+    filter-append (λ (a : Answered). a.actor == by) p (joined_parts parts)
+    ∙ ap (λ (l : List Answered). l ++ answers_by by (joined_parts parts)) (none_by by n p (λ is. absurd (omega (arith, less, is))) f.0)
     ∙ none_of by (suc n) parts (omega (arith, less)) f.1
 
 one_of : (n : ℕ) (parts : List (List Answered)) → BearNumbers n parts → (k : ℕ) (part : List Answered) → slice_get parts k ≡ Some part → (by : ℕ) → by ≡ n + k
-    → answers_by by (joined parts) ≡ part
+    → answers_by by (joined_parts parts) ≡ part
 one_of n [] f k part is by at = cc (is)
 one_of n (p ∷ parts) f zero part is by at =
     let same : p ≡ part = cc (is) in
     let number : n ≡ by = omega (arith, at) in
-    filter-append (λ (a : Answered). a.actor == by) p (joined parts)
+    filter-append (λ (a : Answered). a.actor == by) p (joined_parts parts)
     ∙ ap (λ (l : List Answered). answers_by by p ++ l) (none_of by (suc n) parts (omega (arith, at)) f.1)
     ∙ append-nil (answers_by by p)
     ∙ all_by by p (subst (λ m. AllByRecursion (Bears m) p) number f.0)
     ∙ same
 one_of n (p ∷ parts) f (suc k) part is by at =
-    filter-append (λ (a : Answered). a.actor == by) p (joined parts)
-    ∙ ap (λ (l : List Answered). l ++ answers_by by (joined parts)) (none_by by n p (λ e. absurd (omega (arith, at, e))) f.0)
+    filter-append (λ (a : Answered). a.actor == by) p (joined_parts parts)
+    ∙ ap (λ (l : List Answered). l ++ answers_by by (joined_parts parts)) (none_by by n p (λ e. absurd (omega (arith, at, e))) f.0)
     ∙ one_of (suc n) parts f.1 k part is by (omega (arith, at))
 
 bear_numbers : (n : ℕ) (parts : List (List Answered)) → ((k : ℕ) (p : List Answered) → slice_get parts k ≡ Some p → AllByRecursion (Bears (n + k)) p) → BearNumbers n parts
@@ -134,7 +134,7 @@ record SomeTurns (phase : Phase) (by : ℕ) (answers : List Answered) : Type 0 w
 
 pub answers_stand : ActorsAnswersStand
 answers_stand script phase base log s s' agrees is_script among k part is =
-    kept_sorted (λ (a : Answered). a.actor == suc k) (joined agrees.parts)
+    kept_sorted (λ (a : Answered). a.actor == suc k) (joined_parts agrees.parts)
     ∙ ap (sorted_by is_earlier_line) (one_of 1 agrees.parts numbers k part is (suc k) (omega arith))
     ∙ sorted_same 0 part rising
   where

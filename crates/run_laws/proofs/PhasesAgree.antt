@@ -15,10 +15,10 @@ use Rattle.scenario_lines.specs.declared.answered.Answered.{Answered}
 use Rattle.scenario_lines.specs.declared.script.Phase.{Phase}
 use Rattle.scenario_lines.specs.declared.script.Script.{Script}
 use Rattle.actor_runs.specs.declared.actor_state.ActorState.{ActorState}
-use Rattle.phase_runs.specs.Actors.{Begins, PartCut, PartRan}
+use Rattle.phase_runs.specs.Actors.{LogBegins, PartCut, PartRan}
 use Rattle.phase_runs.specs.Phases.{IsRoundCut, PhaseCut, PhaseRan, RoundRan}
 use Rattle.phase_runs.specs.Reps.{reps_of}
-use Rattle.scenario_runs.specs.Courses.{Course, PlaysPhase}
+use Rattle.scenario_runs.specs.Courses.{RunCourse, PlaysPhase}
 use Rattle.scenario_runs.specs.Plays.{IsUntold}
 use Rattle.run_laws.specs.Cuts.{PhaseIsCut}
 use Rattle.run_laws.specs.Phases.{Point, PhaseAgrees}
@@ -28,14 +28,14 @@ use Rattle.run_laws.proofs.Names.{cell_names, names_same}
 use Rattle.run_laws.proofs.Rounds.{its_items, round_agrees, round_as_cut, round_cut}
 
 -- where a course stands, by the length of its log
-abbrev pub point_of : {D : Type 0} → Course D → Point
+abbrev pub point_of : {D : Type 0} → RunCourse D → Point
 point_of s = record { actors = s.actors; place = length s.board.log; answers = s.answers; reports = s.reports }
 
 module _ {D : Type 0} (told : D → Option Past) (base : Rows) where
   module _ (converges : CompleteRoundsConverge) (accounts : RoundsHaveAccounts) (script : Script) where
     -- one phase that was played
-    agrees_upto : (phase : Phase) (s t : Course D) (p : PlaysPhase told script phase s t) (log : List Item) → s.board.base ≡ base
-        → StandApart (cell_names s.actors) → Begins (s.board.log ++ p.ran.fresh) log
+    agrees_upto : (phase : Phase) (s t : RunCourse D) (p : PlaysPhase told script phase s t) (log : List Item) → s.board.base ≡ base
+        → StandApart (cell_names s.actors) → LogBegins (s.board.log ++ p.ran.fresh) log
         → PhaseAgrees base log phase (point_of s) (record (point_of t) { place = length (s.board.log ++ p.ran.fresh) })
     agrees_upto phase s t p log base_is apart goes = record {
       calm = ap doubts_in (begins_taken s.board.log log first) ∙ p.calm;
@@ -58,23 +58,23 @@ module _ {D : Type 0} (told : D → Option Past) (base : Rows) where
       reports = p.reports;
     }
       where
-        first : Begins s.board.log log
+        first : LogBegins s.board.log log
         first = begins_then s.board.log (s.board.log ++ p.ran.fresh) log (p.ran.fresh, refl) goes
 
-    phase_agrees : (phase : Phase) (s t : Course D) (p : PlaysPhase told script phase s t) (log : List Item) → s.board.base ≡ base
-        → StandApart (cell_names s.actors) → Begins t.board.log log → PhaseAgrees base log phase (point_of s) (point_of t)
+    phase_agrees : (phase : Phase) (s t : RunCourse D) (p : PlaysPhase told script phase s t) (log : List Item) → s.board.base ≡ base
+        → StandApart (cell_names s.actors) → LogBegins t.board.log log → PhaseAgrees base log phase (point_of s) (point_of t)
     phase_agrees phase s t p log base_is apart goes =
         subst (λ (xs : List Item). PhaseAgrees base log phase (point_of s) (record (point_of t) { place = length xs })) (sym p.ran.goes.grows)
-        (agrees_upto phase s t p log base_is apart (subst (λ (xs : List Item). Begins xs log) p.ran.goes.grows goes))
+        (agrees_upto phase s t p log base_is apart (subst (λ (xs : List Item). LogBegins xs log) p.ran.goes.grows goes))
 
     -- all that were played, one after another
-    pub record Agreed (phases : List Phase) (s t : Course D) : Type 0 where
+    pub record Agreed (phases : List Phase) (s t : RunCourse D) : Type 0 where
       pub base_is : t.board.base ≡ base
-      pub grows : Begins s.board.log t.board.log
+      pub grows : LogBegins s.board.log t.board.log
       pub apart : StandApart (cell_names t.actors)
-      pub each : (log : List Item) → Begins t.board.log log → Each (PhaseAgrees base log) phases (point_of s) (point_of t)
+      pub each : (log : List Item) → LogBegins t.board.log log → Each (PhaseAgrees base log) phases (point_of s) (point_of t)
 
-    pub phases_agree : (phases : List Phase) (s t : Course D) → Each (PlaysPhase told script) phases s t → s.board.base ≡ base
+    pub phases_agree : (phases : List Phase) (s t : RunCourse D) → Each (PlaysPhase told script) phases s t → s.board.base ≡ base
         → StandApart (cell_names s.actors) → Agreed phases s t
     phases_agree [] s t same base_is apart = subst (Agreed [] s) (sym same) (record {
       base_is = base_is;
@@ -97,7 +97,7 @@ module _ {D : Type 0} (told : D → Option Past) (base : Rows) where
         }
 
   -- a phase that was cut off is the last of the log
-  module _ (phase : Phase) (s : Course D) (calm : doubts_in s.board.log ≡ 0) (base_is : s.board.base ≡ base) where
+  module _ (phase : Phase) (s : RunCourse D) (calm : doubts_in s.board.log ≡ 0) (base_is : s.board.base ≡ base) where
     calm_there : (fresh : List Item) → doubts_in (take (length s.board.log) (s.board.log ++ fresh)) ≡ 0
     calm_there fresh = ap doubts_in (begins_taken s.board.log (s.board.log ++ fresh) (fresh, refl)) ∙ calm
 

@@ -24,7 +24,7 @@ use Rattle.round_laws.specs.Complete.{CompleteRoundsConverge}
 use Rattle.scenario_lines.specs.declared.script.RoundLine.{RoundLine}
 use Rattle.actor_runs.specs.declared.actor_state.ActorState.{ActorState}
 use Rattle.actor_runs.specs.declared.actor_state.ActorState.TheVariants.{Client, Cell}
-use Rattle.phase_runs.specs.Actors.{Begins, SeesPhase}
+use Rattle.phase_runs.specs.Actors.{LogBegins, SeesPhase}
 use Rattle.phase_runs.specs.Phases.{IsRoundCut, IsToldBy, RoundRan}
 use Rattle.phase_runs.specs.Reps.{reps_of, with_reps}
 use Rattle.phase_runs.specs.RoundMarks.{round_ends}
@@ -41,7 +41,7 @@ reps_put (Client name ∷ xs) rs kept = reps_put xs rs kept
 reps_put (Cell rep ∷ xs) [] kept = absurd kept
 reps_put (Cell rep ∷ xs) (r ∷ rs) kept = ap (λ (l : List CellRep). r ∷ l) (reps_put xs rs kept.1)
 
-module _ (base : Rows) (before fresh log : List Item) (goes : Begins (before ++ fresh) log) where
+module _ (base : Rows) (before fresh log : List Item) (goes : LogBegins (before ++ fresh) log) where
   abbrev from : ℕ
   from = length before
 
@@ -53,7 +53,7 @@ module _ (base : Rows) (before fresh log : List Item) (goes : Begins (before ++ 
   its_items by = ap (by_number by) (fresh_between before fresh log goes)
 
   module _ (by : ℕ) (v w : PortView) (sees : SeesPhase base before fresh by v w) (later : IsLater v w) where
-    last_begins : Begins w.seen log
+    last_begins : LogBegins w.seen log
     last_begins = begins_then w.seen (before ++ fresh) log sees.upto goes
 
     pub sees_between : SeesBetween base log from upto by v w

@@ -24,8 +24,8 @@ use Rattle.scenario_lines.specs.declared.script.Script.{Script}
 use Rattle.actor_runs.specs.Runs.{is_starved_end}
 use Rattle.actor_runs.specs.Turns.{is_any_unfed}
 use Rattle.actor_runs.specs.declared.actor_state.ActorState.{ActorState}
-use Rattle.phase_text.specs.Sorting.{by_line, is_earlier_line, joined, sorted_by, with_placed}
-use Rattle.run_laws.specs.Answers.{answer_in, IsServedIf, IsServedWhereLegal, IsTrueOf, TellsIf}
+use Rattle.phase_text.specs.Sorting.{by_line, is_earlier_line, joined_parts, sorted_by, with_placed}
+use Rattle.run_laws.specs.Answers.{board_answer, IsServedIf, IsServedWhereLegal, IsTrueOf, TellsIf}
 use Rattle.run_laws.specs.Headline.{HasConverged}
 use Rattle.run_laws.specs.Phases.{ActorAgrees, Point, PhaseAgrees, RoundAgreesIf}
 
@@ -61,7 +61,7 @@ module _ (base : Rows) (log : List Item) where
     all_phase phase s t agrees all =
         subst (All P) (sym agrees.answers)
         (All-append P s.answers (by_line agrees.parts) all
-        (all_sorted P is_earlier_line (joined agrees.parts) (all_joined P is_earlier_line agrees.parts of_part)))
+        (all_sorted P is_earlier_line (joined_parts agrees.parts) (all_joined P is_earlier_line agrees.parts of_part)))
       where
         of_part : (k : ℕ) (p : List Answered) → slice_get agrees.parts k ≡ Some p → All P p
         of_part k p is =
@@ -106,7 +106,7 @@ module _ (base : Rows) (log : List Item) where
   served by (Some c) (Some (Err fault.OutOfMemory)) tells = λ legal. tt
 
   pub served_where_legal : (a : Answered) → IsTrueOf base log a → IsServedWhereLegal base log a
-  served_where_legal a tells = served a.actor a.command (answer_in a.end) tells
+  served_where_legal a tells = served a.actor a.command (board_answer a.end) tells
 
   module _ (script : Script) where
     -- the report of a phase

@@ -4,7 +4,7 @@ use Rattle.bbs_model.specs.PortView.{PortView}
 use Rattle.cell_rep.specs.declared.call_end.Called.{Called}
 use Rattle.crash_backoff.specs.declared.moment.Moment.{Moment}
 use Rattle.scenario_lines.specs.declared.answered.Answered.{Answered}
-use Rattle.actor_runs.specs.Turns.{answered, IsCutAt, IsCutShort, TakesTurns, Turn}
+use Rattle.actor_runs.specs.Turns.{line_answer, IsCutAt, IsCutShort, TakesTurns, Turn}
 use Rattle.actor_runs.specs.declared.actor_state.ActorState.{ActorState}
 use Rattle.run_laws.specs.Actors.{DoesFirst, DoesNoneWhole, DoesTurns, DrainsAlone}
 use Rattle.run_laws.proofs.Calls.{Says, says_none, says_then}
@@ -28,7 +28,7 @@ module _ (by : ℕ) (now : Moment) where
       record {
         does = (first, rest, mid, answers_are, one.does, more.does);
         says = subst (λ (xs : List Answered). Says xs v w) (sym answers_are)
-            (says_then (map (answered by t.line) first) rest v m w one.says more.says);
+            (says_then (map (line_answer by t.line) first) rest v m w one.says more.says);
       }
 
   -- the first of them, and perhaps the drain of the next
@@ -44,9 +44,9 @@ module _ (by : ℕ) (now : Moment) where
 
   none_whole : (t : Turn) (a a' : ActorState) (calls : List Called)
       → ((calls ≡ []) × (a' ≡ a)) ⊎ ((drain : Called) × (calls ≡ drain ∷ []) × DrainsAlone now t.act t.mark a drain a')
-      → (ts : List Turn) → DoesNoneWhole by now (t ∷ ts) a (map (answered by t.line) calls) a'
-  none_whole t a a' calls (inl h) ts = inl (ap (map (answered by t.line)) h.0, h.1)
-  none_whole t a a' calls (inr h) ts = inr (h.0, ap (map (answered by t.line)) h.1, h.2)
+      → (ts : List Turn) → DoesNoneWhole by now (t ∷ ts) a (map (line_answer by t.line) calls) a'
+  none_whole t a a' calls (inl h) ts = inl (ap (map (line_answer by t.line)) h.0, h.1)
+  none_whole t a a' calls (inr h) ts = inr (h.0, ap (map (line_answer by t.line)) h.1, h.2)
 
   behind_cut : (rest : List Turn) (a : ActorState) (v : PortView) (a' : ActorState) (w : PortView) → IsCutAt by now rest a v a' w → Behind rest a v a' w
   behind_cut [] a v a' w h = record {
@@ -62,7 +62,7 @@ module _ (by : ℕ) (now : Moment) where
   behind_cut (t ∷ ts) a v a' w (inr h) =
       let cut = cut_run by t.line now t.act t.mark a a' v w h.0 h.1 in
       record {
-        answers = map (answered by t.line) h.0;
+        answers = map (line_answer by t.line) h.0;
         does = none_whole t a a' h.0 cut.does ts;
         says = cut.says;
       }

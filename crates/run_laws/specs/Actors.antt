@@ -20,7 +20,7 @@ use Rattle.scenario_lines.specs.declared.act.Loss.{Loss}
 use Rattle.scenario_lines.specs.declared.answered.Answered.{Answered}
 use Rattle.actor_runs.specs.Marks.{delivery_under, ends_under}
 use Rattle.actor_runs.specs.Runs.{AsCell}
-use Rattle.actor_runs.specs.Turns.{answered, Turn}
+use Rattle.actor_runs.specs.Turns.{line_answer, Turn}
 use Rattle.actor_runs.specs.declared.actor_state.ActorState.{ActorState}
 use Rattle.actor_runs.specs.declared.actor_state.ActorState.TheVariants as actor
 
@@ -45,24 +45,24 @@ pub record HasCalled (c : Command) (mark : Option Loss) (calls : List Called) : 
   pub calls_are : calls ≡ record { command = Some c; end = end } ∷ []
 
 -- a rep told the board that its cell is being emptied
-abbrev pub HasDrained : Moment → Option Loss → CellRep → Called → CellRep → Type 0
-HasDrained now mark rep drain mid =
+abbrev pub HasDrainedUnder : Moment → Option Loss → CellRep → Called → CellRep → Type 0
+HasDrainedUnder now mark rep drain mid =
     HasDone rep.cell (ends_under mark) (drain_todo now rep.cell rep.joined ∷ []) rep (drain ∷ []) mid
 
 -- what the wire tells behind that
-abbrev pub ends_behind : Moment → Option Loss → CellRep → Option WireEnds
-ends_behind now mark rep = moved_all (drain_todo now rep.cell rep.joined ∷ []) (ends_under mark)
+abbrev pub ends_after_drain : Moment → Option Loss → CellRep → Option WireEnds
+ends_after_drain now mark rep = moved_all (drain_todo now rep.cell rep.joined ∷ []) (ends_under mark)
 
 -- and it settled each of its containers, if the board agreed to that
 pub record HasEmptied (now : Moment) (mark : Option Loss) (rep : CellRep) (calls : List Called)
     (rep' : CellRep) : Type 0 where
   pub drain : Called
   pub mid : CellRep
-  pub drained : HasDrained now mark rep drain mid
+  pub drained : HasDrainedUnder now mark rep drain mid
   pub behind : List Called
   pub calls_are : calls ≡ drain ∷ behind
   pub settled : MatchBool (is_agreed drain.end)
-      (HasDone mid.cell (ends_behind now mark rep) (plan cell.Settle now mid) (begun cell.Settle mid) behind rep')
+      (HasDone mid.cell (ends_after_drain now mark rep) (plan cell.Settle now mid) (begun cell.Settle mid) behind rep')
       ((behind ≡ []) × (rep' ≡ mid))
 
 -- an actor did an act once, under the mark of what is lost of it
@@ -81,7 +81,7 @@ abbrev pub DoesTurns : ℕ → Moment → List Turn → ActorState → List Answ
 DoesTurns by now [] a answers a' = (answers ≡ []) × (a' ≡ a)
 DoesTurns by now (t ∷ ts) a answers a' =
     (calls : List Called) × (rest : List Answered) × (mid : ActorState)
-    × (answers ≡ map (answered by t.line) calls ++ rest)
+    × (answers ≡ map (line_answer by t.line) calls ++ rest)
     × DoesOnce now t.act t.mark a calls mid × DoesTurns by now ts mid rest a'
 
 -- of an evacuation the drain alone was made
@@ -89,14 +89,14 @@ abbrev pub DrainsAlone : Moment → Act → Option Loss → ActorState → Calle
 DrainsAlone now (act.Client op) mark a drain a' = ⊥
 DrainsAlone now (act.Cell c) mark a drain a' = ⊥
 DrainsAlone now act.Evacuate mark (actor.Client name) drain a' = ⊥
-DrainsAlone now act.Evacuate mark (actor.Cell rep) drain a' = AsCell a' (λ rep'. HasDrained now mark rep drain rep')
+DrainsAlone now act.Evacuate mark (actor.Cell rep) drain a' = AsCell a' (λ rep'. HasDrainedUnder now mark rep drain rep')
 
 -- nothing was done of these runs, or the drain of the first, which is an evacuation
 abbrev pub DoesNoneWhole : ℕ → Moment → List Turn → ActorState → List Answered → ActorState → Type 0
 DoesNoneWhole by now [] a answers a' = (answers ≡ []) × (a' ≡ a)
 DoesNoneWhole by now (t ∷ ts) a answers a' =
     ((answers ≡ []) × (a' ≡ a))
-    ⊎ ((drain : Called) × (answers ≡ answered by t.line drain ∷ []) × DrainsAlone now t.act t.mark a drain a')
+    ⊎ ((drain : Called) × (answers ≡ line_answer by t.line drain ∷ []) × DrainsAlone now t.act t.mark a drain a')
 
 -- an actor did the first of these runs, and the next in part at most
 pub record DoesFirst (by : ℕ) (now : Moment) (ts : List Turn) (a : ActorState) (answers : List Answered)

@@ -19,13 +19,13 @@ use Rattle.cell_rep.specs.declared.call_end.CallEnd.TheVariants.{Got, Fault, Cal
 use Rattle.scenario_lines.specs.declared.answered.Answered.{Answered}
 
 -- the board's answer to a call, whether it was heard or lost; a call that was lost has none
-abbrev pub answer_in : CallEnd → Option (Result Reply CallFault)
-answer_in (Got r) = Some (Ok r)
-answer_in (Fault why) = Some (Err why)
-answer_in CallLost = None
-answer_in (ReplyLost answer) = Some answer
-answer_in (Local why) = None
-answer_in Idle = None
+abbrev pub board_answer : CallEnd → Option (Result Reply CallFault)
+board_answer (Got r) = Some (Ok r)
+board_answer (Fault why) = Some (Err why)
+board_answer CallLost = None
+board_answer (ReplyLost answer) = Some answer
+board_answer (Local why) = None
+board_answer Idle = None
 
 -- the step of a command comes to that at this place of the log, which is in it or at its end
 pub record ComesTo (base : Rows) (log : List Item) (place : ℕ) (c : Command) (v : Verdict) : Type 0 where
@@ -35,25 +35,25 @@ pub record ComesTo (base : Rows) (log : List Item) (place : ℕ) (c : Command) (
 -- what an answer to a caller's command says: Ok, that its item stands there, that it was legal there, and how many
 -- transitions were made before it; Same and a refusal, that the step says so there; a fault of the disk, that it is in
 -- doubt there and was legal; want of memory, that it was legal at some place
-abbrev pub Tells : Rows → List Item → ℕ → Command → Result Reply CallFault → Type 0
-Tells base log by c (Ok (reply.Ok place stamp)) =
+abbrev pub AnswerTells : Rows → List Item → ℕ → Command → Result Reply CallFault → Type 0
+AnswerTells base log by c (Ok (reply.Ok place stamp)) =
     (slice_get log place ≡ Some (Done by c)) × ComesTo base log place c verdict.Ok
     × (stamp ≡ (rows_at base log place).next)
-Tells base log by c (Ok (reply.Same place)) = ComesTo base log place c verdict.Same
-Tells base log by c (Ok (reply.Refused why place)) = ComesTo base log place c (verdict.Refused why)
-Tells base log by c (Err (fault.Disk place)) =
+AnswerTells base log by c (Ok (reply.Same place)) = ComesTo base log place c verdict.Same
+AnswerTells base log by c (Ok (reply.Refused why place)) = ComesTo base log place c (verdict.Refused why)
+AnswerTells base log by c (Err (fault.Disk place)) =
     (slice_get log place ≡ Some (Doubt by c)) × ComesTo base log place c verdict.Ok
-Tells base log by c (Err fault.OutOfMemory) = (place : ℕ) × ComesTo base log place c verdict.Ok
+AnswerTells base log by c (Err fault.OutOfMemory) = (place : ℕ) × ComesTo base log place c verdict.Ok
 
 -- so it is with the answer to a call, if the board gave one; it gives none where there was no call
 abbrev pub TellsIf : Rows → List Item → ℕ → Option Command → Option (Result Reply CallFault) → Type 0
 TellsIf base log by command None = Unit {0}
 TellsIf base log by None (Some answer) = ⊥
-TellsIf base log by (Some c) (Some answer) = Tells base log by c answer
+TellsIf base log by (Some c) (Some answer) = AnswerTells base log by c answer
 
 -- an answer of a scenario is true of a log: one that was lost too
 abbrev pub IsTrueOf : Rows → List Item → Answered → Type 0
-IsTrueOf base log a = TellsIf base log a.actor a.command (answer_in a.end)
+IsTrueOf base log a = TellsIf base log a.actor a.command (board_answer a.end)
 
 -- a legal command was stored, or the disk failed and it is in doubt, or memory ran out; it was not refused
 abbrev pub IsServed : List Item → ℕ → Command → Result Reply CallFault → Type 0
@@ -81,7 +81,7 @@ IsServedIf base log by (Some c) (Some answer) =
 
 -- so it is with the command of an answer
 abbrev pub IsServedWhereLegal : Rows → List Item → Answered → Type 0
-IsServedWhereLegal base log a = IsServedIf base log a.actor a.command (answer_in a.end)
+IsServedWhereLegal base log a = IsServedIf base log a.actor a.command (board_answer a.end)
 
 -- the items that a call made, by its end: one where the answer was Ok or a fault of the disk, heard or lost
 abbrev pub items_if : ℕ → Option Command → Option (Result Reply CallFault) → List Item
@@ -90,12 +90,12 @@ items_if by (Some c) None = []
 items_if by (Some c) (Some answer) = added answer by c
 
 -- the items of an answer
-abbrev pub items_of : Answered → List Item
-items_of a = items_if a.actor a.command (answer_in a.end)
+abbrev pub answer_items : Answered → List Item
+answer_items a = items_if a.actor a.command (board_answer a.end)
 
 -- the places of these answers lie between two places, one after another, and each behind the items of those before it
 abbrev pub LieBetween : ℕ → ℕ → List Answered → Type 0
 LieBetween from upto [] = from ≤ upto
 LieBetween from upto (a ∷ as') =
-    (from ≤ place_named from (answer_in a.end))
-    × LieBetween (place_named from (answer_in a.end) + length (items_of a)) upto as'
+    (from ≤ place_named from (board_answer a.end))
+    × LieBetween (place_named from (board_answer a.end) + length (answer_items a)) upto as'

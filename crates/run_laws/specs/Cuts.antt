@@ -12,10 +12,10 @@ use Rattle.scenario_lines.specs.declared.script.Phase.{Phase}
 use Rattle.scenario_lines.specs.declared.script.RoundLine.{RoundLine}
 use Rattle.actor_runs.specs.Turns.{turns_in}
 use Rattle.actor_runs.specs.declared.actor_state.ActorState.{ActorState}
-use Rattle.phase_runs.specs.Actors.{AreSame}
+use Rattle.phase_runs.specs.Actors.{AreSameActors}
 use Rattle.phase_runs.specs.Reps.{reps_of}
 use Rattle.run_laws.specs.Actors.{DoesFirst}
-use Rattle.run_laws.specs.Answers.{IsTrueOf, items_of, LieBetween}
+use Rattle.run_laws.specs.Answers.{answer_items, IsTrueOf, LieBetween}
 use Rattle.run_laws.specs.Phases.{between, Point, RoundAsks}
 
 -- the actor with that number did the first of its runs: its items there are those of their answers, which have their
@@ -23,7 +23,7 @@ use Rattle.run_laws.specs.Phases.{between, Point, RoundAsks}
 pub record ActorCut (base : Rows) (log : List Item) (phase : Phase) (from upto by : ℕ) (a a' : ActorState) : Type 0 where
   pub answers : List Answered
   pub did : DoesFirst by phase.at (turns_in by phase.lines) a answers a'
-  pub items : by_number by (between from upto log) ≡ flat_map items_of answers
+  pub items : by_number by (between from upto log) ≡ flat_map answer_items answers
   pub places : LieBetween from upto answers
   pub replies : All (IsTrueOf base log) answers
 
@@ -37,7 +37,7 @@ RoundAsksIf (Some line) base log now reps from upto = RoundAsks base log now rep
 pub record PhaseIsCut (base : Rows) (log : List Item) (phase : Phase) (s : Point) : Type 0 where
   pub calm : doubts_in (take s.place log) ≡ 0
   pub mids : List ActorState
-  pub same : AreSame s.actors mids
+  pub same : AreSameActors s.actors mids
   pub actors : (k : ℕ) (a a' : ActorState) → slice_get s.actors k ≡ Some a → slice_get mids k ≡ Some a' →
       ActorCut base log phase s.place (length log) (suc k) a a'
   pub round : RoundAsksIf phase.round base log phase.at (reps_of mids) s.place (length log)

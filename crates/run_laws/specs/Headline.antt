@@ -17,7 +17,7 @@ use Rattle.scenario_lines.specs.declared.script.Phase.{Phase}
 use Rattle.scenario_lines.specs.declared.script.RoundLine.{RoundLine}
 use Rattle.scenario_lines.specs.declared.script.Script.{Script}
 use Rattle.actor_runs.specs.Runs.{is_starved_end}
-use Rattle.scenario_runs.specs.Actors.{actors_of}
+use Rattle.scenario_runs.specs.Actors.{starting_actors}
 use Rattle.run_laws.specs.Answers.{IsServedWhereLegal, IsTrueOf}
 use Rattle.run_laws.specs.Cuts.{PhaseIsCut}
 use Rattle.run_laws.specs.Phases.{Point, PhaseAgrees}
@@ -40,7 +40,7 @@ RunEndsAt other base log rest s = ⊥
 
 -- where a scenario begins: at the first place of the log, with no answers
 abbrev pub outset : Script → Point
-outset script = record { actors = actors_of script.actors; place = 0; answers = []; reports = [] }
+outset script = record { actors = starting_actors script.actors; place = 0; answers = []; reports = [] }
 
 -- the log is a shuffle of what the actors and the rounds did, phase after phase: the first phases ended, each with its
 -- stretch of the log behind that of the one before, and the answers and the reports are theirs

@@ -16,7 +16,7 @@ use Rattle.scenario_lines.specs.declared.script.Script.{Script}
 use Rattle.scenario_reader.specs.Facts.{IsScript}
 use Rattle.phase_text.specs.Sorting.{by_line}
 use Rattle.scenario_runs.specs.Plays.{Plays}
-use Rattle.run_laws.specs.Answers.{answer_in, items_of, place_named}
+use Rattle.run_laws.specs.Answers.{answer_items, board_answer, place_named}
 use Rattle.run_laws.specs.Headline.{IsFaithful}
 use Rattle.run_laws.specs.Phases.{PhaseAgrees, Point}
 
@@ -39,8 +39,8 @@ PlayedRunsKeepBase {D = D} told =
 pub record IsAnswered (answers : List Answered) (place : ℕ) (i : Item) : Type 0 where
   pub answer : Answered
   pub among : Contains answers answer
-  pub item : items_of answer ≡ i ∷ []
-  pub place_is : place_named 0 (answer_in answer.end) ≡ place
+  pub item : answer_items answer ≡ i ∷ []
+  pub place_is : place_named 0 (board_answer answer.end) ≡ place
 
 -- each item of the phases that ended is that of an answer, unless it has the number of rounds
 abbrev pub ItemsAreAnswered : Type 0

@@ -28,12 +28,12 @@ use Rattle.scenario_lines.specs.declared.script.Phase.{Phase}
 use Rattle.scenario_lines.specs.declared.script.RoundLine.{RoundLine}
 use Rattle.actor_runs.specs.Turns.{is_any_unfed, turns_in}
 use Rattle.actor_runs.specs.declared.actor_state.ActorState.{ActorState}
-use Rattle.phase_runs.specs.Actors.{AreSame}
+use Rattle.phase_runs.specs.Actors.{AreSameActors}
 use Rattle.phase_runs.specs.Reps.{reps_of, with_reps}
 use Rattle.phase_runs.specs.RoundMarks.{round_ends}
 use Rattle.phase_text.specs.Sorting.{by_line}
 use Rattle.run_laws.specs.Actors.{DoesTurns}
-use Rattle.run_laws.specs.Answers.{IsTrueOf, items_of, LieBetween}
+use Rattle.run_laws.specs.Answers.{answer_items, IsTrueOf, LieBetween}
 
 -- the items of a log from one place up to another
 abbrev pub between : ℕ → ℕ → List Item → List Item
@@ -45,7 +45,7 @@ pub record ActorAgrees (base : Rows) (log : List Item) (phase : Phase) (from upt
     (answers : List Answered) : Type 0 where
   pub did : DoesTurns by phase.at (turns_in by phase.lines) a answers a'
   pub fed : is_any_unfed answers ≡ false
-  pub items : by_number by (between from upto log) ≡ flat_map items_of answers
+  pub items : by_number by (between from upto log) ≡ flat_map answer_items answers
   pub places : LieBetween from upto answers
   pub replies : All (IsTrueOf base log) answers
 
@@ -146,7 +146,7 @@ pub record PhaseAgrees (base : Rows) (log : List Item) (phase : Phase) (s s' : P
   pub report : Option Report
   pub mids : List ActorState
   pub count_is : length parts ≡ length s.actors
-  pub same : AreSame s.actors mids
+  pub same : AreSameActors s.actors mids
   pub actors : (k : ℕ) (a a' : ActorState) (answers : List Answered) → slice_get s.actors k ≡ Some a →
       slice_get mids k ≡ Some a' → slice_get parts k ≡ Some answers →
       ActorAgrees base log phase s.place s'.place (suc k) a a' answers

@@ -8,8 +8,8 @@ use Rattle.std.proofs.lemmas.List.Folds.{list_any-append}
 use Rattle.scenario_lines.specs.declared.actor.Actor.{Actor}
 use Rattle.scenario_lines.specs.declared.content.Content.{Content}
 use Rattle.scenario_lines.specs.declared.content.Content.TheVariants.{Phase, Acts, Round}
-use Rattle.scenario_reader.specs.Actors.{actors_from, is_same_actor, number_of, with_acting, with_actor}
-use Rattle.scenario_reader.specs.Said.{Said}
+use Rattle.scenario_reader.specs.Actors.{actor_number, actors_from, is_same_actor, with_acting, with_actor}
+use Rattle.scenario_reader.specs.Said.{SaidLine}
 
 same-beq : (b : Bool) → beq b b ≡ true
 same-beq true = refl
@@ -30,7 +30,7 @@ IsKnown actors (Acts act) = IsAmong actors act.actor
 IsKnown actors (Round losses) = Unit {0}
 
 -- the actors of these lines are among these
-abbrev pub AreKnown : List Actor → List Said → Type 0
+abbrev pub AreKnown : List Actor → List SaidLine → Type 0
 AreKnown actors [] = Unit {0}
 AreKnown actors (said ∷ more) = IsKnown actors said.content × AreKnown actors more
 
@@ -65,23 +65,23 @@ acting-keeps actors (Phase at) a is = is
 acting-keeps actors (Acts act) a is = with_actor-keeps actors a act.actor is
 acting-keeps actors (Round losses) a is = is
 
-from-keeps : (actors : List Actor) (lines : List Said) (a : Actor) → IsAmong actors a → IsAmong (actors_from actors lines) a
+from-keeps : (actors : List Actor) (lines : List SaidLine) (a : Actor) → IsAmong actors a → IsAmong (actors_from actors lines) a
 from-keeps actors [] a is = is
 from-keeps actors (said ∷ more) a is = from-keeps (with_acting actors said.content) more a (acting-keeps actors said.content a is)
 
-known-on : (actors : List Actor) (c : Content) (more : List Said) → IsKnown (actors_from (with_acting actors c) more) c
+known-on : (actors : List Actor) (c : Content) (more : List SaidLine) → IsKnown (actors_from (with_acting actors c) more) c
 known-on actors (Phase at) more = tt
 known-on actors (Acts act) more = from-keeps (with_actor actors act.actor) more act.actor (with_actor-has actors act.actor)
 known-on actors (Round losses) more = tt
 
 -- the actors of lines have those that act on them
-pub actors_from-known : (actors : List Actor) (lines : List Said) → AreKnown (actors_from actors lines) lines
+pub actors_from-known : (actors : List Actor) (lines : List SaidLine) → AreKnown (actors_from actors lines) lines
 actors_from-known actors [] = tt
 actors_from-known actors (said ∷ more) =
     (known-on actors said.content more, actors_from-known (with_acting actors said.content) more)
 
 -- one more line
-pub actors_from-push : (actors : List Actor) (lines : List Said) (said : Said) → actors_from actors (lines ++ said ∷ []) ≡ with_acting (actors_from actors lines) said.content
+pub actors_from-push : (actors : List Actor) (lines : List SaidLine) (said : SaidLine) → actors_from actors (lines ++ said ∷ []) ≡ with_acting (actors_from actors lines) said.content
 actors_from-push actors [] said = refl
 actors_from-push actors (first ∷ more) said = actors_from-push (with_acting actors first.content) more said
 
@@ -98,9 +98,9 @@ place-chosen p true actors other is = refl
 place-chosen p false actors other is = place-kept p actors (other ∷ []) is
 
 -- who is among the actors keeps its number when another acts
-pub number_of-kept : (actors : List Actor) (a other : Actor) → IsAmong actors a → number_of (with_actor actors other) a ≡ number_of actors a
-unfolding with_actor number_of
-number_of-kept actors a other is = ap (λ n. n + 1) (place-chosen (is_same_actor a) (list_any (is_same_actor other) actors) actors other is)
+pub actor_number-kept : (actors : List Actor) (a other : Actor) → IsAmong actors a → actor_number (with_actor actors other) a ≡ actor_number actors a
+unfolding with_actor actor_number
+actor_number-kept actors a other is = ap (λ n. n + 1) (place-chosen (is_same_actor a) (list_any (is_same_actor other) actors) actors other is)
 
 place-end : (p : Actor → Bool) (xs : List Actor) (x : Actor) → p x ≡ true → position_or_len p (xs ++ x ∷ []) ≡ position_or_len p xs
 place-end p [] x passes = ap (λ b. cond (not b) (1 + 0) 0) passes
@@ -111,6 +111,6 @@ place-new p true actors a is = refl
 place-new p false actors a is = place-end p actors a is
 
 -- who acts has the number that is next, or the one that it had
-pub number_of-own : (actors : List Actor) (a : Actor) → number_of (with_actor actors a) a ≡ number_of actors a
-unfolding with_actor number_of
-number_of-own actors a = ap (λ n. n + 1) (place-new (is_same_actor a) (list_any (is_same_actor a) actors) actors a (is_same_actor-itself a))
+pub actor_number-own : (actors : List Actor) (a : Actor) → actor_number (with_actor actors a) a ≡ actor_number actors a
+unfolding with_actor actor_number
+actor_number-own actors a = ap (λ n. n + 1) (place-new (is_same_actor a) (list_any (is_same_actor a) actors) actors a (is_same_actor-itself a))

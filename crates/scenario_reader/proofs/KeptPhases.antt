@@ -6,8 +6,8 @@ use Rattle.scenario_lines.specs.declared.content.Content.{Content}
 use Rattle.scenario_lines.specs.declared.content.Content.TheVariants.{Phase as At, Acts, Round}
 use Rattle.scenario_reader.specs.Actors.{with_acting}
 use Rattle.scenario_reader.specs.Phases.{act_on, acts_in, begun_by, phases_of, round_in, until_at}
-use Rattle.scenario_reader.specs.Said.{Said, is_at}
-use Rattle.scenario_reader.proofs.ActorNumbers.{AreKnown, IsKnown, number_of-kept}
+use Rattle.scenario_reader.specs.Said.{SaidLine, is_at}
+use Rattle.scenario_reader.proofs.ActorNumbers.{AreKnown, IsKnown, actor_number-kept}
 
 -- the numbers of known actors are the same among these and those
 abbrev pub SameNumbers : List Actor → List Actor → Type 0
@@ -17,11 +17,11 @@ same-acting : (actors : List Actor) (c : Content) → SameNumbers actors (with_a
 same-acting actors (At at) c line known = refl
 same-acting actors (Acts act) (At at) line known = refl
 same-acting actors (Acts act) (Acts other) line known =
-    ap (λ (n : ℕ). Some (record { line = line; actor = n; act = other.act; lost = other.lost; times = other.times })) (number_of-kept actors other.actor act.actor known)
+    ap (λ (n : ℕ). Some (record { line = line; actor = n; act = other.act; lost = other.lost; times = other.times })) (actor_number-kept actors other.actor act.actor known)
 same-acting actors (Acts act) (Round losses) line known = refl
 same-acting actors (Round losses) c line known = refl
 
-known-until : (actors : List Actor) (lines : List Said) → AreKnown actors lines → AreKnown actors (until_at lines)
+known-until : (actors : List Actor) (lines : List SaidLine) → AreKnown actors lines → AreKnown actors (until_at lines)
 known-until actors [] known = tt
 known-until actors (said ∷ more) known =
     elim said.content as (λ c. AreKnown actors (if is_at c then [] else said ∷ until_at more)) [
@@ -30,12 +30,12 @@ known-until actors (said ∷ more) known =
       | Round losses ↦ (known.0, known-until actors more known.1)
     ]
 
-acts-kept : (actors others : List Actor) (lines : List Said) → SameNumbers actors others → AreKnown actors lines → acts_in others lines ≡ acts_in actors lines
+acts-kept : (actors others : List Actor) (lines : List SaidLine) → SameNumbers actors others → AreKnown actors lines → acts_in others lines ≡ acts_in actors lines
 acts-kept actors others [] same known = refl
 acts-kept actors others (said ∷ more) same known =
     λ i. cons_option (same said.content said.line known.0 i) (acts-kept actors others more same known.1 i)
 
-kept : (actors others : List Actor) (lines : List Said) → SameNumbers actors others → AreKnown actors lines → phases_of others lines ≡ phases_of actors lines
+kept : (actors others : List Actor) (lines : List SaidLine) → SameNumbers actors others → AreKnown actors lines → phases_of others lines ≡ phases_of actors lines
 kept actors others [] same known = refl
 kept actors others (said ∷ more) same known =
     elim said.content as (λ c. begun_by others c more ++ phases_of others more ≡ begun_by actors c more ++ phases_of actors more) [
@@ -45,5 +45,5 @@ kept actors others (said ∷ more) same known =
     ]
 
 -- the phases of lines stay when an actor acts on one more
-pub phases_of-kept : (actors : List Actor) (lines : List Said) (c : Content) → AreKnown actors lines → phases_of (with_acting actors c) lines ≡ phases_of actors lines
+pub phases_of-kept : (actors : List Actor) (lines : List SaidLine) (c : Content) → AreKnown actors lines → phases_of (with_acting actors c) lines ≡ phases_of actors lines
 phases_of-kept actors lines c known = kept actors (with_acting actors c) lines (same-acting actors c) known

@@ -1,6 +1,6 @@
 -- Phases, as those behind which another stands and the last.
 use Rattle.std.proofs.Common.{◌≡◌, List, [], ◌∷◌, ◌++◌, Some, option_to_list, refl, ap}
-use Rattle.scenario_reader.specs.Order.{last_from, last_of}
+use Rattle.scenario_reader.specs.Order.{last_from, last_phase}
 use Rattle.scenario_lines.specs.declared.script.Phase.{Phase}
 
 -- the phases before the last, where this one stands before them
@@ -18,9 +18,9 @@ from-split phase [] = refl
 from-split phase (next ∷ more) = ap (λ ps. phase ∷ ps) (from-split next more)
 
 -- all phases are those before the last and the last
-pub front_of-last_of : (phases : List Phase) → front_of phases ++ option_to_list (last_of phases) ≡ phases
-front_of-last_of [] = refl
-front_of-last_of (phase ∷ more) = from-split phase more
+pub front_of-last_phase : (phases : List Phase) → front_of phases ++ option_to_list (last_phase phases) ≡ phases
+front_of-last_phase [] = refl
+front_of-last_phase (phase ∷ more) = from-split phase more
 
 last-pushed : (first : Phase) (phases : List Phase) (phase : Phase) → last_from first (phases ++ phase ∷ []) ≡ phase
 last-pushed first [] phase = refl
@@ -31,9 +31,9 @@ front-pushed first [] phase = refl
 front-pushed first (next ∷ more) phase = ap (λ ps. first ∷ ps) (front-pushed next more phase)
 
 -- a phase at the end is the last
-pub last_of-push : (phases : List Phase) (phase : Phase) → last_of (phases ++ phase ∷ []) ≡ Some phase
-last_of-push [] phase = refl
-last_of-push (first ∷ more) phase = ap Some (last-pushed first more phase)
+pub last_phase-push : (phases : List Phase) (phase : Phase) → last_phase (phases ++ phase ∷ []) ≡ Some phase
+last_phase-push [] phase = refl
+last_phase-push (first ∷ more) phase = ap Some (last-pushed first more phase)
 
 -- and the others stand before it
 pub front_of-push : (phases : List Phase) (phase : Phase) → front_of (phases ++ phase ∷ []) ≡ phases

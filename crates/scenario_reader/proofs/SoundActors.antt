@@ -9,12 +9,12 @@ use Rattle.scenario_lines.specs.Acts.{is_of_cell}
 use Rattle.scenario_lines.specs.Laws.{IsActLine}
 use Rattle.scenario_lines.specs.declared.actor.Actor.{Actor}
 use Rattle.scenario_lines.specs.declared.content.ActLine.{ActLine}
-use Rattle.scenario_reader.specs.Actors.{is_same_actor, number_of, with_actor}
+use Rattle.scenario_reader.specs.Actors.{actor_number, is_same_actor, with_actor}
 use Rattle.scenario_reader.specs.Facts.{IsLine, IsPhase}
 use Rattle.scenario_reader.specs.Phases.{act_line}
 use Rattle.scenario_lines.specs.declared.script.Line.{Line}
 use Rattle.scenario_lines.specs.declared.script.Phase.{Phase}
-use Rattle.scenario_reader.proofs.ActorNumbers.{is_same_actor-itself, number_of-own, with_actor-has}
+use Rattle.scenario_reader.proofs.ActorNumbers.{is_same_actor-itself, actor_number-own, with_actor-has}
 
 -- where one of two tests is false
 pub first_false : (a b : Bool) → (a || b) ≡ false → a ≡ false
@@ -80,8 +80,8 @@ same-cell false false c h = refl
 same-cell true false c h = cc
 same-cell false true c h = cc
 
-line-made : (all : List Actor) (l : Line) (act : ActLine) → IsActLine act → list_any (is_same_actor act.actor) all ≡ true → l.actor ≡ number_of all act.actor → l.act ≡ act.act → l.times ≡ act.times → IsLine all l
-unfolding number_of
+line-made : (all : List Actor) (l : Line) (act : ActLine) → IsActLine act → list_any (is_same_actor act.actor) all ≡ true → l.actor ≡ actor_number all act.actor → l.act ≡ act.act → l.times ≡ act.times → IsLine all l
+unfolding actor_number
 line-made all l act is any number same often =
     let p = is_same_actor act.actor in
     let found = place-found p all any in
@@ -96,7 +96,7 @@ line-made all l act is any number same often =
 
 -- the line of an actor that acts is a line
 pub act_line-is : (actors : List Actor) (line : ℕ) (act : ActLine) → IsActLine act → IsLine (with_actor actors act.actor) (act_line actors line act)
-act_line-is actors line act is = line-made (with_actor actors act.actor) (act_line actors line act) act is (with_actor-has actors act.actor) (sym (number_of-own actors act.actor)) refl refl
+act_line-is actors line act is = line-made (with_actor actors act.actor) (act_line actors line act) act is (with_actor-has actors act.actor) (sym (actor_number-own actors act.actor)) refl refl
 
 -- a phase stays one when another actor comes
 pub phase-kept : (actors : List Actor) (a : Actor) (phase : Phase) → IsPhase actors phase → IsPhase (with_actor actors a) phase

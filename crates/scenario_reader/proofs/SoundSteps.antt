@@ -13,7 +13,7 @@ use Rattle.scenario_lines.specs.declared.content.Content.{Content}
 use Rattle.scenario_lines.specs.declared.content.Content.TheVariants.{Phase as At, Acts, Round}
 use Rattle.scenario_lines.specs.declared.content.Losses.{Losses}
 use Rattle.scenario_reader.specs.Actors.{with_actor}
-use Rattle.scenario_reader.specs.Facts.{AllNumbers, IsBefore, IsBeside, IsLine, IsPhase}
+use Rattle.scenario_reader.specs.Facts.{AllNumbers, IsBefore, IsBesideRound, IsLine, IsPhase}
 use Rattle.scenario_reader.specs.Order.{is_cells_line}
 use Rattle.scenario_reader.specs.Phases.{act_line, round_line}
 use Rattle.scenario_reader.specs.Steps.{acted_in, begun_at, is_before, rounded_in, step, with_line, within}
@@ -80,10 +80,10 @@ begun-sound upto n actors closed (Some phase) runs at less isnt sound =
     }
 
 -- the line of an actor beside the round of its phase
-beside-round : (o : Option RoundLine) (lines : List Line) (line : Line) (upto : ℕ) → IfSome o (λ r. All (IsBeside r) lines) → IfSome o (λ r. r.line ≤ upto) → upto < line.line → (is_of_cell line.act && is_some o) ≡ false → IfSome o (λ r. All (IsBeside r) (lines ++ line ∷ []))
+beside-round : (o : Option RoundLine) (lines : List Line) (line : Line) (upto : ℕ) → IfSome o (λ r. All (IsBesideRound r) lines) → IfSome o (λ r. r.line ≤ upto) → upto < line.line → (is_of_cell line.act && is_some o) ≡ false → IfSome o (λ r. All (IsBesideRound r) (lines ++ line ∷ []))
 beside-round None lines line upto beside below less isnt = tt
 beside-round (Some r) lines line upto beside below less isnt =
-    All-push (IsBeside r) lines line beside (record { number = λ same. absurd (omega (arith, same)); client = and-first (is_of_cell line.act) isnt })
+    All-push (IsBesideRound r) lines line beside (record { number = λ same. absurd (omega (arith, same)); client = and-first (is_of_cell line.act) isnt })
   where
     and-first : (b : Bool) → (b && true) ≡ false → b ≡ false
     and-first true h = h

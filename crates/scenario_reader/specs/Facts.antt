@@ -14,7 +14,7 @@ pub record IsLine (actors : List Actor) (line : Line) : Type 0 where
   pub times : (1 ≤ line.times) × (line.times ≤ 1000)
 
 -- a line beside a round has another number, and is no cell's
-pub record IsBeside (round : RoundLine) (line : Line) : Type 0 where
+pub record IsBesideRound (round : RoundLine) (line : Line) : Type 0 where
   pub number : line.line ≢ round.line
   pub client : is_of_cell line.act ≡ false
 
@@ -22,7 +22,7 @@ pub record IsBeside (round : RoundLine) (line : Line) : Type 0 where
 pub record IsPhase (actors : List Actor) (phase : Phase) : Type 0 where
   pub lines : All (IsLine actors) phase.lines
   pub rising : AllPairs (λ a b. a.line < b.line) phase.lines
-  pub round : IfSome phase.round (λ r. All (IsBeside r) phase.lines)
+  pub round : IfSome phase.round (λ r. All (IsBesideRound r) phase.lines)
 
 -- the number of each line of a phase is such, that of its round too
 pub record AllNumbers (P : ℕ → Type 0) (phase : Phase) : Type 0 where

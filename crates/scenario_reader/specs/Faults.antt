@@ -15,14 +15,14 @@ abbrev pub ◌>>=◌ : {X Y : Type 0} → Result X ScriptFault → (X → Result
 (Err fault) >>= f = Err fault
 
 -- an answer is what was to be read, or the fault, unless memory ran out
-abbrev pub Gives : {X : Type 0} → Result X ScriptFault → Result X ScriptFault → Type 0
-Gives (Ok x) reading = reading ≡ Ok x
-Gives (Err (BadJson line)) reading = reading ≡ Err (BadJson line)
-Gives (Err (BadShape line)) reading = reading ≡ Err (BadShape line)
-Gives (Err (BadName line)) reading = reading ≡ Err (BadName line)
-Gives (Err (BadOrder line)) reading = reading ≡ Err (BadOrder line)
-Gives (Err (TooMuch line)) reading = reading ≡ Err (TooMuch line)
-Gives (Err OutOfMemory) reading = Unit {0}
+abbrev pub GivesReading : {X : Type 0} → Result X ScriptFault → Result X ScriptFault → Type 0
+GivesReading (Ok x) reading = reading ≡ Ok x
+GivesReading (Err (BadJson line)) reading = reading ≡ Err (BadJson line)
+GivesReading (Err (BadShape line)) reading = reading ≡ Err (BadShape line)
+GivesReading (Err (BadName line)) reading = reading ≡ Err (BadName line)
+GivesReading (Err (BadOrder line)) reading = reading ≡ Err (BadOrder line)
+GivesReading (Err (TooMuch line)) reading = reading ≡ Err (TooMuch line)
+GivesReading (Err OutOfMemory) reading = Unit {0}
 
 -- the fault of a line with this flaw
 abbrev pub flaw_at : Flaw → ℕ → ScriptFault

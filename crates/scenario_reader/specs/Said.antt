@@ -4,7 +4,7 @@ use Rattle.scenario_lines.specs.declared.content.Content.{Content}
 use Rattle.scenario_lines.specs.declared.content.Content.TheVariants.{Phase, Acts, Round}
 
 -- what a line says, and its number
-pub record Said : Type 0 where
+pub record SaidLine : Type 0 where
   pub line : ℕ
   pub content : Content
 

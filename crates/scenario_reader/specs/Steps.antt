@@ -41,8 +41,8 @@ is_before at None = false
 is_before at (Some phase) = nat_lt at.0 phase.at.0
 
 -- a phase begins
-abbrev pub begun : Reading → ℕ → Moment → Result Reading ScriptFault
-begun reading line at =
+abbrev pub begin_phase : Reading → ℕ → Moment → Result Reading ScriptFault
+begin_phase reading line at =
     if is_before at reading.last then Err (BadOrder line)
     else Ok (record reading { closed = reading.closed ++ option_to_list reading.last; last = Some (begun_at at) })
 
@@ -83,7 +83,7 @@ rounded reading line losses = rounded_in reading.last reading line losses
 
 -- what a line comes to
 abbrev pub step : Reading → ℕ → Content → Result Reading ScriptFault
-step reading line (At at) = begun reading line at
+step reading line (At at) = begin_phase reading line at
 step reading line (Acts act) = acted reading line act
 step reading line (Round losses) = rounded reading line losses
 

@@ -1,6 +1,6 @@
 //! The actors of the lines that were read, each found by its hash.
 ghost use Rattle.std.specs.Prelude.{◌≡◌, ◌≤◌, [], length, IfOk, OnOk};
-ghost use Rattle.scenario_reader.specs.Actors.{number_of, with_actor};
+ghost use Rattle.scenario_reader.specs.Actors.{actor_number, with_actor};
 
 use diego_names::{List, OutOfMemory};
 use indexmap::IndexSet;
@@ -33,11 +33,11 @@ impl Actors {
     }
 
     /// The number of an actor, who is added at the end if it isn't there yet.
-    #[tactic(auto, unfolding(crate::specs::Actors::number_of, crate::specs::Actors::with_actor))]
+    #[tactic(auto, unfolding(crate::specs::Actors::actor_number, crate::specs::Actors::with_actor))]
     pub fn number(&mut self, actor: Actor) -> Result<u32, OutOfMemory>
         requires { length self.old ≤ 256 }
         ensures added { OnOk result (self.new ≡ with_actor self.old actor) }
-        ensures number { IfOk result (λ n. n ≡ number_of self.old actor) }
+        ensures number { IfOk result (λ n. n ≡ actor_number self.old actor) }
     {
         let (index, _is_new) = self.set.insert_full(actor)?;
         Ok(index as u32 + 1)

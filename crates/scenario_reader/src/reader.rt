@@ -2,7 +2,7 @@
 ghost use Rattle.std.specs.Prelude.{◌<◌, ◌-◌, ◌^◌, length, IfOk};
 ghost use Rattle.scenario_reader.specs.Accepted.{script_of};
 ghost use Rattle.scenario_reader.specs.Facts.{IsScript};
-ghost use Rattle.scenario_reader.specs.Faults.{Gives, said_on};
+ghost use Rattle.scenario_reader.specs.Faults.{GivesReading, said_on};
 ghost use Rattle.scenario_reader.specs.Steps.{read_from, start, step_on, IsSmall};
 ghost use Rattle.scenario_reader.specs.TextLines.{line_view, nonblank_lines};
 
@@ -16,7 +16,7 @@ use std::alloc::Global;
 /// there is room for one line a byte.
 pub fn read_script(alloc: Global, bytes: &[u8]) -> Result<Script, ScriptFault>
     requires { length bytes.now < 2 ^ 32 - 1 }
-    ensures exact { Gives result (script_of bytes.now) }
+    ensures exact { GivesReading result (script_of bytes.now) }
     ensures facts { IfOk result IsScript }
 {
     match read_lines(alloc, bytes) {
@@ -27,7 +27,7 @@ pub fn read_script(alloc: Global, bytes: &[u8]) -> Result<Script, ScriptFault>
 
 fn read_lines(alloc: Global, bytes: &[u8]) -> Result<Reading, ScriptFault>
     requires { length bytes.now < 2 ^ 32 - 1 }
-    ensures { Gives result (read_from start (nonblank_lines bytes.now)) }
+    ensures { GivesReading result (read_from start (nonblank_lines bytes.now)) }
 {
     let mut reading = Reading::new(alloc);
     let mut rest = Rest { number: 1, bytes };
@@ -41,7 +41,7 @@ fn read_lines(alloc: Global, bytes: &[u8]) -> Result<Reading, ScriptFault>
 // What one more line comes to.
 fn after_line(alloc: Global, reading: Reading, line: TextLine<'_>) -> Result<Reading, ScriptFault>
     requires { IsSmall reading }
-    ensures step { Gives result (step_on reading (line_view line.entry)) }
+    ensures step { GivesReading result (step_on reading (line_view line.entry)) }
     ensures small { IfOk result IsSmall }
 {
     let content = content_of(alloc, line)?;
@@ -50,7 +50,7 @@ fn after_line(alloc: Global, reading: Reading, line: TextLine<'_>) -> Result<Rea
 
 // What a line says by itself.
 fn content_of(alloc: Global, line: TextLine<'_>) -> Result<Content, ScriptFault>
-    ensures { Gives result (said_on (line_view line.entry)) }
+    ensures { GivesReading result (said_on (line_view line.entry)) }
 {
     match read_line(alloc, line.text) {
         Ok(content) => Ok(content),

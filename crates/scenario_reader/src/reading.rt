@@ -1,8 +1,8 @@
 //! What the lines so far have come to.
 ghost use Rattle.std.specs.Prelude.{◌≡◌, ◌++◌, option_to_list, IfOk, OnOk};
-ghost use Rattle.scenario_reader.specs.Faults.{Gives};
+ghost use Rattle.scenario_reader.specs.Faults.{GivesReading};
 ghost use Rattle.scenario_reader.specs.Phases.{round_line};
-ghost use Rattle.scenario_reader.specs.Steps.{acted, begun, is_before, rounded, script_in, start, step, IsSmall};
+ghost use Rattle.scenario_reader.specs.Steps.{acted, begin_phase, is_before, rounded, script_in, start, step, IsSmall};
 
 use crate::actors::Actors;
 use crate::fault::ScriptFault;
@@ -45,7 +45,7 @@ impl Reading {
     /// What one more line comes to.
     pub fn after(self, alloc: Global, line: u32, content: Content) -> Result<Reading, ScriptFault>
         requires { IsSmall self }
-        ensures step { Gives result (step self line content) }
+        ensures step { GivesReading result (step self line content) }
         ensures small { IfOk result IsSmall }
     {
         match content {
@@ -57,7 +57,7 @@ impl Reading {
 
     fn begun(self, alloc: Global, line: u32, at: Moment) -> Result<Reading, ScriptFault>
         requires { IsSmall self }
-        ensures step { Gives result (begun self line at) }
+        ensures step { GivesReading result (begin_phase self line at) }
         ensures small { IfOk result IsSmall }
     {
         let Reading {
@@ -80,7 +80,7 @@ impl Reading {
 
     fn acted(self, line: u32, said: ActLine) -> Result<Reading, ScriptFault>
         requires { IsSmall self }
-        ensures step { Gives result (acted self line said) }
+        ensures step { GivesReading result (acted self line said) }
         ensures small { IfOk result IsSmall }
     {
         let Reading {
@@ -117,7 +117,7 @@ impl Reading {
 
     fn rounded(self, line: u32, losses: Losses) -> Result<Reading, ScriptFault>
         requires { IsSmall self }
-        ensures step { Gives result (rounded self line losses) }
+        ensures step { GivesReading result (rounded self line losses) }
         ensures small { IfOk result IsSmall }
     {
         let Reading {

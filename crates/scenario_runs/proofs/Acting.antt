@@ -15,12 +15,12 @@ use Rattle.scenario_lines.specs.declared.script.Line.{Line}
 use Rattle.scenario_lines.specs.declared.script.Phase.{Phase}
 use Rattle.scenario_lines.specs.declared.script.Script.{Script}
 use Rattle.scenario_reader.specs.Facts.{IsLine, IsPhase, IsScript}
-use Rattle.actor_runs.specs.Runs.{fits, IsOneActor}
+use Rattle.actor_runs.specs.Runs.{IsActOf, IsOneActor}
 use Rattle.actor_runs.specs.Turns.{lines_by}
 use Rattle.actor_runs.specs.declared.actor_state.ActorState.{ActorState}
 use Rattle.actor_runs.specs.declared.actor_state.ActorState.TheVariants.{Client, Cell}
-use Rattle.phase_runs.specs.Actors.{AreSame, CanAllDo}
-use Rattle.scenario_runs.specs.Actors.{actors_of, begun}
+use Rattle.phase_runs.specs.Actors.{AreSameActors, CanAllDo}
+use Rattle.scenario_runs.specs.Actors.{starting_actors, new_actor}
 
 -- each line of an actor is one of the lines, and the actor's
 pub lines_of : (by : ℕ) (lines : List Line) → All (λ l. Contains lines l × (l.actor ≡ by)) (lines_by by lines)
@@ -30,7 +30,7 @@ lines_of by lines k d within = (
 )
 
 -- one that was a cell, or none, does what it can do
-fits_begun : (op : Act) (cell : Bool) (name : List ℕ) (a : ActorState) → cell ≡ is_of_cell op → IsOneActor (begun cell name) a → fits op a
+fits_begun : (op : Act) (cell : Bool) (name : List ℕ) (a : ActorState) → cell ≡ is_of_cell op → IsOneActor (new_actor cell name) a → IsActOf op a
 fits_begun (act.Client op) false name (Client n) is one = tt
 fits_begun (act.Client op) false name (Cell r) is one = absurd one
 fits_begun (act.Client op) true name a is one = absurd (cc (is))
@@ -41,10 +41,10 @@ fits_begun act.Evacuate false name a is one = absurd (cc (is))
 fits_begun act.Evacuate true name (Client n) is one = absurd one
 fits_begun act.Evacuate true name (Cell r) is one = tt
 
-module _ (script : Script) (is_script : IsScript script) (actors : List ActorState) (same : AreSame (actors_of script.actors) actors) where
+module _ (script : Script) (is_script : IsScript script) (actors : List ActorState) (same : AreSameActors (starting_actors script.actors) actors) where
   -- there are as many as the script has
   pub as_many : length actors ≡ length script.actors
-  as_many = same.length_is ∙ length-map script.actors (λ (a : Actor). begun a.cell a.name)
+  as_many = same.length_is ∙ length-map script.actors (λ (a : Actor). new_actor a.cell a.name)
 
   pub few_actors : length actors < 2 ^ 32
   few_actors = omega (arith, as_many, is_script.few)
@@ -53,8 +53,8 @@ module _ (script : Script) (is_script : IsScript script) (actors : List ActorSta
     pub is_phase : IsPhase script.actors phase
     is_phase = All-contains (IsPhase script.actors) script.phases phase is_script.phases among
 
-    one_can : (k : ℕ) (a : ActorState) → slice_get actors k ≡ Some a → (l : Line) → IsLine script.actors l → l.actor ≡ suc k → fits l.act a
-    one_can k a at l line number = fits_begun l.act who.cell who.name a whose (same.one k (begun who.cell who.name) a began at)
+    one_can : (k : ℕ) (a : ActorState) → slice_get actors k ≡ Some a → (l : Line) → IsLine script.actors l → l.actor ≡ suc k → IsActOf l.act a
+    one_can k a at l line number = fits_begun l.act who.cell who.name a whose (same.one k (new_actor who.cell who.name) a began at)
       where
         some : Actor
         some = record { cell = false; name = [] }
@@ -65,10 +65,10 @@ module _ (script : Script) (is_script : IsScript script) (actors : List ActorSta
         within : k < length script.actors
         within = omega (arith, slice_get_within actors k a at, as_many)
 
-        began : slice_get (actors_of script.actors) k ≡ Some (begun who.cell who.name)
+        began : slice_get (starting_actors script.actors) k ≡ Some (new_actor who.cell who.name)
         began =
-            slice_get-map (λ (x : Actor). begun x.cell x.name) script.actors k
-            ∙ ap (option_map (λ (x : Actor). begun x.cell x.name)) (slice_get-get_or script.actors k some within)
+            slice_get-map (λ (x : Actor). new_actor x.cell x.name) script.actors k
+            ∙ ap (option_map (λ (x : Actor). new_actor x.cell x.name)) (slice_get-get_or script.actors k some within)
 
         whose : who.cell ≡ is_of_cell l.act
         whose = subst (λ (n : ℕ). (slice_index_or script.actors n some).cell ≡ is_of_cell l.act) (omega (arith, number)) (line.whose some)

@@ -16,14 +16,14 @@ use Rattle.scenario_lines.specs.declared.script.Line.{Line}
 use Rattle.scenario_lines.specs.declared.script.Phase.{Phase}
 use Rattle.scenario_lines.specs.declared.script.Script.{Script}
 use Rattle.scenario_reader.specs.Facts.{IsScript}
-use Rattle.actor_runs.specs.Turns.{answered, lines_by, TakesTurns, Turn, turn_at, turns_in, turns_of}
+use Rattle.actor_runs.specs.Turns.{line_answer, lines_by, TakesTurns, Turn, turn_at, turns_in, turns_of}
 use Rattle.actor_runs.specs.declared.actor_state.ActorState.{ActorState}
 use Rattle.actor_runs.specs.declared.actor_state.ActorState.TheVariants.{Client}
-use Rattle.phase_runs.specs.Actors.{AreSame, PartRan}
+use Rattle.phase_runs.specs.Actors.{AreSameActors, PartRan}
 use Rattle.phase_runs.specs.Phases.{PhaseRan}
-use Rattle.phase_text.specs.Answers.{AreAnswers, IsAnswer}
-use Rattle.phase_text.specs.Sorting.{joined}
-use Rattle.scenario_runs.specs.Actors.{actors_of}
+use Rattle.phase_text.specs.Answers.{AreActorAnswers, IsActorAnswer}
+use Rattle.phase_text.specs.Sorting.{joined_parts}
+use Rattle.scenario_runs.specs.Actors.{starting_actors}
 use Rattle.scenario_runs.proofs.Acting.{as_many, is_phase, lines_of}
 
 all_flat : {X Y : Type 0} (f : X → List Y) (P : Y → Type 0) (xs : List X) → All (λ x. All P (f x)) xs → All P (flat_map f xs)
@@ -57,7 +57,7 @@ module _ (by : ℕ) (lines : List Line) where
           })
 
   module _ (actors : List Actor) (first : 1 ≤ by) (few : by ≤ length actors) where
-    to_line : (number : ℕ) → HasLine lines by number → (c : Called) → IsAnswer actors lines (answered by number c)
+    to_line : (number : ℕ) → HasLine lines by number → (c : Called) → IsActorAnswer actors lines (line_answer by number c)
     to_line number has c = record {
       line = record { line = has.line; among = has.among; number = has.number_is; actor = has.actor_is };
       actor = (first, few);
@@ -66,19 +66,19 @@ module _ (by : ℕ) (lines : List Line) where
     -- the answers to runs are to their lines
     answers_to : (now : Moment) (ts : List Turn) → All (λ (t : Turn). HasLine lines by t.line) ts
         → (a a' : ActorState) (v w : PortView) (new : List Answered)
-        → TakesTurns by now ts a v new a' w → All (IsAnswer actors lines) new
-    answers_to now [] has a a' v w new taken = All-same (IsAnswer actors lines) new [] taken.0 (All-nil (IsAnswer actors lines))
+        → TakesTurns by now ts a v new a' w → All (IsActorAnswer actors lines) new
+    answers_to now [] has a a' v w new taken = All-same (IsActorAnswer actors lines) new [] taken.0 (All-nil (IsActorAnswer actors lines))
     answers_to now (t ∷ ts) has a a' v w new taken =
-        All-same (IsAnswer actors lines) new (map (answered by t.line) taken.0 ++ taken.1) taken.4
-        (All-append (IsAnswer actors lines) (map (answered by t.line) taken.0) taken.1
-        (All-map (IsAnswer actors lines) (answered by t.line) taken.0
+        All-same (IsActorAnswer actors lines) new (map (line_answer by t.line) taken.0 ++ taken.1) taken.4
+        (All-append (IsActorAnswer actors lines) (map (line_answer by t.line) taken.0) taken.1
+        (All-map (IsActorAnswer actors lines) (line_answer by t.line) taken.0
         (λ k d within. to_line t.line (All-head (λ (x : Turn). HasLine lines by x.line) t ts has) (slice_index_or taken.0 k d)))
         (answers_to now ts (All-tail (λ (x : Turn). HasLine lines by x.line) t ts has) taken.2 a' taken.3 w taken.1 taken.6))
 
 module _ {D : Type 0} (told : D → Option Past) (script : Script) (is_script : IsScript script) (phase : Phase) (among : Contains script.phases phase)
-    (olds news : List ActorState) (same : AreSame (actors_of script.actors) olds) (parts : List (List Answered)) (report : Option Report) (v w : View D)
+    (olds news : List ActorState) (same : AreSameActors (starting_actors script.actors) olds) (parts : List (List Answered)) (report : Option Report) (v w : View D)
     (ran : PhaseRan told phase olds news parts report v w) where
-  part_answers : (k : ℕ) → k < length parts → All (IsAnswer script.actors phase.lines) (get_or parts k [])
+  part_answers : (k : ℕ) → k < length parts → All (IsActorAnswer script.actors phase.lines) (get_or parts k [])
   part_answers k within =
       answers_to (suc k) phase.lines script.actors (omega arith) (omega (arith, old, as_many script is_script olds same)) phase.at (turns_in (suc k) phase.lines)
       (each_turn (suc k) phase.lines) (get_or olds k some) (get_or ran.mids k some) part.first part.last (get_or parts k []) part.taken
@@ -96,9 +96,9 @@ module _ {D : Type 0} (told : D → Option Past) (script : Script) (is_script : 
           (slice_get-get_or parts k [] within)
 
   -- all answers are to lines of the phase
-  pub answers_of : AreAnswers script.actors phase.lines (joined parts)
+  pub answers_of : AreActorAnswers script.actors phase.lines (joined_parts parts)
   answers_of = record {
     rising = (is_phase script is_script olds same phase among).rising;
-    each = all_flat (λ (part : List Answered). part) (IsAnswer script.actors phase.lines) parts
-        (All-from_get_or (λ (part : List Answered). All (IsAnswer script.actors phase.lines) part) parts [] part_answers);
+    each = all_flat (λ (part : List Answered). part) (IsActorAnswer script.actors phase.lines) parts
+        (All-from_get_or (λ (part : List Answered). All (IsActorAnswer script.actors phase.lines) part) parts [] part_answers);
   }

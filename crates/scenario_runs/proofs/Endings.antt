@@ -11,13 +11,13 @@ use Rattle.program_edge.specs.Ports.{PrintsTo}
 use Rattle.program_edge.specs.declared.ending.Ending.{Ending}
 use Rattle.program_edge.specs.declared.ending.Ending.TheVariants as ending
 use Rattle.scenario_runs.specs.Courses.{beginning}
-use Rattle.scenario_runs.specs.Kept.{Kept}
-use Rattle.scenario_runs.specs.Plays.{EndsAt, IsOver, Plays, PlaysCut, PlaysPart}
+use Rattle.scenario_runs.specs.Kept.{KeptSoFar}
+use Rattle.scenario_runs.specs.Plays.{EndsAt, IsPlayedOut, Plays, PlaysCut, PlaysPart}
 use Rattle.scenario_runs.specs.Plays.{PlaysUnsummed, PlaysWhole, PrintsPart, summary_of, summary_words}
 use Rattle.scenario_runs.specs.Tellings.{EndsBehind, Finishes, PhasesEnd, PhasesStop}
 use Rattle.scenario_runs.proofs.Prints.{part_behind, prints_as, prints_none, prints_then}
 
-module _ {D : Type 0} (told : D → Option Past) (script : Script) (v w : View D) (kept : Kept) (held : Option (List ℕ)) (faults : ℕ) where
+module _ {D : Type 0} (told : D → Option Past) (script : Script) (v w : View D) (kept : KeptSoFar) (held : Option (List ℕ)) (faults : ℕ) where
   module _ (how : Ending) (mid : Option (List ℕ)) (more : ℕ) (stops : PhasesStop told script how v w kept held mid faults more)
       (same : w ≡ stops.last.board) (printed : PrintsTo true stops.last.text held mid faults more) (held' : Option (List ℕ)) (faults' : ℕ) where
     abbrev line : List ℕ
@@ -37,7 +37,7 @@ module _ {D : Type 0} (told : D → Option Past) (script : Script) (v w : View D
     }
 
     -- the summary was printed
-    whole : IsOver how stops.rest (doubts_in w.log) → PrintsTo true line mid held' more faults'
+    whole : IsPlayedOut how stops.rest (doubts_in w.log) → PrintsTo true line mid held' more faults'
         → PlaysWhole told script how kept.answers kept.reports v w held held' faults faults'
     whole over last = record {
       ran = stops.ran;
@@ -50,7 +50,7 @@ module _ {D : Type 0} (told : D → Option Past) (script : Script) (v w : View D
     }
 
     -- the sink failed in it
-    unsummed : IsOver ending.Done stops.rest (doubts_in w.log) ⊎ IsOver ending.Doubt stops.rest (doubts_in w.log)
+    unsummed : IsPlayedOut ending.Done stops.rest (doubts_in w.log) ⊎ IsPlayedOut ending.Doubt stops.rest (doubts_in w.log)
         → PrintsTo false line mid held' more faults'
         → PlaysUnsummed told script kept.answers kept.reports v w held held' faults faults'
     unsummed over last = record {
@@ -77,7 +77,7 @@ module _ {D : Type 0} (told : D → Option Past) (script : Script) (v w : View D
     }
 
     -- so the run ends, where its text up to the summary was printed whole
-    behind_text : (how' : Ending) → IsOver ending.Done stops.rest (doubts_in w.log) ⊎ IsOver ending.Doubt stops.rest (doubts_in w.log)
+    behind_text : (how' : Ending) → IsPlayedOut ending.Done stops.rest (doubts_in w.log) ⊎ IsPlayedOut ending.Doubt stops.rest (doubts_in w.log)
         → (PrintsTo true line mid held' more faults' → Plays told script how kept.answers kept.reports v w held held' faults faults')
         → EndsBehind how how' line mid held' more faults' → Plays told script how' kept.answers kept.reports v w held held' faults faults'
     behind_text how' over done (inl (is, last)) =

@@ -21,27 +21,27 @@ use Rattle.scenario_lines.specs.declared.script.Phase.{Phase}
 use Rattle.scenario_lines.specs.declared.script.Script.{Script}
 use Rattle.actor_runs.specs.declared.actor_state.ActorState.{ActorState}
 use Rattle.phase_runs.specs.Phases.{PhaseRan}
-use Rattle.phase_text.specs.Answers.{AreAnswers, IsAnswer}
+use Rattle.phase_text.specs.Answers.{AreActorAnswers, IsActorAnswer}
 use Rattle.phase_text.specs.Sorting.{by_key, by_line}
 use Rattle.phase_text.specs.Texts.{phase_words}
 use Rattle.program_edge.specs.Ports.{PrintsTo}
 use Rattle.program_edge.specs.declared.ending.Ending.{Ending}
 use Rattle.program_edge.specs.declared.ending.Ending.TheVariants as ending
 use Rattle.scenario_runs.specs.Courses.{events_from}
-use Rattle.scenario_runs.specs.Kept.{Kept}
-use Rattle.scenario_runs.specs.Tellings.{IsTold, PhaseEnds, Tells}
+use Rattle.scenario_runs.specs.Kept.{KeptSoFar}
+use Rattle.scenario_runs.specs.Tellings.{IsPhaseTold, PhaseEnds, TellsPhase}
 use Rattle.scenario_runs.proofs.Behind.{doubts_since}
 
 -- answers to lines, in another order
-pub in_order : (actors : List Actor) (lines : List Line) (xs ys : List Answered) → AreAnswers actors lines xs → IsPermutation xs ys
-    → AreAnswers actors lines ys
+pub in_order : (actors : List Actor) (lines : List Line) (xs ys : List Answered) → AreActorAnswers actors lines xs → IsPermutation xs ys
+    → AreActorAnswers actors lines ys
 in_order actors lines xs ys are same = record {
   rising = are.rising;
-  each = All-permutation (IsAnswer actors lines) xs ys same are.each;
+  each = All-permutation (IsActorAnswer actors lines) xs ys same are.each;
 }
 
 -- what is kept of a phase more
-abbrev pub kept_with : Kept → List Answered → Option Report → Kept
+abbrev pub kept_with : KeptSoFar → List Answered → Option Report → KeptSoFar
 kept_with kept answers report = record {
   answers = kept.answers ++ answers;
   reports = kept.reports ++ option_to_list report;
@@ -49,25 +49,25 @@ kept_with kept answers report = record {
 }
 
 module _ {D : Type 0} (told : D → Option Past) (script : Script) (phase : Phase) (olds news : List ActorState) (parts : List (List Answered))
-    (report : Option Report) (v w : View D) (kept kept' : Kept) (answers : List Answered) (text : List ℕ) where
+    (report : Option Report) (v w : View D) (kept kept' : KeptSoFar) (answers : List Answered) (text : List ℕ) where
   -- a phase that ran is told
   pub is_told : doubts_in v.log ≡ 0 → PhaseRan told phase olds news parts report v w → answers ≡ by_line parts
       → kept' ≡ kept_with kept answers report
       → text ≡ phase_words script phase (by_line parts) report (by_key (events_from w.base w.log (length v.log)))
-      → IsTold told script phase olds news v w kept kept' text
+      → IsPhaseTold told script phase olds news v w kept kept' text
   is_told calm ran in_lines added words before = record {
     calm = calm;
     parts = parts;
     report = report;
     ran = ran;
-    answers = ap (λ (k : Kept). k.answers) added ∙ ap (λ (xs : List Answered). kept.answers ++ xs) in_lines;
-    reports = ap (λ (k : Kept). k.reports) added;
+    answers = ap (λ (k : KeptSoFar). k.answers) added ∙ ap (λ (xs : List Answered). kept.answers ++ xs) in_lines;
+    reports = ap (λ (k : KeptSoFar). k.reports) added;
     text = ap (λ (xs : List ℕ). before ++ xs) words;
   }
 
 -- the doubts of the log are those of the items that a phase added, which was told
 pub phase_doubts : {D : Type 0} (told : D → Option Past) (script : Script) (phase : Phase) (olds news : List ActorState) (v w : View D)
-    (kept kept' : Kept) (text : List ℕ) → IsTold told script phase olds news v w kept kept' text
+    (kept kept' : KeptSoFar) (text : List ℕ) → IsPhaseTold told script phase olds news v w kept kept' text
     → (from : ℕ) (log : List Item) → from ≡ length v.log → log ≡ w.log
     → (count : ℕ) → count ≡ doubts_in (take (length log - from) (drop from log)) → count ≡ doubts_in w.log
 phase_doubts told script phase olds news v w kept kept' text is_told from log begin same count is =
@@ -85,9 +85,9 @@ prints_by whole is shown text held held' faults faults' cause front all same sho
 
 -- how a phase ends whose text was printed whole
 pub phase_ends : {D : Type 0} (told : D → Option Past) (script : Script) (phase : Phase) (olds news : List ActorState) (v w : View D)
-    (kept kept' : Kept) (held held' : Option (List ℕ)) (faults faults' count : ℕ) (how : Ending) → count ≡ doubts_in w.log
+    (kept kept' : KeptSoFar) (held held' : Option (List ℕ)) (faults faults' count : ℕ) (how : Ending) → count ≡ doubts_in w.log
     → ((count ≡ 0) × (how ≡ ending.Done)) ⊎ ((0 < count) × (how ≡ ending.Doubt))
-    → Tells told script phase true olds news v w kept kept' held held' faults faults'
+    → TellsPhase told script phase true olds news v w kept kept' held held' faults faults'
     → PhaseEnds told script phase how olds news v w kept kept' held held' faults faults'
 phase_ends told script phase olds news v w kept kept' held held' faults faults' count how is (inl (none, done)) tells =
     subst (λ (e : Ending). PhaseEnds told script phase e olds news v w kept kept' held held' faults faults') (sym done) (sym is ∙ none, tells)

@@ -9,64 +9,64 @@ use Rattle.scenario_lines.specs.declared.script.Phase.{Phase}
 use Rattle.scenario_lines.specs.declared.script.Script.{Script}
 use Rattle.actor_runs.specs.declared.actor_state.ActorState.{ActorState}
 use Rattle.converge_round.specs.Each.{Each}
-use Rattle.phase_runs.specs.Actors.{AreSame}
+use Rattle.phase_runs.specs.Actors.{AreSameActors}
 use Rattle.phase_runs.proofs.Public.{same_as, same_then}
 use Rattle.program_edge.specs.Ports.{PrintsTo}
 use Rattle.program_edge.specs.declared.ending.Ending.{Ending}
 use Rattle.program_edge.specs.declared.ending.Ending.TheVariants as ending
-use Rattle.scenario_runs.specs.Actors.{actors_of}
-use Rattle.scenario_runs.specs.Courses.{beginning, Course, PlaysPhase}
-use Rattle.scenario_runs.specs.Kept.{Kept, nothing_kept}
+use Rattle.scenario_runs.specs.Actors.{starting_actors}
+use Rattle.scenario_runs.specs.Courses.{beginning, PlaysPhase, RunCourse}
+use Rattle.scenario_runs.specs.Kept.{KeptSoFar, nothing_kept}
 use Rattle.scenario_runs.specs.Plays.{PlaysPart, RanFirst}
-use Rattle.scenario_runs.specs.Tellings.{course, IsKept, PhaseEnds, PhasesEnd, PhasesStop, Tells}
+use Rattle.scenario_runs.specs.Tellings.{run_course, KeepsCourse, PhaseEnds, PhasesEnd, PhasesStop, TellsPhase}
 use Rattle.scenario_runs.proofs.Prints.{part_behind, prints_as, prints_none, prints_then}
 use Rattle.scenario_runs.proofs.Steps.{each_more}
 
 -- so many phases ran, and their text was printed whole
-pub record RanSo {D : Type 0} (told : D → Option Past) (script : Script) (count : ℕ) (actors : List ActorState) (v w : View D) (kept : Kept)
+pub record RanSo {D : Type 0} (told : D → Option Past) (script : Script) (count : ℕ) (actors : List ActorState) (v w : View D) (kept : KeptSoFar)
     (held held' : Option (List ℕ)) (faults faults' : ℕ) : Type 0 where
   pub text : List ℕ
-  pub each : Each (PlaysPhase told script) (take count script.phases) (beginning script v) (course actors w kept text)
+  pub each : Each (PlaysPhase told script) (take count script.phases) (beginning script v) (run_course actors w kept text)
   pub prints : PrintsTo true text held held' faults faults'
-  pub same : AreSame (actors_of script.actors) actors
+  pub same : AreSameActors (starting_actors script.actors) actors
   pub counted : kept.phases ≡ count
 
 -- and the next one may run
-pub record IsSoFar {D : Type 0} (told : D → Option Past) (script : Script) (count : ℕ) (actors : List ActorState) (v w : View D) (kept : Kept)
+pub record IsSoFar {D : Type 0} (told : D → Option Past) (script : Script) (count : ℕ) (actors : List ActorState) (v w : View D) (kept : KeptSoFar)
     (held held' : Option (List ℕ)) (faults faults' : ℕ) : Type 0 where
   pub ran : RanSo told script count actors v w kept held held' faults faults'
   pub calm : doubts_in w.log ≡ 0
 
 module _ {D : Type 0} (told : D → Option Past) (script : Script) (v : View D) (held : Option (List ℕ)) (faults : ℕ) where
   -- none ran
-  pub none_so_far : (actors : List ActorState) (kept : Kept) → actors ≡ actors_of script.actors → kept ≡ nothing_kept → v.log ≡ []
+  pub none_so_far : (actors : List ActorState) (kept : KeptSoFar) → actors ≡ starting_actors script.actors → kept ≡ nothing_kept → v.log ≡ []
       → IsSoFar told script 0 actors v v kept held held faults faults
   none_so_far actors kept begin none fresh = record {
     ran = record {
       text = [];
       each =
-          ap (λ (a : List ActorState). course a v kept []) begin
-          ∙ ap (λ (k : Kept). course (actors_of script.actors) v k []) none;
+          ap (λ (a : List ActorState). run_course a v kept []) begin
+          ∙ ap (λ (k : KeptSoFar). run_course (starting_actors script.actors) v k []) none;
       prints = prints_none held faults;
-      same = same_as (actors_of script.actors) actors begin;
-      counted = ap (λ (k : Kept). k.phases) none;
+      same = same_as (starting_actors script.actors) actors begin;
+      counted = ap (λ (k : KeptSoFar). k.phases) none;
     };
     calm = ap doubts_in fresh;
   }
 
-  module _ (count : ℕ) (olds : List ActorState) (m : View D) (kept : Kept) (mid : Option (List ℕ)) (more : ℕ)
+  module _ (count : ℕ) (olds : List ActorState) (m : View D) (kept : KeptSoFar) (mid : Option (List ℕ)) (more : ℕ)
       (so_far : IsSoFar told script count olds v m kept held mid faults more)
       (phase : Phase) (within : count < length script.phases) (is : phase ≡ get_or script.phases count phase)
-      (news : List ActorState) (w : View D) (kept' : Kept) (held' : Option (List ℕ)) (faults' : ℕ) where
+      (news : List ActorState) (w : View D) (kept' : KeptSoFar) (held' : Option (List ℕ)) (faults' : ℕ) where
     -- one more
-    one_more : Tells told script phase true olds news m w kept kept' mid held' more faults'
+    one_more : TellsPhase told script phase true olds news m w kept kept' mid held' more faults'
         → RanSo told script (count + 1) news v w kept' held held' faults faults'
     one_more tells = record {
       text = so_far.ran.text ++ tells.text;
-      each = each_more (PlaysPhase told script) script.phases count phase (beginning script v) (course olds m kept so_far.ran.text)
-          (course news w kept' (so_far.ran.text ++ tells.text)) within is so_far.ran.each (tells.is_told so_far.ran.text);
+      each = each_more (PlaysPhase told script) script.phases count phase (beginning script v) (run_course olds m kept so_far.ran.text)
+          (run_course news w kept' (so_far.ran.text ++ tells.text)) within is so_far.ran.each (tells.is_told so_far.ran.text);
       prints = prints_then true so_far.ran.text tells.text held mid held' faults more faults' so_far.ran.prints tells.prints;
-      same = same_then (actors_of script.actors) olds news so_far.ran.same (tells.is_told []).ran.kept;
+      same = same_then (starting_actors script.actors) olds news so_far.ran.same (tells.is_told []).ran.kept;
       counted = tells.counted ∙ ap (λ (n : ℕ). n + 1) so_far.ran.counted;
     }
 
@@ -76,11 +76,11 @@ module _ {D : Type 0} (told : D → Option Past) (script : Script) (v : View D) 
     so_far_more ends = record { ran = one_more ends.1; calm = ends.0 }
 
     first_of : (ran : RanSo told script (count + 1) news v w kept' held held' faults faults')
-        → RanFirst told script v (take (count + 1) script.phases) (drop (count + 1) script.phases) (course news w kept' ran.text)
+        → RanFirst told script v (take (count + 1) script.phases) (drop (count + 1) script.phases) (run_course news w kept' ran.text)
     first_of ran = record { split = sym (take-append-drop (count + 1) script.phases); each = ran.each }
 
     kept_of : (ran : RanSo told script (count + 1) news v w kept' held held' faults faults')
-        → IsKept kept' (course news w kept' ran.text) (length (take (count + 1) script.phases))
+        → KeepsCourse kept' (run_course news w kept' ran.text) (length (take (count + 1) script.phases))
     kept_of ran = record {
       answers = refl;
       reports = refl;
@@ -93,7 +93,7 @@ module _ {D : Type 0} (told : D → Option Past) (script : Script) (v : View D) 
     doubt_ends ends = record {
       ran = take (count + 1) script.phases;
       rest = drop (count + 1) script.phases;
-      last = course news w kept' (one_more ends.1).text;
+      last = run_course news w kept' (one_more ends.1).text;
       first = first_of (one_more ends.1);
       kept_is = kept_of (one_more ends.1);
       stops = (refl, (ends.0, (one_more ends.1).prints));
@@ -109,8 +109,8 @@ module _ {D : Type 0} (told : D → Option Past) (script : Script) (v : View D) 
       ran = take count script.phases;
       phase = phase;
       rest = drop (count + 1) script.phases;
-      before = course olds m kept so_far.ran.text;
-      last = course news w kept' (so_far.ran.text ++ ends.text);
+      before = run_course olds m kept so_far.ran.text;
+      last = run_course news w kept' (so_far.ran.text ++ ends.text);
       first = record {
         split = sym (take-append-drop count script.phases) ∙ ap (λ (xs : List Phase). take count script.phases ++ xs) next;
         each = so_far.ran.each;
@@ -130,12 +130,12 @@ module _ {D : Type 0} (told : D → Option Past) (script : Script) (v : View D) 
     untold_ends ends = record {
       ran = take count script.phases;
       rest = drop count script.phases;
-      last = course olds m kept so_far.ran.text;
+      last = run_course olds m kept so_far.ran.text;
       first = record { split = sym (take-append-drop count script.phases); each = so_far.ran.each };
       kept_is = record {
-        answers = ap (λ (k : Kept). k.answers) ends.0;
-        reports = ap (λ (k : Kept). k.reports) ends.0;
-        phases = ap (λ (k : Kept). k.phases) ends.0 ∙ so_far.ran.counted ∙ sym (length-take-le count script.phases (omega (arith, within)));
+        answers = ap (λ (k : KeptSoFar). k.answers) ends.0;
+        reports = ap (λ (k : KeptSoFar). k.reports) ends.0;
+        phases = ap (λ (k : KeptSoFar). k.phases) ends.0 ∙ so_far.ran.counted ∙ sym (length-take-le count script.phases (omega (arith, within)));
       };
       stops = (
         record {
@@ -166,14 +166,14 @@ module _ {D : Type 0} (told : D → Option Past) (script : Script) (v : View D) 
     phases_end ending.Exists other ends = absurd ends
 
   -- all phases ran
-  pub all_ran : (count : ℕ) (news : List ActorState) (w : View D) (kept : Kept) (held' : Option (List ℕ)) (faults' : ℕ)
+  pub all_ran : (count : ℕ) (news : List ActorState) (w : View D) (kept : KeptSoFar) (held' : Option (List ℕ)) (faults' : ℕ)
       → length script.phases ≤ count
       → count ≤ length script.phases → IsSoFar told script count news v w kept held held' faults faults'
       → PhasesEnd told script ending.Done v w kept held held' faults faults'
   all_ran count news w kept held' faults' end within so_far = record {
     ran = take count script.phases;
     rest = [];
-    last = course news w kept so_far.ran.text;
+    last = run_course news w kept so_far.ran.text;
     first = record {
       split = sym (take_all count script.phases end) ∙ sym (append-nil (take count script.phases));
       each = so_far.ran.each;

@@ -6,10 +6,10 @@ use Rattle.cell_rep.specs.Reps.{new_rep}
 use Rattle.scenario_lines.specs.declared.actor.Actor.{Actor}
 
 -- a client, or a cell that has not joined
-abbrev pub begun : Bool → List ℕ → ActorState
-begun false name = Client name
-begun true name = Cell (new_rep name)
+abbrev pub new_actor : Bool → List ℕ → ActorState
+new_actor false name = Client name
+new_actor true name = Cell (new_rep name)
 
 -- the actors as they begin, in the order of their numbers
-abbrev pub actors_of : List Actor → List ActorState
-actors_of actors = map (λ a. begun a.cell a.name) actors
+abbrev pub starting_actors : List Actor → List ActorState
+starting_actors actors = map (λ a. new_actor a.cell a.name) actors

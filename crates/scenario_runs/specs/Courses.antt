@@ -17,10 +17,10 @@ use Rattle.actor_runs.specs.declared.actor_state.ActorState.{ActorState}
 use Rattle.phase_runs.specs.Phases.{PhaseRan}
 use Rattle.phase_text.specs.Sorting.{by_key, by_line}
 use Rattle.phase_text.specs.Texts.{phase_words}
-use Rattle.scenario_runs.specs.Actors.{actors_of}
+use Rattle.scenario_runs.specs.Actors.{starting_actors}
 
 -- the actors and the board as they are, and the answers, the reports and the text so far
-pub record Course (D : Type 0) : Type 0 where
+pub record RunCourse (D : Type 0) : Type 0 where
   pub actors : List ActorState
   pub board : View D
   pub answers : List Answered
@@ -28,25 +28,25 @@ pub record Course (D : Type 0) : Type 0 where
   pub text : List ℕ
 
 -- as a scenario begins on a board
-abbrev pub beginning : {D : Type 0} → Script → View D → Course D
-beginning script v = record { actors = actors_of script.actors; board = v; answers = []; reports = []; text = [] }
+abbrev pub beginning : {D : Type 0} → Script → View D → RunCourse D
+beginning script v = record { actors = starting_actors script.actors; board = v; answers = []; reports = []; text = [] }
 
 -- the events of the items from a place of a log on
 abbrev pub events_from : Rows → List Item → ℕ → List Event
 events_from base log from = flat_map each_event (drop from (told_in base log))
 
 -- what is told of a phase with these answers and this report, on a board that went from the one view to the other
-abbrev pub told_of : {D : Type 0} → Script → Phase → List Answered → Option Report → View D → View D → List ℕ
-told_of script phase answers report v w =
+abbrev pub text_of_phase : {D : Type 0} → Script → Phase → List Answered → Option Report → View D → View D → List ℕ
+text_of_phase script phase answers report v w =
     phase_words script phase answers report (by_key (events_from w.base w.log (length v.log)))
 
 -- a phase ran whole behind phases in which the disk never failed, and is told with its answers by line and its report
 pub record PlaysPhase {D : Type 0} (told : D → Option Past) (script : Script) (phase : Phase)
-    (s s' : Course D) : Type 0 where
+    (s s' : RunCourse D) : Type 0 where
   pub calm : doubts_in s.board.log ≡ 0
   pub parts : List (List Answered)
   pub report : Option Report
   pub ran : PhaseRan told phase s.actors s'.actors parts report s.board s'.board
   pub answers : s'.answers ≡ s.answers ++ by_line parts
   pub reports : s'.reports ≡ s.reports ++ option_to_list report
-  pub text : s'.text ≡ s.text ++ told_of script phase (by_line parts) report s.board s'.board
+  pub text : s'.text ≡ s.text ++ text_of_phase script phase (by_line parts) report s.board s'.board

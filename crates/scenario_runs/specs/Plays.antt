@@ -15,7 +15,7 @@ use Rattle.phase_runs.specs.Phases.{PhaseCut, PhaseRan}
 use Rattle.program_edge.specs.Ports.{PrintsTo}
 use Rattle.program_edge.specs.declared.ending.Ending.{Ending}
 use Rattle.program_edge.specs.declared.ending.Ending.TheVariants as ending
-use Rattle.scenario_runs.specs.Courses.{Course, PlaysPhase, beginning}
+use Rattle.scenario_runs.specs.Courses.{PlaysPhase, RunCourse, beginning}
 
 -- the counts of a run on a board that had done nothing before, of which so many phases ran
 abbrev pub summary_of : {D : Type 0} → View D → ℕ → Summary
@@ -27,32 +27,32 @@ summary_of w phases = record {
 }
 
 -- what is printed behind the text of the phases
-abbrev pub summary_words : {D : Type 0} → Course D → ℕ → List ℕ
+abbrev pub summary_words : {D : Type 0} → RunCourse D → ℕ → List ℕ
 summary_words s phases = line_text (summary_data (summary_of s.board phases))
 
 -- the whole text of a run
-abbrev pub run_words : {D : Type 0} → Course D → ℕ → List ℕ
+abbrev pub run_words : {D : Type 0} → RunCourse D → ℕ → List ℕ
 run_words s phases = s.text ++ summary_words s phases
 
 -- the first phases ran whole, one after another, and these are the others
 pub record RanFirst {D : Type 0} (told : D → Option Past) (script : Script) (v : View D) (ran rest : List Phase)
-    (s : Course D) : Type 0 where
+    (s : RunCourse D) : Type 0 where
   pub split : script.phases ≡ ran ++ rest
   pub each : Each (PlaysPhase told script) ran (beginning script v) s
 
 -- these phases ran, the board is as the last of them left it, and so are the answers and the reports
 pub record EndsAt {D : Type 0} (told : D → Option Past) (script : Script) (answers : List Answered)
-    (reports : List Report) (v w : View D) (ran rest : List Phase) (s : Course D) : Type 0 where
+    (reports : List Report) (v w : View D) (ran rest : List Phase) (s : RunCourse D) : Type 0 where
   pub first : RanFirst told script v ran rest s
   pub board : w ≡ s.board
   pub answers_are : answers ≡ s.answers
   pub reports_are : reports ≡ s.reports
 
 -- why no further phase ran: there was none, and the disk never failed; or it failed in the last one
-abbrev pub IsOver : Ending → List Phase → ℕ → Type 0
-IsOver ending.Done rest doubts = (rest ≡ []) × (doubts ≡ 0)
-IsOver ending.Doubt rest doubts = 0 < doubts
-IsOver other rest doubts = ⊥
+abbrev pub IsPlayedOut : Ending → List Phase → ℕ → Type 0
+IsPlayedOut ending.Done rest doubts = (rest ≡ []) × (doubts ≡ 0)
+IsPlayedOut ending.Doubt rest doubts = 0 < doubts
+IsPlayedOut other rest doubts = ⊥
 
 -- no further phase was to run, and the whole text was printed
 pub record PlaysWhole {D : Type 0} (told : D → Option Past) (script : Script) (how : Ending)
@@ -60,9 +60,9 @@ pub record PlaysWhole {D : Type 0} (told : D → Option Past) (script : Script) 
     (held held' : Option (List ℕ)) (faults faults' : ℕ) : Type 0 where
   pub ran : List Phase
   pub rest : List Phase
-  pub last : Course D
+  pub last : RunCourse D
   pub ends : EndsAt told script answers reports v w ran rest last
-  pub over : IsOver how rest (doubts_in w.log)
+  pub over : IsPlayedOut how rest (doubts_in w.log)
   pub prints : PrintsTo true (run_words last (length ran)) held held' faults faults'
 
 -- a text was printed whole, and what stands behind it up to a fault of the sink
@@ -77,9 +77,9 @@ pub record PlaysUnsummed {D : Type 0} (told : D → Option Past) (script : Scrip
     (held held' : Option (List ℕ)) (faults faults' : ℕ) : Type 0 where
   pub ran : List Phase
   pub rest : List Phase
-  pub last : Course D
+  pub last : RunCourse D
   pub ends : EndsAt told script answers reports v w ran rest last
-  pub over : IsOver ending.Done rest (doubts_in w.log) ⊎ IsOver ending.Doubt rest (doubts_in w.log)
+  pub over : IsPlayedOut ending.Done rest (doubts_in w.log) ⊎ IsPlayedOut ending.Doubt rest (doubts_in w.log)
   pub prints : PrintsPart last.text (summary_words last (length ran)) held held' faults faults'
 
 -- the sink failed in the text of this phase, which is the last that ran
@@ -89,8 +89,8 @@ pub record PlaysPart {D : Type 0} (told : D → Option Past) (script : Script)
   pub ran : List Phase
   pub phase : Phase
   pub rest : List Phase
-  pub before : Course D
-  pub last : Course D
+  pub before : RunCourse D
+  pub last : RunCourse D
   pub first : RanFirst told script v ran (phase ∷ rest) before
   pub plays : PlaysPhase told script phase before last
   pub board : w ≡ last.board
@@ -107,7 +107,7 @@ IsUntold told phase olds v w = PhaseCut told phase olds v w
     × PhaseRan told phase olds news parts report v w)
 
 -- behind phases in which the disk never failed the next one was cut off, or ran and could not be told
-pub record IsCutIn {D : Type 0} (told : D → Option Past) (s : Course D) (rest : List Phase)
+pub record IsCutIn {D : Type 0} (told : D → Option Past) (s : RunCourse D) (rest : List Phase)
     (w : View D) : Type 0 where
   pub calm : doubts_in s.board.log ≡ 0
   pub phase : Phase
@@ -121,7 +121,7 @@ pub record PlaysCut {D : Type 0} (told : D → Option Past) (script : Script)
     (held held' : Option (List ℕ)) (faults faults' : ℕ) : Type 0 where
   pub ran : List Phase
   pub rest : List Phase
-  pub last : Course D
+  pub last : RunCourse D
   pub first : RanFirst told script v ran rest last
   pub board : (w ≡ last.board) ⊎ IsCutIn told last rest w
   pub answers_are : answers ≡ last.answers

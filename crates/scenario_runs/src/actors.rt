@@ -1,6 +1,6 @@
 //! The actors of a scenario, as they begin.
 ghost use Rattle.std.specs.Prelude.{◌≡◌, IfOk};
-ghost use Rattle.scenario_runs.specs.Actors.{actors_of, begun};
+ghost use Rattle.scenario_runs.specs.Actors.{starting_actors, new_actor};
 
 use actor_runs::ActorState;
 use cell_rep::CellRep;
@@ -9,7 +9,7 @@ use scenario_lines::Actor;
 use std::alloc::Global;
 
 fn begun(actor: &Actor) -> ActorState
-    ensures { result ≡ begun actor.now.cell actor.now.name }
+    ensures { result ≡ new_actor actor.now.cell actor.now.name }
 {
     if actor.cell {
         ActorState::Cell(CellRep::new(actor.name))
@@ -20,7 +20,7 @@ fn begun(actor: &Actor) -> ActorState
 
 /// The actors as they begin, in the order of their numbers: no cell has joined.
 pub(crate) fn actors_of(alloc: Global, actors: &[Actor]) -> Result<Vec<ActorState>, OutOfMemory>
-    ensures { IfOk result (λ v. v.items ≡ actors_of actors.now) }
+    ensures { IfOk result (λ v. v.items ≡ starting_actors actors.now) }
 {
     let mut states = Vec::new(alloc);
     for actor in actors {

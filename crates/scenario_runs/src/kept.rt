@@ -18,7 +18,7 @@ pub(crate) struct Kept {
 }
 
 impl Model for Kept {
-    ghost use Rattle.scenario_runs.specs.Kept.{Kept as Lists};
+    ghost use Rattle.scenario_runs.specs.Kept.{KeptSoFar as Lists};
 
     ghost Value = { Lists };
 

@@ -2,13 +2,13 @@
 ghost use Rattle.std.specs.Prelude.{◌≡◌, ◌⊎◌, ◌+◌, ◌<◌, ◌^◌, [], length, IfOk, OnOk, OnErr};
 ghost use Rattle.std.specs.List.{Contains};
 ghost use Rattle.bbs_board.specs.Doubts.{doubts_in};
-ghost use Rattle.phase_runs.specs.Actors.{AreSame};
+ghost use Rattle.phase_runs.specs.Actors.{AreSameActors};
 ghost use Rattle.program_edge.specs.declared.ending.Ending.TheVariants as ending;
 ghost use Rattle.scenario_reader.specs.Facts.{IsScript};
-ghost use Rattle.scenario_runs.specs.Actors.{actors_of};
+ghost use Rattle.scenario_runs.specs.Actors.{starting_actors};
 ghost use Rattle.scenario_runs.specs.Kept.{nothing_kept};
 ghost use Rattle.scenario_runs.specs.Plays.{IsUntold, Plays, summary_of};
-ghost use Rattle.scenario_runs.specs.Tellings.{EndsBehind, Finishes, IsTold, PhaseEnds, PhasesEnd};
+ghost use Rattle.scenario_runs.specs.Tellings.{EndsBehind, Finishes, IsPhaseTold, PhaseEnds, PhasesEnd};
 ghost use Rattle.record_print.specs.Printed.{line_text, summary_data};
 
 use crate::actors::actors_of;
@@ -52,10 +52,10 @@ fn run_and_tell<D: Disk, G: Gate>(
 ) -> Result<Vec<u8>, OutOfMemory>
     requires script { IsScript script.now }
     requires among { Contains script.now.phases phase.now }
-    requires same { AreSame (actors_of script.now.actors) actors.old }
+    requires same { AreSameActors (starting_actors script.now.actors) actors.old }
     requires calm { doubts_in board.old.log ≡ 0 }
     requires few { kept.old.phases + 1 < 2 ^ 64 }
-    ensures told { IfOk result (λ text. IsTold D.told script.now phase.now actors.old actors.new
+    ensures told { IfOk result (λ text. IsPhaseTold D.told script.now phase.now actors.old actors.new
         board.old board.new kept.old kept.new text.items) }
     ensures counted { OnOk result (kept.new.phases ≡ kept.old.phases + 1) }
     ensures untold { OnErr result ((kept.new ≡ kept.old)
@@ -101,7 +101,7 @@ fn play_phase<K: Sink, D: Disk, G: Gate>(
 ) -> Ending
     requires script { IsScript script.now }
     requires among { Contains script.now.phases phase.now }
-    requires same { AreSame (actors_of script.now.actors) actors.old }
+    requires same { AreSameActors (starting_actors script.now.actors) actors.old }
     requires calm { doubts_in board.old.log ≡ 0 }
     requires few { kept.old.phases + 1 < 2 ^ 64 }
     ensures ends { PhaseEnds D.told script.now phase.now result actors.old actors.new
@@ -131,7 +131,7 @@ fn play_phases<K: Sink, D: Disk, G: Gate>(
     kept: &mut Kept,
 ) -> Ending
     requires script { IsScript script.now }
-    requires begin { actors.old ≡ actors_of script.now.actors }
+    requires begin { actors.old ≡ starting_actors script.now.actors }
     requires kept { kept.old ≡ nothing_kept }
     requires fresh { board.old.log ≡ [] }
     ensures ends { PhasesEnd D.told script.now result board.old board.new kept.new

@@ -1,7 +1,7 @@
 //! What is told of a phase that ran whole.
 ghost use Rattle.std.specs.Prelude.{◌≡◌, ◌≤◌, length, IfOk};
-ghost use Rattle.phase_text.specs.Answers.{AreAnswers};
-ghost use Rattle.phase_text.specs.Sorting.{by_key, by_line, joined};
+ghost use Rattle.phase_text.specs.Answers.{AreActorAnswers};
+ghost use Rattle.phase_text.specs.Sorting.{by_key, by_line, joined_parts};
 ghost use Rattle.phase_text.specs.Texts.{phase_words};
 ghost use Rattle.scenario_runs.specs.Courses.{events_from};
 
@@ -31,7 +31,7 @@ pub(crate) fn tell<D: Disk>(
     ran: &Ran,
 ) -> Result<Told, OutOfMemory>
     requires from { from ≤ length board.now.log }
-    requires answers { AreAnswers script.now.actors phase.now.lines (joined ran.now.parts) }
+    requires answers { AreActorAnswers script.now.actors phase.now.lines (joined_parts ran.now.parts) }
     ensures answers { IfOk result (λ told. told.answers ≡ by_line ran.entry.now.parts) }
     ensures text { IfOk result (λ told. told.text.items ≡ phase_words script.now phase.now
         (by_line ran.entry.now.parts) ran.entry.now.report

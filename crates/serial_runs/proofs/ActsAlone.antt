@@ -17,7 +17,7 @@ use Rattle.evacuation.specs.Evacuation.{Evacuates, is_agreed}
 use Rattle.actor_runs.specs.Runs.{is_any_starved, is_starved_end}
 use Rattle.serial_runs.specs.ActLaws.{AgreesWith}
 use Rattle.serial_runs.specs.Acts.{SoleRep, act_alone, drain_end, draining_todo, evacuate_alone, todo_alone, todos_alone}
-use Rattle.serial_runs.specs.Quiet.{IsUndisturbed}
+use Rattle.serial_runs.specs.Quiet.{StaysCalm}
 use Rattle.serial_runs.proofs.Follows.{later_followed, performed_alone}
 use Rattle.serial_runs.proofs.Quiets.{alone_first, alone_second, none_first}
 
@@ -25,7 +25,7 @@ pub later_performed : (by : ℕ) (actor : List ℕ) (ts : List Todo) (s s' : Sta
 later_performed by actor ts s s' h = later_followed by actor s.ends ts s.rep s.view h.new s'.rep s'.view h.follows
 
 pub acted_alone : (by : ℕ) (a : CellAct) (now : Moment) (s s' : Stage) (x : SoleRep) → Acts by a now s s' → AgreesWith s x
-    → IsUndisturbed s.view s'.view → is_any_starved s'.out ≡ false → AgreesWith s' (act_alone by a now x)
+    → StaysCalm s.view s'.view → is_any_starved s'.out ≡ false → AgreesWith s' (act_alone by a now x)
 acted_alone by a now s s' x h at alone fed =
     let there = performed_alone by s.rep.cell (plan a now s.rep) (record s { rep = begun a s.rep }) s' (record x { rep = begun a s.rep }) h
     (record { rep_is = refl; board = at.board; ends_are = at.ends_are; out_is = at.out_is }) alone fed in
@@ -45,7 +45,7 @@ end_told todo.Idle e = refl
 end_told (todo.Local why) e = refl
 
 settled_if : (b : Bool) (by : ℕ) (now : Moment) (m w : Stage) (x : SoleRep) → MatchBool b (Acts by act.Settle now m w) (w ≡ m) → AgreesWith m x
-    → IsUndisturbed m.view w.view → is_any_starved w.out ≡ false → AgreesWith w (cond b (act_alone by act.Settle now x) x)
+    → StaysCalm m.view w.view → is_any_starved w.out ≡ false → AgreesWith w (cond b (act_alone by act.Settle now x) x)
 settled_if true by now m w x h at alone fed = acted_alone by act.Settle now m w x h at alone fed
 settled_if false by now m w x h at alone fed = subst (λ (s : Stage). AgreesWith s x) (sym h) at
 
@@ -65,7 +65,7 @@ later_evacuated by now s w h =
     (later_settled (is_agreed h.answer.end) by now h.middle w h.settled)
 
 pub evacuated_alone : (by : ℕ) (now : Moment) (s w : Stage) (x : SoleRep) → Evacuates by now s w → AgreesWith s x
-    → IsUndisturbed s.view w.view → is_any_starved w.out ≡ false → AgreesWith w (evacuate_alone by now x)
+    → StaysCalm s.view w.view → is_any_starved w.out ≡ false → AgreesWith w (evacuate_alone by now x)
 evacuated_alone by now s w x h at alone fed =
     let m : Stage = h.middle in
     let one_later = later_performed by s.rep.cell (drain_todo now s.rep.cell s.rep.joined ∷ []) s m h.drained.performs in

@@ -16,7 +16,7 @@ use Rattle.bbs_model.specs.declared.verdict.Verdict.{Verdict}
 use Rattle.bbs_model.specs.declared.verdict.Verdict.TheVariants as verdict
 use Rattle.bbs_model.proofs.Public.{quiet_called}
 use Rattle.serial_runs.specs.Boards.{board_seen, reply_alone, reply_by}
-use Rattle.serial_runs.specs.Quiet.{IsCallAlone, IsUndisturbed}
+use Rattle.serial_runs.specs.Quiet.{IsCallAlone, StaysCalm}
 use Rattle.bbs_board.specs.Doubts.{doubts_in}
 
 -- what is in doubt in one list and the other
@@ -66,5 +66,5 @@ call_stored by v c end w h calm =
     (omega (arith, doubts_both (v.seen ++ h.others) (added end by c), ap (λ (x : PortView). doubts_in x.seen) h.is, calm))
 
 pub call_alone : (by : ℕ) (v : PortView) (c : Command) (end : Result Reply CallFault) (w : PortView) → IsCalled by v c end w
-    → IsUndisturbed v w → is_starved end ≡ false → IsCallAlone by v c end w
+    → StaysCalm v w → is_starved end ≡ false → IsCallAlone by v c end w
 call_alone by v c end w h alone fed = call_due by v c end w h alone.quiet (call_stored by v c end w h alone.calm) fed

@@ -15,7 +15,7 @@ use Rattle.cell_rep.specs.declared.call_end.CallEnd.TheVariants.{Got, Fault, Cal
 use Rattle.cell_rep.specs.declared.wire.Delivery.{Delivery}
 use Rattle.cell_rep.specs.declared.wire.Delivery.TheVariants as wire
 use Rattle.serial_runs.specs.Boards.{board_seen, delivered_alone, end_under, reply_alone}
-use Rattle.serial_runs.specs.Quiet.{IsUndisturbed}
+use Rattle.serial_runs.specs.Quiet.{StaysCalm}
 use Rattle.actor_runs.specs.Runs.{is_starved_end}
 use Rattle.serial_runs.proofs.Calls.{call_due, call_stored}
 
@@ -70,7 +70,7 @@ sent_stored by v c (ReplyLost (Err why)) w h calm fed = absurd (not_faulty why (
 sent_stored by v c (Local why) w h calm fed = absurd h
 sent_stored by v c Idle w h calm fed = absurd h
 
-pub sent_alone : (by : ℕ) (v : PortView) (c : Command) (w : PortView) → IsUndisturbed v w → (d : Delivery) (end : CallEnd)
+pub sent_alone : (by : ℕ) (v : PortView) (c : Command) (w : PortView) → StaysCalm v w → (d : Delivery) (end : CallEnd)
     → EndFits (Some d) end → IsDelivered by v c end w → is_starved_end end ≡ false → IsSentAlone d by v c end w
 sent_alone by v c w alone d end fits h fed = sent_due by v c w alone.quiet d end fits h (sent_stored by v c end w h alone.calm fed)
 

@@ -12,9 +12,9 @@ use Rattle.cell_rep.specs.declared.todo.Todo.{Todo}
 use Rattle.cell_rep.specs.declared.todo.Todo.TheVariants as todo
 use Rattle.converge_round.specs.Starts.{HasNoFault}
 use Rattle.serial_runs.specs.ActLaws.{IsAsAlone, AgreesWith}
-use Rattle.serial_runs.specs.Acts.{SoleRep, done_alone, end_of, ends_behind, next_end, todo_alone, todos_alone}
+use Rattle.serial_runs.specs.Acts.{SoleRep, done_alone, end_alone, ends_behind, next_end, todo_alone, todos_alone}
 use Rattle.serial_runs.specs.Boards.{SoleBoard, board_seen}
-use Rattle.serial_runs.specs.Quiet.{IsUndisturbed}
+use Rattle.serial_runs.specs.Quiet.{StaysCalm}
 use Rattle.actor_runs.specs.Runs.{is_any_starved, is_starved_end}
 use Rattle.serial_runs.proofs.Delivered.{later_delivered, sent_due, sent_stored}
 use Rattle.serial_runs.proofs.Quiets.{alone_first, alone_second, neither_first, neither_second, none_second}
@@ -36,8 +36,8 @@ later_followed by actor ends (t ∷ ts) rep v (a ∷ as') rep' w f =
 
 -- one thing was done with the end that is due
 pub record IsDoneAlone (by : ℕ) (actor : List ℕ) (ends : WireEnds) (t : Todo) (v : PortView) (a : Called) (w : PortView) : Type 0 where
-  pub end_is : a.end ≡ end_of t (next_end ends actor) (board_seen v)
-  pub answer : a ≡ answer_to t (end_of t (next_end ends actor) (board_seen v))
+  pub end_is : a.end ≡ end_alone t (next_end ends actor) (board_seen v)
+  pub answer : a ≡ answer_to t (end_alone t (next_end ends actor) (board_seen v))
   pub board : board_seen w ≡ done_alone t (next_end ends actor) by (board_seen v)
   pub moved : moved_by t (Some ends) ≡ Some (ends_behind t ends)
 
@@ -66,7 +66,7 @@ abbrev pub sole_rep : CellRep → SoleBoard → WireEnds → List Called → Sol
 sole_rep rep b ends out = record { rep = rep; board = b; ends = ends; out = out }
 
 pub followed_alone : (by : ℕ) (actor : List ℕ) (ts : List Todo) (rep : CellRep) (v : PortView) (ends : WireEnds) (out new : List Called) (rep' : CellRep) (w : PortView)
-    → Follows by actor (Some ends) ts rep v new rep' w → IsUndisturbed v w → is_any_starved new ≡ false
+    → Follows by actor (Some ends) ts rep v new rep' w → StaysCalm v w → is_any_starved new ≡ false
     → IsAsAlone (todos_alone by actor ts (sole_rep rep (board_seen v) ends out)) rep' w (moved_all ts (Some ends)) (out ++ new)
 followed_alone by actor [] rep v ends out [] rep' w f alone fed =
     record { rep_is = sym f.0; board = sym (ap board_seen f.1); ends_are = refl; out_is = sym (append-nil out) }
@@ -93,7 +93,7 @@ followed_alone by actor (t ∷ ts) rep v ends out (a ∷ as') rep' w f alone fed
     }
 
 pub performed_alone : (by : ℕ) (actor : List ℕ) (ts : List Todo) (s s' : Stage) (x : SoleRep) → Performs by actor ts s s' → AgreesWith s x
-    → IsUndisturbed s.view s'.view → is_any_starved s'.out ≡ false → AgreesWith s' (todos_alone by actor ts x)
+    → StaysCalm s.view s'.view → is_any_starved s'.out ≡ false → AgreesWith s' (todos_alone by actor ts x)
 performed_alone by actor ts s s' x h at alone fed =
     let follows = subst (λ (e : Option WireEnds). Follows by actor e ts s.rep s.view h.new s'.rep s'.view) at.ends_are h.follows in
     let none = none_second (λ (a : Called). is_starved_end a.end) s.out h.new (sym (ap is_any_starved h.out_is) ∙ fed) in

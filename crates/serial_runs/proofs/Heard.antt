@@ -13,16 +13,16 @@ use Rattle.cell_rep.proofs.Public.{reps_answer}
 use Rattle.converge_round.specs.Askings.{Asking, AsksOne, Hears, HearsIf, IsHeardFrom, answer_under}
 use Rattle.converge_round.specs.Each.{Each}
 use Rattle.converge_round.specs.Places.{OpensIf, OpensOne, is_being_emptied}
-use Rattle.phase_runs.specs.RoundMarks.{is_named}
+use Rattle.phase_runs.specs.RoundMarks.{is_among}
 use Rattle.scenario_lines.specs.declared.script.RoundLine.{RoundLine}
-use Rattle.serial_runs.specs.Reps.{answer_from, rep_named}
+use Rattle.serial_runs.specs.Reps.{rep_answer, rep_named}
 use Rattle.serial_runs.specs.RoundLaws.{AreReps}
 use Rattle.serial_runs.specs.Rounds.{asked_alone, roomy_alone, roomy_one}
 use Rattle.serial_runs.proofs.Named.{named_cell, named_inside, stands_inside, stands_named}
 use Rattle.serial_runs.proofs.Steady.{IsOf, reached_asked}
 
 module _ (reps : List CellRep) (are : AreReps reps) (cell : List ℕ) (epoch : ℕ) where
-  heard_some : (a : Answer) → IsHeardFrom reps cell epoch a → Some a ≡ answer_from reps cell epoch
+  heard_some : (a : Answer) → IsHeardFrom reps cell epoch a → Some a ≡ rep_answer reps cell epoch
   heard_some a h =
       let here = ap (option_and_then answer_of) (stands_named reps cell h.place h.rep are.apart h.stands) ∙ h.answers in
       sym (ap (answer_under epoch) here ∙ ap (λ (b : Bool). cond b (Some a) None) (eq-eqb a.epoch epoch h.epoch_is))
@@ -54,7 +54,7 @@ module _ (reps : List CellRep) (are : AreReps reps) (cell : List ℕ) (epoch : �
         | (Some a) ↦ λ answers. none_under rep a is answers none
       ] refl
 
-  heard_none : ((b : Answer) → IsHeardFrom reps cell epoch b → ⊥) → answer_from reps cell epoch ≡ None
+  heard_none : ((b : Answer) → IsHeardFrom reps cell epoch b → ⊥) → rep_answer reps cell epoch ≡ None
   heard_none none =
       elim (rep_named reps cell) as (λ (o : Option CellRep). rep_named reps cell ≡ o → answer_under epoch (option_and_then answer_of o) ≡ None) [
         | None ↦ λ is. refl
@@ -62,12 +62,12 @@ module _ (reps : List CellRep) (are : AreReps reps) (cell : List ℕ) (epoch : �
       ] refl
 
   -- what is heard of a cell is what it answers
-  pub hears_alone : (answer : Option Answer) → Hears reps cell epoch answer → answer ≡ answer_from reps cell epoch
+  pub hears_alone : (answer : Option Answer) → Hears reps cell epoch answer → answer ≡ rep_answer reps cell epoch
   hears_alone None h = sym (heard_none (h are.apart))
   hears_alone (Some a) h = heard_some a h
 
 heard_if : (lost : Bool) (reps : List CellRep) → AreReps reps → (cell : List ℕ) (epoch : ℕ) (answer : Option Answer) → HearsIf (not lost) reps cell epoch answer
-    → answer ≡ cond lost None (answer_from reps cell epoch)
+    → answer ≡ cond lost None (rep_answer reps cell epoch)
 heard_if true reps are cell epoch answer h = h
 heard_if false reps are cell epoch answer h = hears_alone reps are cell epoch answer h
 
@@ -84,7 +84,7 @@ asked_all line reps are [] s s' f of =
 asked_all line reps are (c ∷ cs) s s' f of =
     let h = f.1.asked in
     let sent = reached_asked line c.cell h.reached s.wire f.0.wire h.sent of in
-    let answer = heard_if (is_named line.lose_ask c.cell) reps are c.cell c.epoch f.1.answer
+    let answer = heard_if (is_among line.lose_ask c.cell) reps are c.cell c.epoch f.1.answer
     (subst (λ (b : Bool). HearsIf b reps c.cell c.epoch f.1.answer) sent.0 h.heard) in
     let rest = asked_all line reps are cs f.0 s' f.2 sent.1 in (
       rest.0 ∙ ap (λ xs. xs ++ filter_map (asked_alone line reps) cs) (f.1.got ∙ ap (λ (o : Option Answer). s.got ++ option_to_list o) answer)
@@ -93,7 +93,7 @@ asked_all line reps are (c ∷ cs) s s' f of =
     )
 
 opened_if : (emptied : Bool) (reps : List CellRep) → AreReps reps → (x : Answer) (now : Option Answer) → OpensIf emptied reps x now
-    → now ≡ cond emptied None (answer_from reps x.cell x.epoch)
+    → now ≡ cond emptied None (rep_answer reps x.cell x.epoch)
 opened_if true reps are x now h = h
 opened_if false reps are x now h = hears_alone reps are x.cell x.epoch now h
 

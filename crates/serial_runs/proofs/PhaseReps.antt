@@ -22,7 +22,7 @@ use Rattle.actor_runs.specs.declared.actor_state.ActorState.{ActorState}
 use Rattle.actor_runs.specs.declared.actor_state.ActorState.TheVariants as actor
 use Rattle.phase_runs.specs.Phases.{HasRound, PhaseRan, RoundRan}
 use Rattle.phase_runs.specs.Reps.{reps_of, with_reps}
-use Rattle.scenario_runs.specs.Actors.{actors_of}
+use Rattle.scenario_runs.specs.Actors.{starting_actors}
 use Rattle.serial_runs.specs.RoundLaws.{AreReps}
 use Rattle.serial_runs.proofs.ByNumber.{at_there, inside_at}
 use Rattle.serial_runs.proofs.Calls.{doubts_both}
@@ -87,7 +87,7 @@ actor_of cell name = record { cell = cell; name = name }
 
 -- the names of the cells among these
 abbrev cells_in : List Actor → List (List ℕ)
-cells_in xs = names_of (reps_of (actors_of xs))
+cells_in xs = names_of (reps_of (starting_actors xs))
 
 from_one : (b : Bool) (m n : List ℕ) (xs : List Actor) → (Contains (cells_in xs) n → Contains xs (cell_of n)) → Contains (cells_in (actor_of b m ∷ xs)) n
     → Contains (actor_of b m ∷ xs) (cell_of n)
@@ -109,20 +109,20 @@ script_differ : (xs : List Actor) → Differ xs → Differ (cells_in xs)
 script_differ [] d = tt
 script_differ (x ∷ xs) d = one_differs x.cell x.name xs d.0 (script_differ xs d.1)
 
-one_new : (b : Bool) (m : List ℕ) (xs : List Actor) (r : CellRep) → (Contains (reps_of (actors_of xs)) r → HasStore r.joined)
-    → Contains (reps_of (actors_of (actor_of b m ∷ xs))) r → HasStore r.joined
+one_new : (b : Bool) (m : List ℕ) (xs : List Actor) (r : CellRep) → (Contains (reps_of (starting_actors xs)) r → HasStore r.joined)
+    → Contains (reps_of (starting_actors (actor_of b m ∷ xs))) r → HasStore r.joined
 one_new false m xs r rest inside = rest inside
 one_new true m xs r rest inside = ⊎_elim
     (λ same. subst (λ (q : CellRep). HasStore q.joined) same tt)
     rest
-    (first_or_rest r (record { cell = m; joined = None }) (reps_of (actors_of xs)) inside)
+    (first_or_rest r (record { cell = m; joined = None }) (reps_of (starting_actors xs)) inside)
 
-new_stores : (xs : List Actor) (r : CellRep) → Contains (reps_of (actors_of xs)) r → HasStore r.joined
+new_stores : (xs : List Actor) (r : CellRep) → Contains (reps_of (starting_actors xs)) r → HasStore r.joined
 new_stores [] r inside = absurd (omega (arith, inside.1))
 new_stores (x ∷ xs) r inside = one_new x.cell x.name xs r (new_stores xs r) inside
 
-pub script_reps : (script : Script) → IsScript script → AreReps (reps_of (actors_of script.actors))
+pub script_reps : (script : Script) → IsScript script → AreReps (reps_of (starting_actors script.actors))
 script_reps script is = record {
-  apart = differ_apart (names_of (reps_of (actors_of script.actors))) (script_differ script.actors (differ_pairs script.actors is.distinct));
+  apart = differ_apart (names_of (reps_of (starting_actors script.actors))) (script_differ script.actors (differ_pairs script.actors is.distinct));
   stores = new_stores script.actors;
 }

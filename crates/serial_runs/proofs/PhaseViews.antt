@@ -8,7 +8,7 @@ use Rattle.bbs_model.specs.declared.item.Item.{Item}
 use Rattle.bbs_model.specs.declared.rows.Rows.{Rows}
 use Rattle.phase_runs.specs.Actors.{SeesPhase}
 use Rattle.serial_runs.specs.Boards.{SoleBoard, board_seen}
-use Rattle.serial_runs.specs.Quiet.{IsUndisturbed}
+use Rattle.serial_runs.specs.Quiet.{StaysCalm}
 
 abbrev pub sole_board : Rows → List Item → SoleBoard
 sole_board base log = record { base = base; log = log }
@@ -46,6 +46,6 @@ sees_all base before fresh by v w sees later all =
       quiet = omega (arith, n1, n2, n3, n4, later.counts);
     }
 
-pub undisturbed : (base : Rows) (before fresh : List Item) (v w : PortView) → SeesAll base before fresh v w → doubts_in (before ++ fresh) ≡ 0 → IsUndisturbed v w
+pub undisturbed : (base : Rows) (before fresh : List Item) (v w : PortView) → SeesAll base before fresh v w → doubts_in (before ++ fresh) ≡ 0 → StaysCalm v w
 undisturbed base before fresh v w sees calm =
     record { quiet = sees.quiet; calm = ap (λ (b : SoleBoard). doubts_in b.log) sees.last ∙ calm }

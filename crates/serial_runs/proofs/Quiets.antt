@@ -3,17 +3,17 @@ use Rattle.std.proofs.Common.{◌≡◌, Bool, true, false, ◌||◌, List, [], 
 use Rattle.std.specs.List.{list_any}
 use Rattle.bbs_model.specs.PortView.{IsLater, PortView}
 use Rattle.bbs_model.proofs.Public.{quiet_first, quiet_second}
-use Rattle.serial_runs.specs.Quiet.{IsUndisturbed}
+use Rattle.serial_runs.specs.Quiet.{StaysCalm}
 use Rattle.bbs_board.specs.Doubts.{doubts_in}
 use Rattle.serial_runs.proofs.Calls.{doubts_both}
 
-pub alone_first : (u v w : PortView) → IsLater u v → IsLater v w → IsUndisturbed u w → IsUndisturbed u v
+pub alone_first : (u v w : PortView) → IsLater u v → IsLater v w → StaysCalm u w → StaysCalm u v
 alone_first u v w f g alone = record {
   quiet = quiet_first u v w f g alone.quiet;
   calm = omega (arith, doubts_both v.seen g.seen.0, ap doubts_in g.seen.1, alone.calm);
 }
 
-pub alone_second : (u v w : PortView) → IsLater u v → IsLater v w → IsUndisturbed u w → IsUndisturbed v w
+pub alone_second : (u v w : PortView) → IsLater u v → IsLater v w → StaysCalm u w → StaysCalm v w
 alone_second u v w f g alone = record { quiet = quiet_second u v w f g alone.quiet; calm = alone.calm }
 
 pub neither_first : (a b : Bool) → (a || b) ≡ false → a ≡ false

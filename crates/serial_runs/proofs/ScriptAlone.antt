@@ -12,7 +12,7 @@ use Rattle.bbs_model.specs.declared.item.Item.{Item}
 use Rattle.converge_laws.proofs.Public.{inside_first, inside_rest, first_or_rest}
 use Rattle.converge_round.specs.Each.{Each}
 use Rattle.convergence.specs.declared.report.Report.{Report}
-use Rattle.phase_runs.specs.Boards.{GoesOn}
+use Rattle.phase_runs.specs.Boards.{BoardGoesOn}
 use Rattle.phase_runs.specs.Reps.{reps_of}
 use Rattle.phase_runs.proofs.Public.{goes_further, goes_nowhere}
 use Rattle.program_edge.specs.Ports.{PrintsTo}
@@ -22,7 +22,7 @@ use Rattle.scenario_lines.specs.declared.answered.Answered.{Answered}
 use Rattle.scenario_lines.specs.declared.script.Phase.{Phase}
 use Rattle.scenario_lines.specs.declared.script.Script.{Script}
 use Rattle.scenario_reader.specs.Facts.{IsScript}
-use Rattle.scenario_runs.specs.Courses.{Course, PlaysPhase, beginning}
+use Rattle.scenario_runs.specs.Courses.{PlaysPhase, RunCourse, beginning}
 use Rattle.scenario_runs.specs.Plays.{PlaysWhole, run_words, Plays, PlaysCut, PlaysPart, PlaysUnsummed}
 use Rattle.serial_runs.specs.ScriptLaws.{EndsAlone, IsCutAlone, IsRunAlone}
 use Rattle.serial_runs.specs.Phases.{IsSerial, SolePhase, phase_alone}
@@ -45,19 +45,19 @@ inside_front p (x ∷ xs) ys inside = ⊎_elim
 
 module _ {D : Type 0} (told : D → Option Past) (script : Script) where
   -- a course as that of a run that is alone
-  abbrev pub course_alone : Course D → SoleCourse
+  abbrev pub course_alone : RunCourse D → SoleCourse
   course_alone s = record { actors = s.actors; board = board_at s.board; answers = s.answers; reports = s.reports; text = s.text }
 
-  pub goes_all : (ps : List Phase) (s s' : Course D) → Each (PlaysPhase told script) ps s s' → (fresh : List Item) × GoesOn told fresh s.board s'.board
-  goes_all [] s s' f = ([], subst (λ (x : Course D). GoesOn told [] s.board x.board) (sym f) (goes_nowhere told s.board))
+  pub goes_all : (ps : List Phase) (s s' : RunCourse D) → Each (PlaysPhase told script) ps s s' → (fresh : List Item) × BoardGoesOn told fresh s.board s'.board
+  goes_all [] s s' f = ([], subst (λ (x : RunCourse D). BoardGoesOn told [] s.board x.board) (sym f) (goes_nowhere told s.board))
   goes_all (p ∷ ps) s s' f =
       let rest = goes_all ps f.0 s' f.2 in
       (f.1.ran.fresh ++ rest.0, goes_further told s.board f.0.board s'.board f.1.ran.fresh rest.0 f.1.ran.goes rest.1)
 
-  calm_before : (fresh : List Item) (m w : View D) → GoesOn told fresh m w → doubts_in w.log ≡ 0 → doubts_in m.log ≡ 0
+  calm_before : (fresh : List Item) (m w : View D) → BoardGoesOn told fresh m w → doubts_in w.log ≡ 0 → doubts_in m.log ≡ 0
   calm_before fresh m w goes calm = omega (arith, doubts_both m.log fresh, ap doubts_in goes.grows, calm)
 
-  one_phase : (p : Phase) (s m : Course D) → PlaysPhase told script p s m → IsSerial p → doubts_in m.board.log ≡ 0 → AreReps (reps_of s.actors)
+  one_phase : (p : Phase) (s m : RunCourse D) → PlaysPhase told script p s m → IsSerial p → doubts_in m.board.log ≡ 0 → AreReps (reps_of s.actors)
       → course_alone m ≡ behind_phase script p (course_alone s) (phase_alone p s.actors (board_at s.board))
   one_phase p s m h serial calm are =
       let one = phase_is_alone told p s.actors m.actors h.parts h.report s.board m.board serial h.ran calm are in
@@ -67,7 +67,7 @@ module _ {D : Type 0} (told : D → Option Past) (script : Script) where
       (λ i. record { actors = m.actors; board = board_at m.board; answers = answers i; reports = reports i; text = text i })
       ∙ ap (λ (x : SolePhase). behind_phase script p (course_alone s) x) (sym one)
 
-  pub phases_all : (ps : List Phase) (s s' : Course D) → Each (PlaysPhase told script) ps s s' → ((p : Phase) → Contains ps p → IsSerial p)
+  pub phases_all : (ps : List Phase) (s s' : RunCourse D) → Each (PlaysPhase told script) ps s s' → ((p : Phase) → Contains ps p → IsSerial p)
       → doubts_in s'.board.log ≡ 0 → AreReps (reps_of s.actors) → course_alone s' ≡ phases_alone script ps (course_alone s)
   phases_all [] s s' f serial calm are = ap course_alone f
   phases_all (p ∷ ps) s s' f serial calm are =
@@ -99,10 +99,10 @@ module _ {D : Type 0} (told : D → Option Past) (script : Script) where
         ap (λ (c : SoleCourse). all_words c (length h.ran)) last_is
         ∙ ap (λ (ps : List Phase). all_words (script_alone script (board_at v)) (length ps)) (sym all_ran)
 
-    goes : (fresh : List Item) × GoesOn told fresh v w
+    goes : (fresh : List Item) × BoardGoesOn told fresh v w
     goes =
         let g = goes_all h.ran (beginning script v) h.last h.ends.first.each in
-        (g.0, subst (λ (x : View D). GoesOn told g.0 v x) (sym h.ends.board) g.1)
+        (g.0, subst (λ (x : View D). BoardGoesOn told g.0 v x) (sym h.ends.board) g.1)
 
     board_is : board_at w ≡ (script_alone script (board_at v)).board
     board_is = ap board_at h.ends.board ∙ ap (λ (c : SoleCourse). c.board) last_is
@@ -114,7 +114,7 @@ module _ {D : Type 0} (told : D → Option Past) (script : Script) where
 
     pub whole_run : IsRunAlone told script answers reports v w held held' faults faults'
     whole_run =
-        let g = subst (λ (xs : List Item). GoesOn told xs v w) items_are goes.1 in
+        let g = subst (λ (xs : List Item). BoardGoesOn told xs v w) items_are goes.1 in
         record {
           answers_are = h.ends.answers_are ∙ ap (λ (c : SoleCourse). c.answers) last_is;
           reports_are = h.ends.reports_are ∙ ap (λ (c : SoleCourse). c.reports) last_is;

@@ -17,9 +17,9 @@ use Rattle.converge_round.specs.Sendings.{WireAt}
 use Rattle.converge_round.specs.Starts.{HasNoFault, IsStartTaken, Serving, StartsOne, TakesIf, counted}
 use Rattle.converge_round.specs.Tallies.{lost_one}
 use Rattle.crash_backoff.specs.declared.moment.Moment.{Moment}
-use Rattle.phase_runs.specs.RoundMarks.{is_named, round_ends}
+use Rattle.phase_runs.specs.RoundMarks.{is_among, round_ends}
 use Rattle.scenario_lines.specs.declared.script.RoundLine.{RoundLine}
-use Rattle.serial_runs.specs.Acts.{done_alone, end_of, next_end}
+use Rattle.serial_runs.specs.Acts.{done_alone, end_alone, next_end}
 use Rattle.serial_runs.specs.Boards.{board_seen}
 use Rattle.serial_runs.specs.Rounds.{SoleStarts, sole_starts, start_alone, starts_alone, taken_by}
 use Rattle.serial_runs.proofs.CellsKept.{job_cell, todo_cell}
@@ -92,7 +92,7 @@ module _ (line : RoundLine) (by : ℕ) (now : Moment) (job : Job) (s s' : Servin
   taken_holds wire h d q =
       let quiet = subst (IsQuiet s.view) d.view_is q in
       let one = one_due by s.rep.cell ends t s.view h.answer d.m d.answer d.ended quiet h.ended in
-      let e : CallEnd = end_of t (next_end ends s.rep.cell) (board_seen s.view) in
+      let e : CallEnd = end_alone t (next_end ends s.rep.cell) (board_seen s.view) in
       let rep : s'.rep ≡ after_todo t e began = d.rep_is ∙ ap (λ (x : CallEnd). after_todo t x began) one.end_is in
       let board : board_seen s'.view ≡ done_alone t (next_end ends s.rep.cell) by (board_seen s.view) = ap board_seen d.view_is ∙ one.board in
       let tally : s'.tally ≡ counted (answer_to t e).command (answer_to t e).end s.tally =
@@ -136,7 +136,7 @@ module _ (line : RoundLine) (by : ℕ) (now : Moment) (job : Job) (s s' : Servin
   one_started : StartsOne by now job s s' → IsOf line s.wire → AreStartsAlone line by now (job ∷ []) s s'
   one_started h of =
       let sent = reached_started line s.rep.cell h.reached s.wire h.wire h.sent of in
-      let due = start_if (is_named line.lose_start s.rep.cell) h.wire sent.1 (subst (λ (b : Bool). TakesIf b by now job h.wire s s') sent.0 h.takes) in
+      let due = start_if (is_among line.lose_start s.rep.cell) h.wire sent.1 (subst (λ (b : Bool). TakesIf b by now job h.wire s s') sent.0 h.takes) in
       record { still = due.still; cell = due.cell; store = due.store; leads = due.leads }
 
 pub started_all : (line : RoundLine) (by : ℕ) (now : Moment) (jobs : List Job) (s s' : Serving) → Each (StartsOne by now) jobs s s' → IsOf line s.wire

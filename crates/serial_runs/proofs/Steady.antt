@@ -6,7 +6,7 @@ use Rattle.cell_rep.specs.declared.wire.CallKind.TheVariants.{Ask, Stop, Start}
 use Rattle.cell_rep.specs.declared.wire.Delivery.{Delivery}
 use Rattle.cell_rep.specs.declared.wire.Delivery.TheVariants.{CallLost}
 use Rattle.converge_round.specs.Sendings.{IsSent, WireAt}
-use Rattle.phase_runs.specs.RoundMarks.{end_if, end_to, is_named, round_ends}
+use Rattle.phase_runs.specs.RoundMarks.{end_if, end_to, is_among, round_ends}
 use Rattle.scenario_lines.specs.declared.script.RoundLine.{RoundLine}
 
 -- the wire is still that of the line
@@ -35,16 +35,16 @@ lost_call false = refl
 
 -- a question, a stop and a start reach the cell where the line doesn't lose them
 pub reached_asked : (line : RoundLine) (cell : List ℕ) (reached : Bool) (s s' : WireAt) → IsSent cell Ask reached s s' → IsOf line s
-    → (reached ≡ not (is_named line.lose_ask cell)) × IsOf line s'
+    → (reached ≡ not (is_among line.lose_ask cell)) × IsOf line s'
 reached_asked line cell reached s s' h of =
-    let one = steady_sent line cell Ask reached s s' h of in (one.reached_is ∙ lost_call (is_named line.lose_ask cell), one.still)
+    let one = steady_sent line cell Ask reached s s' h of in (one.reached_is ∙ lost_call (is_among line.lose_ask cell), one.still)
 
 pub reached_stopped : (line : RoundLine) (cell : List ℕ) (reached : Bool) (s s' : WireAt) → IsSent cell Stop reached s s' → IsOf line s
-    → (reached ≡ not (is_named line.lose_stop cell)) × IsOf line s'
+    → (reached ≡ not (is_among line.lose_stop cell)) × IsOf line s'
 reached_stopped line cell reached s s' h of =
-    let one = steady_sent line cell Stop reached s s' h of in (one.reached_is ∙ lost_call (is_named line.lose_stop cell), one.still)
+    let one = steady_sent line cell Stop reached s s' h of in (one.reached_is ∙ lost_call (is_among line.lose_stop cell), one.still)
 
 pub reached_started : (line : RoundLine) (cell : List ℕ) (reached : Bool) (s s' : WireAt) → IsSent cell Start reached s s' → IsOf line s
-    → (reached ≡ not (is_named line.lose_start cell)) × IsOf line s'
+    → (reached ≡ not (is_among line.lose_start cell)) × IsOf line s'
 reached_started line cell reached s s' h of =
-    let one = steady_sent line cell Start reached s s' h of in (one.reached_is ∙ lost_call (is_named line.lose_start cell), one.still)
+    let one = steady_sent line cell Start reached s s' h of in (one.reached_is ∙ lost_call (is_among line.lose_start cell), one.still)

@@ -6,7 +6,7 @@ use Rattle.cell_rep.specs.declared.rep.CellRep.{CellRep}
 use Rattle.converge_round.specs.Each.{Each}
 use Rattle.converge_round.specs.Stops.{Stopped, StopsIf, StopsOne, if_done}
 use Rattle.diego_names.specs.declared.instance.Instance.{Instance}
-use Rattle.phase_runs.specs.RoundMarks.{is_named}
+use Rattle.phase_runs.specs.RoundMarks.{is_among}
 use Rattle.scenario_lines.specs.declared.script.RoundLine.{RoundLine}
 use Rattle.serial_runs.specs.Reps.{rep_named, with_rep}
 use Rattle.serial_runs.specs.RoundLaws.{AreReps}
@@ -54,8 +54,8 @@ one_stopped line stray s s' are h of =
     let sent = reached_stopped line stray.0 h.stops.reached s.course.wire s'.course.wire h.stops.sent of in
     let stops = subst (λ (b : Bool). StopsIf b h.done stray s.course.reps s'.course.reps) sent.0 h.stops.stops in
     record {
-      same = ap (sole_stops s'.course.reps) h.stopped ∙ stopped_if (is_named line.lose_stop stray.0) h.done stray s.course.reps s'.course.reps s.stopped are stops;
-      are = reps_if (not (is_named line.lose_stop stray.0)) h.done stray s.course.reps s'.course.reps are stops;
+      same = ap (sole_stops s'.course.reps) h.stopped ∙ stopped_if (is_among line.lose_stop stray.0) h.done stray s.course.reps s'.course.reps s.stopped are stops;
+      are = reps_if (not (is_among line.lose_stop stray.0)) h.done stray s.course.reps s'.course.reps are stops;
       still = sent.1;
     }
 

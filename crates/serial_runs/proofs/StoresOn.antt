@@ -26,7 +26,7 @@ use Rattle.actor_runs.specs.Runs.{AsCell, HasActed, HasRun, IsOneActor}
 use Rattle.actor_runs.specs.Turns.{TakesTurns, Turn}
 use Rattle.actor_runs.specs.declared.actor_state.ActorState.{ActorState}
 use Rattle.actor_runs.specs.declared.actor_state.ActorState.TheVariants as actor
-use Rattle.phase_runs.specs.Actors.{AreSame}
+use Rattle.phase_runs.specs.Actors.{AreSameActors}
 use Rattle.phase_runs.specs.Reps.{reps_of}
 use Rattle.serial_runs.specs.RoundLaws.{AreReps}
 use Rattle.serial_runs.proofs.ByNumber.{at_there}
@@ -117,7 +117,7 @@ was_stored : (a : ActorState) (r : CellRep) → IsOneActor a (actor.Cell r) → 
 was_stored (actor.Client name) r one xs k at are = absurd one
 was_stored (actor.Cell q) r one xs k at are = are.stores q (rep_inside xs k q at)
 
-pub same_reps : (xs ys : List ActorState) → AreSame xs ys → AreReps (reps_of xs)
+pub same_reps : (xs ys : List ActorState) → AreSameActors xs ys → AreReps (reps_of xs)
     → ((k : ℕ) (a a' : ActorState) → slice_get xs k ≡ Some a → slice_get ys k ≡ Some a' → ActorHasStore a → ActorHasStore a') → AreReps (reps_of ys)
 same_reps xs ys same are keeps = record {
   apart = subst StandApart (sym (names_same xs ys same.length_is same.one)) are.apart;

@@ -17,21 +17,21 @@ use Rattle.scenario_lines.specs.declared.act.Loss.{Loss}
 use Rattle.scenario_lines.specs.declared.answered.Answered.{Answered}
 use Rattle.actor_runs.specs.Marks.{delivery_under, ends_under}
 use Rattle.actor_runs.specs.Runs.{AsCell, HasActed, HasAsked, HasRun, is_any_starved, is_starved_end}
-use Rattle.actor_runs.specs.Turns.{TakesTurns, Turn, answered, is_any_unfed}
+use Rattle.actor_runs.specs.Turns.{TakesTurns, Turn, is_any_unfed, line_answer}
 use Rattle.actor_runs.specs.declared.actor_state.ActorState.{ActorState}
 use Rattle.actor_runs.specs.declared.actor_state.ActorState.TheVariants as actor
 use Rattle.serial_runs.specs.ActLaws.{LeadsAs}
 use Rattle.serial_runs.specs.Acts.{SoleRep, act_alone, evacuate_alone}
 use Rattle.serial_runs.specs.Boards.{board_seen}
-use Rattle.serial_runs.specs.Quiet.{IsUndisturbed}
-use Rattle.serial_runs.specs.Turns.{SoleRun, ask_alone, behind_run, rep_under, run_alone, run_of, sole_actor, sole_run, turns_alone}
+use Rattle.serial_runs.specs.Quiet.{StaysCalm}
+use Rattle.serial_runs.specs.Turns.{SoleRun, ask_alone, behind_run, rep_run, rep_under, run_alone, sole_actor, sole_run, turns_alone}
 use Rattle.serial_runs.proofs.ActsAlone.{acted_alone, evacuated_alone, later_evacuated, later_performed}
 use Rattle.serial_runs.proofs.Delivered.{later_delivered, sent_alone}
 use Rattle.serial_runs.proofs.Quiets.{alone_first, alone_second, neither_first, none_first, none_mapped, none_second}
 
 -- a client asked once
 asked_alone : (by : ℕ) (c : Command) (mark : Option Loss) (name : List ℕ) (a' : ActorState) (v w : PortView) (new : List Called) → a' ≡ actor.Client name
-    → HasAsked by c mark v w new → IsUndisturbed v w → is_any_starved new ≡ false → ask_alone by c mark name (board_seen v) ≡ sole_run a' (board_seen w) new
+    → HasAsked by c mark v w new → StaysCalm v w → is_any_starved new ≡ false → ask_alone by c mark name (board_seen v) ≡ sole_run a' (board_seen w) new
 asked_alone by c mark name a' v w new is h alone fed =
     let fed_one : is_starved_end h.end ≡ false = neither_first (is_starved_end h.end) false (sym (ap is_any_starved h.new_is) ∙ fed) in
     let one = sent_alone by v c w alone (delivery_under mark) h.end h.fits_mark h.delivered fed_one in
@@ -41,8 +41,8 @@ asked_alone by c mark name a' v w new is h alone fed =
 
 -- a rep did what one does alone
 ran_alone : (Does : Stage → Stage → Type 0) (alone_by : SoleRep → SoleRep) → LeadsAs Does alone_by → (mark : Option Loss) (rep rep' : CellRep) (v w : PortView) (new : List Called)
-    → HasActed Does mark rep rep' v w new → IsUndisturbed v w → is_any_starved new ≡ false
-    → run_of (alone_by (rep_under mark rep (board_seen v))) ≡ sole_run (actor.Cell rep') (board_seen w) new
+    → HasActed Does mark rep rep' v w new → StaysCalm v w → is_any_starved new ≡ false
+    → rep_run (alone_by (rep_under mark rep (board_seen v))) ≡ sole_run (actor.Cell rep') (board_seen w) new
 ran_alone Does alone_by leads mark rep rep' v w new h alone fed =
     let there = leads (stage rep v (ends_under mark) 0 []) (stage rep' w h.ends h.losses new) (rep_under mark rep (board_seen v)) h.does
     (record { rep_is = refl; board = refl; ends_are = refl; out_is = refl }) alone fed in
@@ -50,13 +50,13 @@ ran_alone Does alone_by leads mark rep rep' v w new h alone fed =
 
 -- the same of a cell that came to be so
 cell_alone : (Does : Stage → Stage → Type 0) (alone_by : SoleRep → SoleRep) → LeadsAs Does alone_by → (mark : Option Loss) (rep : CellRep) (a' : ActorState) (v w : PortView) (new : List Called)
-    → AsCell a' (λ rep'. HasActed Does mark rep rep' v w new) → IsUndisturbed v w → is_any_starved new ≡ false
-    → run_of (alone_by (rep_under mark rep (board_seen v))) ≡ sole_run a' (board_seen w) new
+    → AsCell a' (λ rep'. HasActed Does mark rep rep' v w new) → StaysCalm v w → is_any_starved new ≡ false
+    → rep_run (alone_by (rep_under mark rep (board_seen v))) ≡ sole_run a' (board_seen w) new
 cell_alone Does alone_by leads mark rep (actor.Client name) v w new h alone fed = absurd h
 cell_alone Does alone_by leads mark rep (actor.Cell rep') v w new h alone fed = ran_alone Does alone_by leads mark rep rep' v w new h alone fed
 
 pub run_is_alone : (by : ℕ) (now : Moment) (act : Act) (mark : Option Loss) (a a' : ActorState) (v w : PortView) (new : List Called)
-    → HasRun by now act mark a a' v w new → IsUndisturbed v w → is_any_starved new ≡ false
+    → HasRun by now act mark a a' v w new → StaysCalm v w → is_any_starved new ≡ false
     → run_alone by now act mark a (board_seen v) ≡ sole_run a' (board_seen w) new
 run_is_alone by now (act.Client op) mark (actor.Client name) a' v w new h alone fed = asked_alone by (at now op) mark name a' v w new h.0 h.1 alone fed
 run_is_alone by now (act.Client op) mark (actor.Cell rep) a' v w new h alone fed = absurd h
@@ -93,22 +93,22 @@ abbrev is_unfed : Answered → Bool
 is_unfed x = is_starved_end x.end
 
 turned_alone : (by : ℕ) (now : Moment) (ts : List Turn) (a a' : ActorState) (v w : PortView) (out new : List Answered)
-    → TakesTurns by now ts a v new a' w → IsUndisturbed v w → is_any_unfed new ≡ false
+    → TakesTurns by now ts a v new a' w → StaysCalm v w → is_any_unfed new ≡ false
     → turns_alone by now ts (sole_actor a (board_seen v) out) ≡ sole_actor a' (board_seen w) (out ++ new)
 turned_alone by now [] a a' v w out new f alone fed =
     λ i. sole_actor (sym f.1.0 i) (board_seen (sym f.1.1 i)) ((sym (append-nil out) ∙ ap (λ (xs : List Answered). out ++ xs) (sym f.0)) i)
 turned_alone by now (t ∷ ts) a a' v w out new f alone fed =
-    let first : List Answered = map (answered by t.line) f.0 in
+    let first : List Answered = map (line_answer by t.line) f.0 in
     let one_later = later_run by now t.act t.mark a f.2 v f.3 f.0 f.5 in
     let rest_later = later_turns by now ts f.2 a' f.3 w f.1 f.6 in
     let none = sym (ap is_any_unfed f.4) ∙ fed in
     let one = run_is_alone by now t.act t.mark a f.2 v f.3 f.0 f.5 (alone_first v f.3 w one_later rest_later alone)
-    (sym (none_mapped (answered by t.line) is_unfed f.0) ∙ none_first is_unfed first f.1 none) in
+    (sym (none_mapped (line_answer by t.line) is_unfed f.0) ∙ none_first is_unfed first f.1 none) in
     ap (λ (r : SoleRun). turns_alone by now ts (behind_run by t.line out r)) one
     ∙ turned_alone by now ts f.2 a' f.3 w (out ++ first) f.1 f.6 (alone_second v f.3 w one_later rest_later alone) (none_second is_unfed first f.1 none)
     ∙ ap (λ (xs : List Answered). sole_actor a' (board_seen w) xs) (append_assoc out first f.1 ∙ ap (λ (xs : List Answered). out ++ xs) (sym f.4))
 
 pub turns_are_alone : (by : ℕ) (now : Moment) (ts : List Turn) (a a' : ActorState) (v w : PortView) (new : List Answered)
-    → TakesTurns by now ts a v new a' w → IsUndisturbed v w → is_any_unfed new ≡ false
+    → TakesTurns by now ts a v new a' w → StaysCalm v w → is_any_unfed new ≡ false
     → turns_alone by now ts (sole_actor a (board_seen v) []) ≡ sole_actor a' (board_seen w) new
 turns_are_alone by now ts a a' v w new f alone fed = turned_alone by now ts a a' v w [] new f alone fed

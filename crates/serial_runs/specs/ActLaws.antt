@@ -11,7 +11,7 @@ use Rattle.evacuation.specs.Evacuation.{Evacuates}
 use Rattle.actor_runs.specs.Runs.{is_any_starved}
 use Rattle.serial_runs.specs.Acts.{SoleRep, act_alone, evacuate_alone}
 use Rattle.serial_runs.specs.Boards.{board_seen}
-use Rattle.serial_runs.specs.Quiet.{IsUndisturbed}
+use Rattle.serial_runs.specs.Quiet.{StaysCalm}
 
 -- the rep, what it has seen of the board, what the wire tells and the answers are those of a rep that is alone
 pub record IsAsAlone (x : SoleRep) (rep : CellRep) (v : PortView) (ends : Option WireEnds) (out : List Called) : Type 0 where
@@ -26,7 +26,7 @@ AgreesWith s x = IsAsAlone x s.rep s.view s.ends s.out
 
 -- what leads from one stage to another is what that function does, where no call wants memory
 abbrev pub LeadsAs : (Stage → Stage → Type 0) → (SoleRep → SoleRep) → Type 0
-LeadsAs Does alone = (s s' : Stage) (x : SoleRep) → Does s s' → AgreesWith s x → IsUndisturbed s.view s'.view →
+LeadsAs Does alone = (s s' : Stage) (x : SoleRep) → Does s s' → AgreesWith s x → StaysCalm s.view s'.view →
     is_any_starved s'.out ≡ false → AgreesWith s' (alone x)
 
 -- so does each act

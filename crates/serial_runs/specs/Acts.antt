@@ -29,10 +29,10 @@ abbrev pub next_end : WireEnds → List ℕ → Delivery
 next_end ends actor = ends (record { actor = actor; kind = Board }) 0
 
 -- how it ends, if it is done now
-abbrev pub end_of : Todo → Delivery → SoleBoard → CallEnd
-end_of (Call c) d b = end_under d (reply_alone b c)
-end_of Idle d b = end.Idle
-end_of (Local why) d b = end.Local why
+abbrev pub end_alone : Todo → Delivery → SoleBoard → CallEnd
+end_alone (Call c) d b = end_under d (reply_alone b c)
+end_alone Idle d b = end.Idle
+end_alone (Local why) d b = end.Local why
 
 -- the board after it
 abbrev pub done_alone : Todo → Delivery → ℕ → SoleBoard → SoleBoard
@@ -57,7 +57,7 @@ after_end t e d by s = record {
 
 -- one thing is done
 abbrev pub todo_alone : ℕ → List ℕ → Todo → SoleRep → SoleRep
-todo_alone by actor t s = after_end t (end_of t (next_end s.ends actor) s.board) (next_end s.ends actor) by s
+todo_alone by actor t s = after_end t (end_alone t (next_end s.ends actor) s.board) (next_end s.ends actor) by s
 
 -- all of them are done in order
 abbrev pub todos_alone : ℕ → List ℕ → List Todo → SoleRep → SoleRep
@@ -74,7 +74,7 @@ draining_todo now s = drain_todo now s.rep.cell s.rep.joined
 
 -- how that ends
 abbrev pub drain_end : Moment → SoleRep → CallEnd
-drain_end now s = end_of (draining_todo now s) (next_end s.ends s.rep.cell) s.board
+drain_end now s = end_alone (draining_todo now s) (next_end s.ends s.rep.cell) s.board
 
 -- an evacuation: the drain, and then the settle, if the board agreed to the drain
 abbrev pub evacuate_alone : ℕ → Moment → SoleRep → SoleRep

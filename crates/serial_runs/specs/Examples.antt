@@ -55,12 +55,12 @@ abbrev pub round_at : ℕ → ℕ → Phase
 round_at moment number = round_losing moment number []
 
 -- a cell joins
-abbrev pub join : List ℕ → ℕ → Act
-join zone ttl = act.Cell (cell.Join zone None (record { memory = 1024; disk = 4096; containers = 10 }) ttl)
+abbrev pub join_act : List ℕ → ℕ → Act
+join_act zone ttl = act.Cell (cell.Join zone None (record { memory = 1024; disk = 4096; containers = 10 }) ttl)
 
 -- a client desires so many instances
-abbrev pub desire : ℕ → Option (List ℕ) → Act
-desire instances tag = act.Client (op.Desire (record {
+abbrev pub desire_act : ℕ → Option (List ℕ) → Act
+desire_act instances tag = act.Client (op.Desire (record {
   process = codes "web";
   domain = codes "apps";
   instances = instances;
@@ -84,12 +84,12 @@ abbrev pub run : ℕ → Act
 run disk = act.Cell (cell.Run first_web 64 disk)
 
 -- a client asks for a task
-abbrev pub new_task : List ℕ → Act
-new_task name = act.Client (op.NewTask name 64 64 None)
+abbrev pub task_act : List ℕ → Act
+task_act name = act.Client (op.NewTask name 64 64 None)
 
 -- a run on an empty board prints these pieces of a text, joined
-abbrev pub Prints : Script → List (List ℕ) → Type 0
-Prints script pieces = words_alone script empty ≡ flat_map (λ piece. piece) pieces
+abbrev pub PrintsPieces : Script → List (List ℕ) → Type 0
+PrintsPieces script pieces = words_alone script empty ≡ flat_map (λ piece. piece) pieces
 
 -- a run on an empty board writes these payloads behind what the disk reads
 abbrev pub Writes : Script → List (List ℕ) → Type 0

@@ -9,7 +9,7 @@ use Rattle.serial_runs.specs.Boards.{board_seen, board_after, reply_alone}
 use Rattle.bbs_board.specs.Doubts.{doubts_in}
 
 -- between the two nobody else called, and nothing that is seen in the end is in doubt
-pub record IsUndisturbed (v w : PortView) : Type 0 where
+pub record StaysCalm (v w : PortView) : Type 0 where
   pub quiet : IsQuiet v w
   pub calm : doubts_in w.seen ≡ 0
 
@@ -21,4 +21,4 @@ pub record IsCallAlone (by : ℕ) (v : PortView) (c : Command) (end : Result Rep
 -- so does each call
 abbrev pub CallsAreAlone : Type 0
 CallsAreAlone = (by : ℕ) (v : PortView) (c : Command) (end : Result Reply CallFault) (w : PortView) →
-    IsCalled by v c end w → IsUndisturbed v w → is_starved end ≡ false → IsCallAlone by v c end w
+    IsCalled by v c end w → StaysCalm v w → is_starved end ≡ false → IsCallAlone by v c end w

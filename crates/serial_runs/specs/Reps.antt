@@ -17,5 +17,5 @@ with_rep [] cell rep = []
 with_rep (r ∷ rs) cell rep = if same_name r.cell cell then rep ∷ rs else r ∷ with_rep rs cell rep
 
 -- what that cell answers under an epoch, if its rep does
-abbrev pub answer_from : List CellRep → List ℕ → ℕ → Option Answer
-answer_from reps cell epoch = answer_under epoch (option_and_then answer_of (rep_named reps cell))
+abbrev pub rep_answer : List CellRep → List ℕ → ℕ → Option Answer
+rep_answer reps cell epoch = answer_under epoch (option_and_then answer_of (rep_named reps cell))

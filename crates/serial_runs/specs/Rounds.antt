@@ -20,15 +20,15 @@ use Rattle.converge_round.specs.Tallies.{lost_one, noted}
 use Rattle.converge_round.specs.declared.tally.Tally.{Tally}
 use Rattle.crash_backoff.specs.declared.moment.Moment.{Moment}
 use Rattle.diego_names.specs.declared.instance.Instance.{Instance}
-use Rattle.phase_runs.specs.RoundMarks.{end_to, is_named, round_ends}
+use Rattle.phase_runs.specs.RoundMarks.{end_to, is_among, round_ends}
 use Rattle.scenario_lines.specs.declared.script.RoundLine.{RoundLine}
-use Rattle.serial_runs.specs.Acts.{SoleRep, end_of, todo_alone}
+use Rattle.serial_runs.specs.Acts.{SoleRep, end_alone, todo_alone}
 use Rattle.serial_runs.specs.Boards.{SoleBoard, board_after, reply_alone}
-use Rattle.serial_runs.specs.Reps.{answer_from, rep_named, with_rep}
+use Rattle.serial_runs.specs.Reps.{rep_answer, rep_named, with_rep}
 
 -- what a cell answers, unless the line loses its question
 abbrev pub asked_alone : RoundLine → List CellRep → CellRow → Option Answer
-asked_alone line reps c = if is_named line.lose_ask c.cell then None else answer_from reps c.cell c.epoch
+asked_alone line reps c = if is_among line.lose_ask c.cell then None else rep_answer reps c.cell c.epoch
 
 -- what the cells answer that are present by these rows
 abbrev pub got_alone : RoundLine → List CellRep → Rows → Moment → List Answer
@@ -68,7 +68,7 @@ given_up stray s (Some rep) = sole_stops (with_rep s.reps stray.0 (without rep s
 
 -- a stray is stopped, unless the line loses its stop
 abbrev pub stop_alone : RoundLine → List ℕ × Instance → SoleStops → SoleStops
-stop_alone line stray s = if is_named line.lose_stop stray.0 then s else given_up stray s (rep_named s.reps stray.0)
+stop_alone line stray s = if is_among line.lose_stop stray.0 then s else given_up stray s (rep_named s.reps stray.0)
 
 -- strays are stopped in order
 abbrev pub stops_alone : RoundLine → List (List ℕ × Instance) → SoleStops → SoleStops
@@ -77,7 +77,7 @@ stops_alone line (stray ∷ rest) s = stops_alone line rest (stop_alone line str
 
 -- what a cell that answered has now; one that is being emptied is left out
 abbrev pub roomy_one : Rows → List CellRep → Answer → Option Answer
-roomy_one rows reps x = if is_being_emptied rows x.cell then None else answer_from reps x.cell x.epoch
+roomy_one rows reps x = if is_being_emptied rows x.cell then None else rep_answer reps x.cell x.epoch
 
 -- the cells that jobs may go to, with what they have now
 abbrev pub roomy_alone : Rows → List CellRep → List Answer → List Answer
@@ -102,13 +102,13 @@ rep_starting line job rep board =
 abbrev pub taken_by : RoundLine → ℕ → Job → Todo → SoleStarts → SoleStarts
 taken_by line by job t s =
     let after = todo_alone by s.rep.cell t (rep_starting line job s.rep s.board) in
-    let answer = answer_to t (end_of t (end_to line s.rep.cell Board) s.board) in
+    let answer = answer_to t (end_alone t (end_to line s.rep.cell Board) s.board) in
     sole_starts after.rep after.board (counted answer.command answer.end s.tally)
 
 -- a job is started on a rep, unless the line loses its start
 abbrev pub start_alone : RoundLine → ℕ → Moment → Job → SoleStarts → SoleStarts
 start_alone line by now job s =
-    if is_named line.lose_start s.rep.cell then record s { tally = lost_one s.tally }
+    if is_among line.lose_start s.rep.cell then record s { tally = lost_one s.tally }
     else taken_by line by job (job_todo job now s.rep.cell s.rep.joined) s
 
 -- jobs are started in order

@@ -14,7 +14,7 @@ use Rattle.scenario_lines.specs.declared.answered.Answered.{Answered}
 use Rattle.scenario_lines.specs.declared.script.Phase.{Phase}
 use Rattle.scenario_lines.specs.declared.script.Script.{Script}
 use Rattle.actor_runs.specs.declared.actor_state.ActorState.{ActorState}
-use Rattle.scenario_runs.specs.Actors.{actors_of}
+use Rattle.scenario_runs.specs.Actors.{starting_actors}
 use Rattle.scenario_runs.specs.Courses.{events_from}
 use Rattle.serial_runs.specs.Boards.{SoleBoard, rows_on}
 use Rattle.serial_runs.specs.Phases.{IsSerial, SolePhase, phase_alone}
@@ -37,7 +37,7 @@ pub record SoleCourse : Type 0 where
 
 -- as a scenario begins on a board
 abbrev pub begun_alone : Script → SoleBoard → SoleCourse
-begun_alone script b = record { actors = actors_of script.actors; board = b; answers = []; reports = []; text = [] }
+begun_alone script b = record { actors = starting_actors script.actors; board = b; answers = []; reports = []; text = [] }
 
 -- what is told of a phase on a board
 abbrev pub told_alone : Script → Phase → SoleBoard → SolePhase → List ℕ

@@ -11,7 +11,7 @@ use Rattle.scenario_lines.specs.declared.act.Loss.{Loss}
 use Rattle.scenario_lines.specs.declared.answered.Answered.{Answered}
 use Rattle.scenario_lines.specs.declared.script.Line.{Line}
 use Rattle.actor_runs.specs.Marks.{delivery_under, ends_from}
-use Rattle.actor_runs.specs.Turns.{Turn, answered, turns_in}
+use Rattle.actor_runs.specs.Turns.{Turn, line_answer, turns_in}
 use Rattle.actor_runs.specs.declared.actor_state.ActorState.{ActorState}
 use Rattle.actor_runs.specs.declared.actor_state.ActorState.TheVariants as actor
 use Rattle.serial_runs.specs.Acts.{SoleRep, act_alone, evacuate_alone}
@@ -38,17 +38,17 @@ abbrev pub rep_under : Option Loss → CellRep → SoleBoard → SoleRep
 rep_under mark rep b = record { rep = rep; board = b; ends = ends_from (delivery_under mark); out = [] }
 
 -- what a rep did in a run
-abbrev pub run_of : SoleRep → SoleRun
-run_of s = sole_run (actor.Cell s.rep) s.board s.out
+abbrev pub rep_run : SoleRep → SoleRun
+rep_run s = sole_run (actor.Cell s.rep) s.board s.out
 
 -- one run of an act: a client asks and a cell acts, and nobody does what isn't its to do
 abbrev pub run_alone : ℕ → Moment → Act → Option Loss → ActorState → SoleBoard → SoleRun
 run_alone by now (act.Client op) mark (actor.Client name) b = ask_alone by (at now op) mark name b
 run_alone by now (act.Client op) mark (actor.Cell rep) b = sole_run (actor.Cell rep) b []
 run_alone by now (act.Cell a) mark (actor.Client name) b = sole_run (actor.Client name) b []
-run_alone by now (act.Cell a) mark (actor.Cell rep) b = run_of (act_alone by a now (rep_under mark rep b))
+run_alone by now (act.Cell a) mark (actor.Cell rep) b = rep_run (act_alone by a now (rep_under mark rep b))
 run_alone by now act.Evacuate mark (actor.Client name) b = sole_run (actor.Client name) b []
-run_alone by now act.Evacuate mark (actor.Cell rep) b = run_of (evacuate_alone by now (rep_under mark rep b))
+run_alone by now act.Evacuate mark (actor.Cell rep) b = rep_run (evacuate_alone by now (rep_under mark rep b))
 
 -- an actor, the board that it alone calls, and its answers so far
 pub record SoleActor : Type 0 where
@@ -62,7 +62,7 @@ sole_actor a b out = record { actor = a; board = b; out = out }
 
 -- an actor after a run to a line, whose answers stand behind the others
 abbrev pub behind_run : ℕ → ℕ → List Answered → SoleRun → SoleActor
-behind_run by line out r = sole_actor r.actor r.board (out ++ map (answered by line) r.calls)
+behind_run by line out r = sole_actor r.actor r.board (out ++ map (line_answer by line) r.calls)
 
 -- one run more
 abbrev pub turn_alone : ℕ → Moment → Turn → SoleActor → SoleActor

@@ -5,14 +5,14 @@ use Rattle.cell_rep.specs.declared.cell_act.CellAct.TheVariants as cell
 use Rattle.scenario_lines.specs.declared.act.Act.TheVariants as act
 use Rattle.scenario_lines.specs.declared.act.Loss.TheVariants as loss
 use Rattle.scenario_lines.specs.declared.script.Script.{Script}
-use Rattle.serial_runs.specs.Examples.{Prints, cell_named, claim, client_named, desire, join, line, lines_at, new_task, one_line, round_at, run}
+use Rattle.serial_runs.specs.Examples.{PrintsPieces, cell_named, claim, client_named, desire_act, join_act, line, lines_at, one_line, round_at, run, task_act}
 
 -- a claim that is lost on the way
 abbrev pub lost_claim : Script
 lost_claim = record {
   actors = cell_named (codes "c1") ∷ [];
   phases =
-      one_line 0 2 1 (join (codes "z1") 600)
+      one_line 0 2 1 (join_act (codes "z1") 600)
       ∷ lines_at 1 (line 4 1 (claim 64) (Some loss.Call) 1 ∷ [])
       ∷ round_at 2 6
       ∷ [];
@@ -20,7 +20,7 @@ lost_claim = record {
 
 -- what is printed of it
 abbrev pub LostClaim : Type 0
-LostClaim = Prints lost_claim (
+LostClaim = PrintsPieces lost_claim (
     codes "{\"actor\":\"c1\",\"answer\":\"ok\",\"call\":\"join\",\"line\":2,\"subject\":\"c1\"}\n"
     ∷ codes "{\"event\":\"created\",\"row\":{\"cell\":\"c1\",\"containers\":10,\"disk\":4096,\"epoch\":0,"
     ∷ codes "\"evacuating\":false,\"memory\":1024,\"tag\":null,\"until\":600,\"zone\":\"z1\"},\"table\":\"cell\"}\n"
@@ -35,9 +35,9 @@ abbrev pub takeover : Script
 takeover = record {
   actors = cell_named (codes "c1") ∷ cell_named (codes "c2") ∷ client_named (codes "cli") ∷ [];
   phases =
-      one_line 0 2 1 (join (codes "z1") 600)
-      ∷ one_line 0 4 2 (join (codes "z2") 600)
-      ∷ one_line 0 6 3 (desire 1 (Some (codes "gpu")))
+      one_line 0 2 1 (join_act (codes "z1") 600)
+      ∷ one_line 0 4 2 (join_act (codes "z2") 600)
+      ∷ one_line 0 6 3 (desire_act 1 (Some (codes "gpu")))
       ∷ round_at 1 8
       ∷ lines_at 2 (line 10 1 (claim 128) (Some loss.Reply) 2 ∷ [])
       ∷ one_line 3 12 2 (claim 128)
@@ -48,7 +48,7 @@ takeover = record {
 
 -- what is printed of it
 abbrev pub Takeover : Type 0
-Takeover = Prints takeover (
+Takeover = PrintsPieces takeover (
     codes "{\"actor\":\"c1\",\"answer\":\"ok\",\"call\":\"join\",\"line\":2,\"subject\":\"c1\"}\n"
     ∷ codes "{\"event\":\"created\",\"row\":{\"cell\":\"c1\",\"containers\":10,\"disk\":4096,\"epoch\":0,"
     ∷ codes "\"evacuating\":false,\"memory\":1024,\"tag\":null,\"until\":600,\"zone\":\"z1\"},\"table\":\"cell\"}\n"
@@ -87,21 +87,21 @@ abbrev pub one_task : Script
 one_task = record {
   actors = cell_named (codes "c1") ∷ client_named (codes "cli") ∷ [];
   phases =
-      one_line 0 2 1 (join (codes "z1") 600)
-      ∷ one_line 0 4 2 (new_task (codes "job"))
+      one_line 0 2 1 (join_act (codes "z1") 600)
+      ∷ one_line 0 4 2 (task_act (codes "job"))
       ∷ round_at 1 6
       ∷ lines_at 9 (line 8 1 (act.Cell (cell.Finish (codes "job") false)) (Some loss.Reply) 2 ∷ [])
       ∷ lines_at 10 (
       line 10 2 (act.Client (op.ResolveTask (codes "job"))) None 1
       ∷ line 11 2 (act.Client (op.DeleteTask (codes "job"))) None 1
-      ∷ line 12 2 (new_task (codes "job")) None 1
+      ∷ line 12 2 (task_act (codes "job")) None 1
       ∷ [])
       ∷ [];
 }
 
 -- what is printed of it
 abbrev pub OneTask : Type 0
-OneTask = Prints one_task (
+OneTask = PrintsPieces one_task (
     codes "{\"actor\":\"c1\",\"answer\":\"ok\",\"call\":\"join\",\"line\":2,\"subject\":\"c1\"}\n"
     ∷ codes "{\"event\":\"created\",\"row\":{\"cell\":\"c1\",\"containers\":10,\"disk\":4096,\"epoch\":0,"
     ∷ codes "\"evacuating\":false,\"memory\":1024,\"tag\":null,\"until\":600,\"zone\":\"z1\"},\"table\":\"cell\"}\n"

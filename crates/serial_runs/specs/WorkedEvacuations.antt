@@ -3,14 +3,14 @@ use Rattle.std.specs.Prelude.{[], ◌∷◌, codes, None}
 use Rattle.cell_rep.specs.declared.cell_act.CellAct.TheVariants as cell
 use Rattle.scenario_lines.specs.declared.act.Act.TheVariants as act
 use Rattle.scenario_lines.specs.declared.script.Script.{Script}
-use Rattle.serial_runs.specs.Examples.{Prints, cell_named, client_named, desire, join, one_line, round_at}
+use Rattle.serial_runs.specs.Examples.{PrintsPieces, cell_named, client_named, desire_act, join_act, one_line, round_at}
 
 -- a cell without containers is emptied, twice
 abbrev pub nothing_to_move : Script
 nothing_to_move = record {
   actors = cell_named (codes "c1") ∷ [];
   phases =
-      one_line 0 2 1 (join (codes "z1") 600)
+      one_line 0 2 1 (join_act (codes "z1") 600)
       ∷ one_line 1 4 1 act.Evacuate
       ∷ one_line 2 6 1 act.Evacuate
       ∷ [];
@@ -18,7 +18,7 @@ nothing_to_move = record {
 
 -- what is printed of it
 abbrev pub NothingToMove : Type 0
-NothingToMove = Prints nothing_to_move (
+NothingToMove = PrintsPieces nothing_to_move (
     codes "{\"actor\":\"c1\",\"answer\":\"ok\",\"call\":\"join\",\"line\":2,\"subject\":\"c1\"}\n"
     ∷ codes "{\"event\":\"created\",\"row\":{\"cell\":\"c1\",\"containers\":10,\"disk\":4096,\"epoch\":0,"
     ∷ codes "\"evacuating\":false,\"memory\":1024,\"tag\":null,\"until\":600,\"zone\":\"z1\"},\"table\":\"cell\"}\n"
@@ -36,13 +36,13 @@ abbrev pub evacuation : Script
 evacuation = record {
   actors = cell_named (codes "c1") ∷ client_named (codes "cli") ∷ cell_named (codes "c2") ∷ [];
   phases =
-      one_line 0 2 1 (join (codes "z1") 600)
-      ∷ one_line 0 4 2 (desire 1 None)
+      one_line 0 2 1 (join_act (codes "z1") 600)
+      ∷ one_line 0 4 2 (desire_act 1 None)
       ∷ round_at 1 6
       ∷ one_line 2 8 1 (act.Cell (cell.Up None))
       ∷ one_line 3 10 1 act.Evacuate
       ∷ round_at 4 12
-      ∷ one_line 5 14 3 (join (codes "z2") 600)
+      ∷ one_line 5 14 3 (join_act (codes "z2") 600)
       ∷ round_at 6 16
       ∷ one_line 7 18 3 (act.Cell (cell.Up None))
       ∷ round_at 8 20
@@ -51,7 +51,7 @@ evacuation = record {
 
 -- what is printed of it
 abbrev pub Evacuation : Type 0
-Evacuation = Prints evacuation (
+Evacuation = PrintsPieces evacuation (
     codes "{\"actor\":\"c1\",\"answer\":\"ok\",\"call\":\"join\",\"line\":2,\"subject\":\"c1\"}\n"
     ∷ codes "{\"event\":\"created\",\"row\":{\"cell\":\"c1\",\"containers\":10,\"disk\":4096,\"epoch\":0,"
     ∷ codes "\"evacuating\":false,\"memory\":1024,\"tag\":null,\"until\":600,\"zone\":\"z1\"},\"table\":\"cell\"}\n"

@@ -1,18 +1,18 @@
 -- Scenarios of rounds that were worked out by hand, with all that they print on an empty board.
 use Rattle.std.specs.Prelude.{[], ◌∷◌, codes, None}
 use Rattle.scenario_lines.specs.declared.script.Script.{Script}
-use Rattle.serial_runs.specs.Examples.{Prints, Writes, cell_named, client_named, desire, join, line, lines_at, one_line, round_at, round_losing}
+use Rattle.serial_runs.specs.Examples.{PrintsPieces, Writes, cell_named, client_named, desire_act, join_act, line, lines_at, one_line, round_at, round_losing}
 
 -- a desire, twice
 abbrev pub same_desire : Script
 same_desire = record {
   actors = client_named (codes "cli") ∷ [];
-  phases = lines_at 0 (line 2 1 (desire 3 None) None 1 ∷ line 3 1 (desire 3 None) None 1 ∷ []) ∷ [];
+  phases = lines_at 0 (line 2 1 (desire_act 3 None) None 1 ∷ line 3 1 (desire_act 3 None) None 1 ∷ []) ∷ [];
 }
 
 -- what is printed of it
 abbrev pub SameDesire : Type 0
-SameDesire = Prints same_desire (
+SameDesire = PrintsPieces same_desire (
     codes "{\"actor\":\"cli\",\"answer\":\"ok\",\"call\":\"desire\",\"line\":2,\"subject\":\"web\"}\n"
     ∷ codes "{\"actor\":\"cli\",\"answer\":\"refused\",\"call\":\"desire\",\"line\":3,\"subject\":\"web\","
     ∷ codes "\"why\":\"exists\"}\n"
@@ -26,16 +26,16 @@ abbrev pub three_instances : Script
 three_instances = record {
   actors = cell_named (codes "c1") ∷ cell_named (codes "c2") ∷ client_named (codes "cli") ∷ [];
   phases =
-      one_line 0 2 1 (join (codes "z1") 600)
-      ∷ one_line 0 4 2 (join (codes "z2") 600)
-      ∷ one_line 0 6 3 (desire 3 None)
+      one_line 0 2 1 (join_act (codes "z1") 600)
+      ∷ one_line 0 4 2 (join_act (codes "z2") 600)
+      ∷ one_line 0 6 3 (desire_act 3 None)
       ∷ round_at 1 8
       ∷ [];
 }
 
 -- what is printed of it
 abbrev pub ThreeInstances : Type 0
-ThreeInstances = Prints three_instances (
+ThreeInstances = PrintsPieces three_instances (
     codes "{\"actor\":\"c1\",\"answer\":\"ok\",\"call\":\"join\",\"line\":2,\"subject\":\"c1\"}\n"
     ∷ codes "{\"event\":\"created\",\"row\":{\"cell\":\"c1\",\"containers\":10,\"disk\":4096,\"epoch\":0,"
     ∷ codes "\"evacuating\":false,\"memory\":1024,\"tag\":null,\"until\":600,\"zone\":\"z1\"},\"table\":\"cell\"}\n"
@@ -73,9 +73,9 @@ abbrev pub ended_lease : Script
 ended_lease = record {
   actors = cell_named (codes "c1") ∷ cell_named (codes "c2") ∷ client_named (codes "cli") ∷ [];
   phases =
-      one_line 0 2 1 (join (codes "z1") 600)
-      ∷ one_line 0 4 2 (join (codes "z2") 3600)
-      ∷ one_line 0 6 3 (desire 1 None)
+      one_line 0 2 1 (join_act (codes "z1") 600)
+      ∷ one_line 0 4 2 (join_act (codes "z2") 3600)
+      ∷ one_line 0 6 3 (desire_act 1 None)
       ∷ round_at 1 8
       ∷ round_losing 10 10 (codes "c1" ∷ [])
       ∷ round_at 600 12
@@ -84,7 +84,7 @@ ended_lease = record {
 
 -- what is printed of it
 abbrev pub EndedLease : Type 0
-EndedLease = Prints ended_lease (
+EndedLease = PrintsPieces ended_lease (
     codes "{\"actor\":\"c1\",\"answer\":\"ok\",\"call\":\"join\",\"line\":2,\"subject\":\"c1\"}\n"
     ∷ codes "{\"event\":\"created\",\"row\":{\"cell\":\"c1\",\"containers\":10,\"disk\":4096,\"epoch\":0,"
     ∷ codes "\"evacuating\":false,\"memory\":1024,\"tag\":null,\"until\":600,\"zone\":\"z1\"},\"table\":\"cell\"}\n"

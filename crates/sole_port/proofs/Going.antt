@@ -9,11 +9,11 @@ use Rattle.bbs_board.specs.Written.{WritesOn}
 use Rattle.bbs_board.proofs.Public.{no_doubts, writes_nothing, writes_then}
 use Rattle.bbs_model.specs.declared.item.Item.{Item}
 use Rattle.sole_port.specs.Went.{Went}
-use Rattle.sole_port.specs.Going.{GoesOn}
+use Rattle.sole_port.specs.Going.{BoardGoesOn}
 
 module _ {D : Type 0} (told : D → Option Past) where
   -- nothing was done
-  pub goes_nowhere : (v : View D) → GoesOn told [] v v
+  pub goes_nowhere : (v : View D) → BoardGoesOn told [] v v
   goes_nowhere v = record {
     base = refl;
     since = refl;
@@ -24,7 +24,7 @@ module _ {D : Type 0} (told : D → Option Past) where
   }
 
   -- one after the other
-  pub goes_further : (u v w : View D) (first second : List Item) → GoesOn told first u v → GoesOn told second v w → GoesOn told (first ++ second) u w
+  pub goes_further : (u v w : View D) (first second : List Item) → BoardGoesOn told first u v → BoardGoesOn told second v w → BoardGoesOn told (first ++ second) u w
   goes_further u v w first second f g = record {
     base = g.base ∙ f.base;
     since = g.since ∙ f.since;
@@ -41,7 +41,7 @@ module _ {D : Type 0} (told : D → Option Past) where
   }
 
   -- as one caller alone went
-  pub goes_as : (by by' name name' : ℕ) (v w : View D) (f : Went told by by' name name' v w) → GoesOn told f.more v w
+  pub goes_as : (by by' name name' : ℕ) (v w : View D) (f : Went told by by' name name' v w) → BoardGoesOn told f.more v w
   goes_as by by' name name' v w f = record {
     base = f.base;
     since = f.since;

@@ -10,7 +10,7 @@ use Rattle.bbs_model.specs.declared.item.Item.{Item}
 
 -- it was loaded in the same way, and these items came behind its log; the disk has gone on; and where nothing
 -- waited and nothing is in doubt it reads as it did, with the items behind it
-pub record GoesOn {D : Type 0} (told : D → Option Past) (fresh : List Item) (v w : View D) : Type 0 where
+pub record BoardGoesOn {D : Type 0} (told : D → Option Past) (fresh : List Item) (v w : View D) : Type 0 where
   pub base : w.base ≡ v.base
   pub since : w.since ≡ v.since
   pub faults : w.faults ≡ v.faults

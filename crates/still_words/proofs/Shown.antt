@@ -17,7 +17,7 @@ use Rattle.program_edge.specs.Opening.{EndsEarly, EndsUnopened, Opens}
 use Rattle.program_edge.specs.Ports.{Ports, PrintsTo, ports_of}
 use Rattle.program_edge.specs.declared.ending.Ending.{Ending}
 use Rattle.program_edge.specs.declared.ending.Ending.TheVariants as ending
-use Rattle.still_words.specs.Records.{records_text, IsCheckOf, check_line, place_of}
+use Rattle.still_words.specs.Records.{records_text, IsCheckOf, check_line, check_place}
 use Rattle.still_words.specs.Showing.{text_in, ending_after}
 use Rattle.still_words.specs.Still.{Shown, RecordsEnds, CheckEnds}
 
@@ -79,7 +79,7 @@ module _ (rows : Rows) (v m : Ports) (opens : Opens rows v m) (held : Option (Li
   records_end (Err e) whole how is text_is prints = subst (λ (x : Ending). RecordsEnds x v after) (sym is) (starved whole prints)
 
   -- what is kept where the check tells is what was opened
-  checked : (told : Option Past) (check : Check) → ((image : Image) → Shows told image → IsBoard rows image) → ForSome told (IsKeptIn (place_of check)) → check.next ≡ rows.next
+  checked : (told : Option Past) (check : Check) → ((image : Image) → Shows told image → IsBoard rows image) → ForSome told (IsKeptIn (check_place check)) → check.next ≡ rows.next
       → (image : Image) → Shows told image → IsCheckOf check image
   checked None check found kept next image shows = absurd shows
   checked (Some p) check found kept next image shows =
@@ -98,7 +98,7 @@ module _ (rows : Rows) (v m : Ports) (opens : Opens rows v m) (held : Option (Li
       }
 
   pub check_end : {Z : Type 0} (check : Check) (text : Result (Vec ℕ Z) AllocError) (whole : Bool) (how : Ending) → how ≡ ending_after text whole
-      → ((t : Vec ℕ Z) → text ≡ Ok t → t.items ≡ check_line check) → ForSome m.told (IsKeptIn (place_of check)) → check.next ≡ rows.next
+      → ((t : Vec ℕ Z) → text ≡ Ok t → t.items ≡ check_line check) → ForSome m.told (IsKeptIn (check_place check)) → check.next ≡ rows.next
       → PrintsTo whole (text_in text) m.held held m.write_faults faults → CheckEnds how v after
   check_end check (Ok t) true how is text_is kept next prints =
       subst (λ (x : Ending). CheckEnds x v after) (sym is)

@@ -35,8 +35,8 @@ pub record IsCheckOf (check : Check) (image : Image) : Type 0 where
   pub next_is : check.next ≡ rows.next
 
 -- where a check tells that the board is kept
-abbrev pub place_of : Check → KeptIn
-place_of check = record { area = check.area; generation = check.generation; frames = check.frames }
+abbrev pub check_place : Check → KeptIn
+check_place check = record { area = check.area; generation = check.generation; frames = check.frames }
 
 -- the line of a check
 abbrev pub check_line : Check → List ℕ

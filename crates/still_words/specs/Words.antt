@@ -5,8 +5,8 @@ use Rattle.still_words.specs.declared.words.Asked.{Asked}
 use Rattle.still_words.specs.declared.words.Asked.TheVariants.{Run, Prepare, Records, Check}
 
 -- what one word asks for
-abbrev pub asked_by : List ℕ → Option Asked
-asked_by word =
+abbrev pub asked_by_word : List ℕ → Option Asked
+asked_by_word word =
     if bytes_eq word (codes "run") then Some Run
     else (if bytes_eq word (codes "prepare") then Some Prepare
     else (if bytes_eq word (codes "records") then Some Records
@@ -15,5 +15,5 @@ asked_by word =
 
 -- what the program's name and one word behind it ask for
 abbrev pub asked_of : List (List ℕ) → Option Asked
-asked_of (program ∷ word ∷ []) = asked_by word
+asked_of (program ∷ word ∷ []) = asked_by_word word
 asked_of _ = None

@@ -3,7 +3,7 @@ ghost use Rattle.std.specs.Prelude.{◌≡◌, false};
 ghost use Rattle.std.specs.Option.{ForSome};
 ghost use Rattle.bbs_board.specs.KeptIn.{IsKeptIn};
 ghost use Rattle.bbs_board.specs.View.{rows_of};
-ghost use Rattle.still_words.specs.Records.{place_of};
+ghost use Rattle.still_words.specs.Records.{check_place};
 
 use bbs_board::{Board, KeptIn};
 use disk_trait::Disk;
@@ -12,7 +12,7 @@ use record_print::Check;
 /// What a check of a board finds.
 pub(crate) fn check_of<D: Disk>(board: &Board<D>) -> Check
     ensures place { board.now.waits ≡ false
-        → ForSome (D.told board.now.disk) (IsKeptIn (place_of result)) }
+        → ForSome (D.told board.now.disk) (IsKeptIn (check_place result)) }
     ensures next { result.next ≡ (rows_of board.now).next }
 {
     let KeptIn {

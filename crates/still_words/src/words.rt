@@ -1,6 +1,6 @@
 //! The words that the program is started with.
 ghost use Rattle.std.specs.Prelude.{◌≡◌, map, string_bytes};
-ghost use Rattle.still_words.specs.Words.{asked_by, asked_of};
+ghost use Rattle.still_words.specs.Words.{asked_by_word, asked_of};
 
 /// What the program is asked to do.
 #[derive(Clone, Copy, Debug, PartialEq, Eq)]
@@ -27,7 +27,7 @@ pub fn read_words(words: &[String]) -> Option<Asked>
 }
 
 fn asked_by(word: &str) -> Option<Asked>
-    ensures { result ≡ asked_by word.now }
+    ensures { result ≡ asked_by_word word.now }
 {
     match word {
         "run" => Some(Asked::Run),

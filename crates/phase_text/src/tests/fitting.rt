@@ -1,12 +1,12 @@
 //! Whether answers are those of a phase, which the text of a phase asks for.
 ghost use Rattle.std.specs.Prelude.{IsTrue};
-ghost use Rattle.phase_text.specs.Answers.{AreAnswers, AreRising, IsAnswer, IsToLine};
+ghost use Rattle.phase_text.specs.Answers.{AreActorAnswers, IsActorAnswer, IsToLine, LineNumbersRise};
 
 use scenario_lines::{Actor, Answered, Line};
 
 #[tactic(auto, using(crate::proofs::Fitting::fits_none, crate::proofs::Fitting::fits_more, crate::proofs::Fitting::fits_at_end))]
 pub fn fits(actors: &[Actor], lines: &[Line], answers: &[Answered]) -> bool
-    ensures { IsTrue result → AreAnswers actors.now lines.now answers.now }
+    ensures { IsTrue result → AreActorAnswers actors.now lines.now answers.now }
 {
     if !rises(lines) {
         return false;
@@ -21,7 +21,7 @@ pub fn fits(actors: &[Actor], lines: &[Line], answers: &[Answered]) -> bool
 
 #[tactic(auto, using(crate::proofs::Fitting::rises_to_none, crate::proofs::Fitting::rises_to_more, crate::proofs::Fitting::rises_at_end))]
 fn rises(lines: &[Line]) -> bool
-    ensures { IsTrue result → AreRising lines.now }
+    ensures { IsTrue result → LineNumbersRise lines.now }
 {
     let mut last = 0;
     for line in lines {
@@ -34,7 +34,7 @@ fn rises(lines: &[Line]) -> bool
 }
 
 fn is_answer(actors: &[Actor], lines: &[Line], answered: &Answered) -> bool
-    ensures { IsTrue result → IsAnswer actors.now lines.now answered.now }
+    ensures { IsTrue result → IsActorAnswer actors.now lines.now answered.now }
 {
     if answered.actor < 1 || answered.actor as usize > actors.len() {
         return false;

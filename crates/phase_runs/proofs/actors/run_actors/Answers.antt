@@ -1,6 +1,6 @@
 use Rattle.std.proofs.Common.{◌+◌, get_or, set, List, [], ◌∷◌, ◌++◌, ap, subst, sym, ◌∙◌}
 use Rattle.scenario_lines.specs.declared.answered.Answered.{Answered}
-use Rattle.actor_runs.specs.Turns.{standing, Takes, turns_in}
+use Rattle.actor_runs.specs.Turns.{actor_standing, Takes, turns_in}
 use Rattle.sole_port.specs.Went.{seen_of}
 use Rattle.phase_runs.specs.Actors.{FirstRan}
 use Rattle.phase_runs.proofs.InTurn.{none_ran, one_can, one_ran, one_cut, ran_then_cut}
@@ -37,6 +37,6 @@ loop-index-preserved g c =
     c.loop-index.board c.act_on.new.board c.loop-index.invariant c.index-actors-index.result c.act_on.new.actor
     c.loop-index.auto.actors c.loop-index-test.true c.act_on.ensures.one c.act_on.ensures.alone c.act_on.new.out.items
     (subst (λ (l : List Answered). Takes (c.loop-index.index + 1) c.args.now (turns_in (c.loop-index.index + 1) c.args.lines.now)
-    (standing (get_or c.loop-index.actors c.loop-index.index c.index-actors-index.result) (seen_of (c.loop-index.index + 1) c.loop-index.board) l)
-    (standing c.act_on.new.actor (seen_of (c.loop-index.index + 1) c.act_on.new.board) c.act_on.new.out.items))
+    (actor_standing (get_or c.loop-index.actors c.loop-index.index c.index-actors-index.result) (seen_of (c.loop-index.index + 1) c.loop-index.board) l)
+    (actor_standing c.act_on.new.actor (seen_of (c.loop-index.index + 1) c.act_on.new.board) c.act_on.new.out.items))
     c.new-part.ensures.items c.in-Ok.ensures.taken))

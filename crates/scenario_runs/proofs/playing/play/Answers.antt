@@ -1,5 +1,5 @@
 use Rattle.std.proofs.Common.{ℕ, [], ap, refl, subst, ◌∙◌}
-use Rattle.scenario_runs.specs.Kept.{Kept}
+use Rattle.scenario_runs.specs.Kept.{KeptSoFar}
 use Rattle.scenario_runs.specs.Tellings.{Finishes}
 use Rattle.program_edge.specs.declared.ending.Ending.TheVariants as ending
 use Rattle.scenario_runs.proofs.Endings.{no_actors, plays, plays_as}
@@ -19,8 +19,8 @@ returns g c =
         plays = plays_as told script _ w.finish-ending.result _ w.play_phases-ending.new.kept.answers _ w.play_phases-ending.new.kept.reports
             v end.board w.play_phases-ending.new.board held _ (g.K.Sink.held w.finish-ending.new.sink)
             faults _ (g.K.Sink.faults w.finish-ending.new.sink) w.ending-is
-            (c.into_lists-answers.ensures.0 ∙ ap (λ (k : Kept). k.answers) w.kept-is)
-            (c.into_lists-answers.ensures.1 ∙ ap (λ (k : Kept). k.reports) w.kept-is)
+            (c.into_lists-answers.ensures.0 ∙ ap (λ (k : KeptSoFar). k.answers) w.kept-is)
+            (c.into_lists-answers.ensures.1 ∙ ap (λ (k : KeptSoFar). k.reports) w.kept-is)
             w.board-is (ap g.K.Sink.held w.sink-is) (ap g.K.Sink.faults w.sink-is)
             (plays told script v w.play_phases-ending.new.board w.play_phases-ending.new.kept held faults
             (g.K.Sink.held w.play_phases-ending.new.sink) (g.K.Sink.faults w.play_phases-ending.new.sink) w.finish-ending.result
@@ -33,8 +33,8 @@ returns g c =
       }
       | in-Err w ↦ record {
         plays = plays_as told script _ ending.OutOfMemory _ [] _ [] v end.board v held _ held faults _ faults w.ending-is
-            (c.into_lists-answers.ensures.0 ∙ ap (λ (k : Kept). k.answers) (w.kept-is ∙ c.new-kept.ensures))
-            (c.into_lists-answers.ensures.1 ∙ ap (λ (k : Kept). k.reports) (w.kept-is ∙ c.new-kept.ensures))
+            (c.into_lists-answers.ensures.0 ∙ ap (λ (k : KeptSoFar). k.answers) (w.kept-is ∙ c.new-kept.ensures))
+            (c.into_lists-answers.ensures.1 ∙ ap (λ (k : KeptSoFar). k.reports) (w.kept-is ∙ c.new-kept.ensures))
             w.board-is (ap g.K.Sink.held w.sink-is) (ap g.K.Sink.faults w.sink-is)
             (no_actors told script v [] [] held faults refl refl);
       }

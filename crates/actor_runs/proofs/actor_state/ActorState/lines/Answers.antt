@@ -1,5 +1,5 @@
 use Rattle.std.proofs.Common.{◌∙◌}
-use Rattle.actor_runs.specs.Turns.{standing}
+use Rattle.actor_runs.specs.Turns.{actor_standing}
 use Rattle.actor_runs.proofs.ByLine.{can_next, lines_cut, more_lines}
 use Rattle.actor_runs.proofs.OneActor.{one_then}
 use Rattle.actor_runs.proofs.actor_state.ActorState.lines.Goals as goal
@@ -12,8 +12,8 @@ line_if-requires-clause-can g c =
 pub returns-in-Err-clause-cut : goal.returns-in-Err-clause-cut
 returns-in-Err-clause-cut g c =
     lines_cut c.args.by c.args.now c.args.lines.now c.loop-line.line-index c.line-item.result c.loop-line-test.true c.line-item.is
-    (standing c.args.self.now (g.P.Port.view c.args.port.now) c.args.out.now.items)
-    (standing c.loop-line.self (g.P.Port.view c.loop-line.port) c.loop-line.out.items)
+    (actor_standing c.args.self.now (g.P.Port.view c.args.port.now) c.args.out.now.items)
+    (actor_standing c.loop-line.self (g.P.Port.view c.loop-line.port) c.loop-line.out.items)
     c.line_if.new.self (g.P.Port.view c.line_if.new.port) c.loop-line.invariant.taken c.in-Err.ensures.cut
 
 pub loop-line-preserved : goal.loop-line-preserved
@@ -22,9 +22,9 @@ loop-line-preserved g c = record {
   number = c.line_if.ensures.number ∙ c.loop-line.invariant.number;
   taken =
       more_lines c.args.by c.args.now c.args.lines.now c.loop-line.line-index c.line-item.result c.loop-line-test.true c.line-item.is
-      (standing c.args.self.now (g.P.Port.view c.args.port.now) c.args.out.now.items)
-      (standing c.loop-line.self (g.P.Port.view c.loop-line.port) c.loop-line.out.items)
-      (standing c.line_if.new.self (g.P.Port.view c.line_if.new.port) c.line_if.new.out.items)
+      (actor_standing c.args.self.now (g.P.Port.view c.args.port.now) c.args.out.now.items)
+      (actor_standing c.loop-line.self (g.P.Port.view c.loop-line.port) c.loop-line.out.items)
+      (actor_standing c.line_if.new.self (g.P.Port.view c.line_if.new.port) c.line_if.new.out.items)
       c.loop-line.invariant.taken c.in-Ok.ensures.taken;
   one = one_then c.args.self.now c.loop-line.self c.line_if.new.self c.loop-line.invariant.one c.line_if.ensures.one;
 }

@@ -1,6 +1,6 @@
 use Rattle.std.proofs.Common.{◌≡◌, take}
 use Rattle.actor_runs.specs.Runs.{IsOneActor}
-use Rattle.actor_runs.specs.Turns.{standing, turns_in, Takes}
+use Rattle.actor_runs.specs.Turns.{actor_standing, turns_in, Takes}
 use Rattle.actor_runs.proofs.actor_state.ActorState.lines.Given as goal
 
 abbrev pub invariant-loop-line : goal.invariant-loop-line
@@ -8,6 +8,6 @@ invariant-loop-line g l = record {
   keeps : g.P.Port.keeps l.initial.port l.port;
   number : g.P.Port.number l.port ≡ g.P.Port.number l.initial.port;
   taken : Takes l.by l.now (turns_in l.by (take l.line-index l.lines))
-      (standing l.initial.self (g.P.Port.view l.initial.port) l.initial.out.items) (standing l.self (g.P.Port.view l.port) l.out.items);
+      (actor_standing l.initial.self (g.P.Port.view l.initial.port) l.initial.out.items) (actor_standing l.self (g.P.Port.view l.port) l.out.items);
   one : IsOneActor l.initial.self l.self;
 }
