@@ -7,7 +7,7 @@ use Rattle.scenario_lines.specs.declared.content.Content.{Content}
 use Rattle.scenario_lines.specs.declared.content.Content.TheVariants.{Phase as At, Acts, Round}
 use Rattle.scenario_lines.specs.declared.content.Losses.{Losses}
 use Rattle.scenario_reader.specs.Actors.{with_actor}
-use Rattle.scenario_reader.specs.Faults.{◌>>=◌, said_on}
+use Rattle.scenario_reader.specs.Faults.{◌>>=◌, GivesReading, said_on}
 use Rattle.scenario_reader.specs.Order.{is_misplaced}
 use Rattle.scenario_reader.specs.Phases.{act_line, round_line}
 use Rattle.scenario_reader.specs.TextLines.{NumberedLine}
@@ -21,6 +21,11 @@ use Rattle.scenario_lines.specs.declared.script.Script.{Script}
 -- no line was read
 abbrev pub start : Reading
 start = record { actors = []; closed = []; last = None; runs = 0 }
+
+-- an answer to a step, and the reading that it left: that is the one that was to come, or the answer is the fault,
+-- unless memory ran out
+abbrev pub Leads : Result (Unit {0}) ScriptFault → Reading → Result Reading ScriptFault → Type 0
+Leads result reading next = GivesReading (result >>= λ done. Ok reading) next
 
 -- what was read is within the limits
 pub record IsSmall (reading : Reading) : Type 0 where

@@ -1,5 +1,5 @@
 //! The phase in which the next line stands.
-ghost use Rattle.std.specs.Prelude.{◌≡◌, Some, is_some, IfOk};
+ghost use Rattle.std.specs.Prelude.{◌≡◌, Some, is_some, OnOk, OnErr};
 ghost use Rattle.std.specs.List.{list_any};
 ghost use Rattle.scenario_reader.specs.Order.{is_cells_line};
 ghost use Rattle.scenario_reader.specs.Steps.{begun_at, with_line};
@@ -65,32 +65,22 @@ impl OpenPhase {
         self.has_cells
     }
 
-    /// The phase with one more line.
-    pub fn with_line(self, line: Line) -> Result<OpenPhase, OutOfMemory>
-        ensures { IfOk result (λ phase. phase ≡ with_line self line) }
+    /// Adds a line. Where memory runs out the phase stays.
+    pub fn add_line(&mut self, line: Line) -> Result<(), OutOfMemory>
+        ensures ok { OnOk result (self.new ≡ with_line self.old line) }
+        ensures err { OnErr result (self.new ≡ self.old) }
     {
-        let OpenPhase {
-            mut phase,
-            has_cells,
-        } = self;
         let is_cells = is_cells_line(&line);
-        add(&mut phase.lines, line)?;
-        Ok(OpenPhase {
-            phase,
-            has_cells: has_cells | is_cells,
-        })
+        add(&mut self.phase.lines, line)?;
+        self.has_cells = self.has_cells | is_cells;
+        Ok(())
     }
 
-    /// The phase with its round.
-    pub fn with_round(self, round: RoundLine) -> OpenPhase
-        ensures { result ≡ record self { round = Some round } }
+    /// Adds the round.
+    pub fn add_round(&mut self, round: RoundLine)
+        ensures { self.new ≡ record self.old { round = Some round } }
     {
-        let OpenPhase {
-            mut phase,
-            has_cells,
-        } = self;
-        phase.round = Some(round);
-        OpenPhase { phase, has_cells }
+        self.phase.round = Some(round);
     }
 
     /// The phase, to which no more lines come.

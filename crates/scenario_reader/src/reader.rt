@@ -1,9 +1,9 @@
 //! A scenario is read line by line, up to the first fault.
-ghost use Rattle.std.specs.Prelude.{◌<◌, ◌-◌, ◌^◌, length, IfOk};
+ghost use Rattle.std.specs.Prelude.{◌<◌, ◌-◌, ◌^◌, length, IfOk, OnOk};
 ghost use Rattle.scenario_reader.specs.Accepted.{script_of};
 ghost use Rattle.scenario_reader.specs.Facts.{IsScript};
 ghost use Rattle.scenario_reader.specs.Faults.{GivesReading, said_on};
-ghost use Rattle.scenario_reader.specs.Steps.{read_from, start, step_on, IsSmall};
+ghost use Rattle.scenario_reader.specs.Steps.{read_from, start, step_on, IsSmall, Leads};
 ghost use Rattle.scenario_reader.specs.TextLines.{line_view, nonblank_lines};
 
 use crate::fault::ScriptFault;
@@ -32,20 +32,20 @@ fn read_lines(alloc: Global, bytes: &[u8]) -> Result<Reading, ScriptFault>
     let mut reading = Reading::new(alloc);
     let mut rest = Rest { number: 1, bytes };
     while let Some((line, behind)) = next_line(rest) {
-        reading = after_line(alloc, reading, line)?;
+        add_line(alloc, &mut reading, line)?;
         rest = behind;
     }
     Ok(reading)
 }
 
 // What one more line comes to.
-fn after_line(alloc: Global, reading: Reading, line: TextLine<'_>) -> Result<Reading, ScriptFault>
-    requires { IsSmall reading }
-    ensures step { GivesReading result (step_on reading (line_view line.entry)) }
-    ensures small { IfOk result IsSmall }
+fn add_line(alloc: Global, reading: &mut Reading, line: TextLine<'_>) -> Result<(), ScriptFault>
+    requires { IsSmall reading.old }
+    ensures step { Leads result reading.new (step_on reading.old (line_view line.entry)) }
+    ensures small { OnOk result (IsSmall reading.new) }
 {
     let content = content_of(alloc, line)?;
-    reading.after(alloc, line.number, content)
+    reading.add(alloc, line.number, content)
 }
 
 // What a line says by itself.

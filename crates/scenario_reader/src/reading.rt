@@ -1,8 +1,7 @@
 //! What the lines so far have come to.
 ghost use Rattle.std.specs.Prelude.{◌≡◌, ◌++◌, option_to_list, IfOk, OnOk};
-ghost use Rattle.scenario_reader.specs.Faults.{GivesReading};
 ghost use Rattle.scenario_reader.specs.Phases.{round_line};
-ghost use Rattle.scenario_reader.specs.Steps.{acted, begin_phase, is_before, rounded, script_in, start, step, IsSmall};
+ghost use Rattle.scenario_reader.specs.Steps.{acted, begin_phase, is_before, rounded, script_in, start, step, IsSmall, Leads};
 
 use crate::actors::Actors;
 use crate::fault::ScriptFault;
@@ -11,6 +10,7 @@ use crash_backoff::Moment;
 use diego_names::{List, OutOfMemory};
 use scenario_lines::{ActLine, Content, Line, Losses, Phase, RoundLine, Script};
 use std::alloc::Global;
+use std::mem;
 
 /// The most actors that a scenario has.
 const ACTORS: usize = 256;
@@ -42,106 +42,77 @@ impl Reading {
         }
     }
 
-    /// What one more line comes to.
-    pub fn after(self, alloc: Global, line: u32, content: Content) -> Result<Reading, ScriptFault>
-        requires { IsSmall self }
-        ensures step { GivesReading result (step self line content) }
-        ensures small { IfOk result IsSmall }
+    /// Adds a line. After a fault nothing more is to be read.
+    pub fn add(&mut self, alloc: Global, line: u32, content: Content) -> Result<(), ScriptFault>
+        requires { IsSmall self.old }
+        ensures step { Leads result self.new (step self.old line content) }
+        ensures small { OnOk result (IsSmall self.new) }
     {
         match content {
-            Content::Phase(at) => self.begun(alloc, line, at),
-            Content::Acts(said) => self.acted(line, said),
-            Content::Round(losses) => self.rounded(line, losses),
+            Content::Phase(at) => self.begin(alloc, line, at),
+            Content::Acts(said) => self.add_act(line, said),
+            Content::Round(losses) => self.add_round(line, losses),
         }
     }
 
-    fn begun(self, alloc: Global, line: u32, at: Moment) -> Result<Reading, ScriptFault>
-        requires { IsSmall self }
-        ensures step { GivesReading result (begin_phase self line at) }
-        ensures small { IfOk result IsSmall }
+    fn begin(&mut self, alloc: Global, line: u32, at: Moment) -> Result<(), ScriptFault>
+        requires { IsSmall self.old }
+        ensures step { Leads result self.new (begin_phase self.old line at) }
+        ensures small { OnOk result (IsSmall self.new) }
     {
-        let Reading {
-            actors,
-            mut closed,
-            last,
-            runs,
-        } = self;
-        if is_before(at, &last) {
+        if is_before(at, &self.last) {
             return Err(ScriptFault::BadOrder { line });
         }
-        close(&mut closed, last)?;
-        Ok(Reading {
-            actors,
-            closed,
-            last: Some(OpenPhase::new(alloc, at)),
-            runs,
-        })
+        let last = mem::replace(&mut self.last, Some(OpenPhase::new(alloc, at)));
+        close(&mut self.closed, last)?;
+        Ok(())
     }
 
-    fn acted(self, line: u32, said: ActLine) -> Result<Reading, ScriptFault>
-        requires { IsSmall self }
-        ensures step { GivesReading result (acted self line said) }
-        ensures small { IfOk result IsSmall }
+    fn add_act(&mut self, line: u32, said: ActLine) -> Result<(), ScriptFault>
+        requires { IsSmall self.old }
+        ensures step { Leads result self.new (acted self.old line said) }
+        ensures small { OnOk result (IsSmall self.new) }
     {
-        let Reading {
-            mut actors,
-            closed,
-            last,
-            runs,
-        } = self;
-        let Some(phase) = last else {
+        let Some(phase) = &mut self.last else {
             return Err(ScriptFault::BadOrder { line });
         };
         if said.act.is_of_cell() && phase.has_round() {
             return Err(ScriptFault::BadOrder { line });
         }
-        let actor = actors.number(said.actor)?;
-        let runs = runs + said.times as u64;
-        if actors.len() > ACTORS || runs > RUNS {
+        let actor = self.actors.number(said.actor)?;
+        let runs = self.runs + said.times as u64;
+        if self.actors.len() > ACTORS || runs > RUNS {
             return Err(ScriptFault::TooMuch { line });
         }
-        let phase = phase.with_line(Line {
+        phase.add_line(Line {
             line,
             actor,
             act: said.act,
             lost: said.lost,
             times: said.times,
         })?;
-        Ok(Reading {
-            actors,
-            closed,
-            last: Some(phase),
-            runs,
-        })
+        self.runs = runs;
+        Ok(())
     }
 
-    fn rounded(self, line: u32, losses: Losses) -> Result<Reading, ScriptFault>
-        requires { IsSmall self }
-        ensures step { GivesReading result (rounded self line losses) }
-        ensures small { IfOk result IsSmall }
+    fn add_round(&mut self, line: u32, losses: Losses) -> Result<(), ScriptFault>
+        requires { IsSmall self.old }
+        ensures step { Leads result self.new (rounded self.old line losses) }
+        ensures small { OnOk result (IsSmall self.new) }
     {
-        let Reading {
-            actors,
-            closed,
-            last,
-            runs,
-        } = self;
-        let Some(phase) = last else {
+        let Some(phase) = &mut self.last else {
             return Err(ScriptFault::BadOrder { line });
         };
         if phase.has_round() || phase.has_cells() {
             return Err(ScriptFault::BadOrder { line });
         }
-        let runs = runs + 1;
+        let runs = self.runs + 1;
         if runs > RUNS {
             return Err(ScriptFault::TooMuch { line });
         }
-        Ok(Reading {
-            actors,
-            closed,
-            last: Some(phase.with_round(round_line(line, losses))),
-            runs,
-        })
+        phase.add_round(round_line(line, losses));
+        self.runs = runs;
+        Ok(())
     }
 
     /// The scenario, where there are no more lines.
