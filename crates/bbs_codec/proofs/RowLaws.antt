@@ -97,16 +97,16 @@ length-counts c =
     )
 
 -- each row takes few bytes
-pub short-desired : (x : Desired) → desired.Fits x → length (desired.spelling x) ≤ 512
+pub short-desired : (x : Desired) → desired.Fits x → length (desired.spelling x) ≤ 344
 short-desired x fits = omega (arith, laws-desired.most x fits)
 
-pub short-actual : (x : Actual) → actual.Fits x → length (actual.spelling x) ≤ 512
+pub short-actual : (x : Actual) → actual.Fits x → length (actual.spelling x) ≤ 344
 short-actual x fits = omega (arith, laws-actual.most x fits)
 
-pub short-task : (x : Task) → task_row.Fits x → length (task_row.spelling x) ≤ 512
+pub short-task : (x : Task) → task_row.Fits x → length (task_row.spelling x) ≤ 344
 short-task x fits = omega (arith, laws-task_row.most x fits)
 
-pub short-cell : (x : CellRow) → cell_row.Fits x → length (cell_row.spelling x) ≤ 512
+pub short-cell : (x : CellRow) → cell_row.Fits x → length (cell_row.spelling x) ≤ 344
 short-cell x fits = omega (arith, laws-cell_row.most x fits)
 
 pub ruleset short = (short-desired, short-actual, short-task, short-cell)

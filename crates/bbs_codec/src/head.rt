@@ -9,5 +9,6 @@ mod table;
 mod writing;
 
 pub use fault::HeadFault;
+pub use kept::HeadRow;
 pub use reading::read_head;
-pub use writing::write_head;
+pub use writing::{Counts, ROW_BYTES, append_front, append_row, write_head};

@@ -11,7 +11,8 @@ mod trailing;
 mod writing;
 
 pub use fault::CodecFault;
-pub use head::{HeadFault, read_head, write_head};
+pub use fields::Fields;
+pub use head::{Counts, HeadFault, HeadRow, ROW_BYTES, append_front, append_row, read_head, write_head};
 pub use laws::{
     commands_are_read_back, commands_have_one_spelling, head_faults_lie_within_the_bytes,
     heads_are_read_back, heads_have_one_spelling, no_head_begins_another,

@@ -12,7 +12,7 @@ pub trait HeadRow: Fields + Rowed {
 
     /// It takes few bytes, and this shows it. It does nothing.
     fn is_short(self)
-        ensures { length (Self.format.spelling self) ≤ 512 };
+        ensures { length (Self.format.spelling self) ≤ 344 };
 
     /// How many rows the table has at most.
     fn most() -> usize

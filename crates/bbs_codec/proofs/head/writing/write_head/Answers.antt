@@ -14,14 +14,11 @@ use Rattle.bbs_codec.proofs.head.writing.write_head.Goals as goal
 joined : (c d a t r : List ℕ) → ((((([] ++ c) ++ d) ++ a) ++ t) ++ r) ≡ c ++ (d ++ (a ++ (t ++ r)))
 joined c d a t r = append_assoc ((c ++ d) ++ a) t r ∙ append_assoc (c ++ d) a (t ++ r) ∙ append_assoc c d (a ++ (t ++ r))
 
-pub append-requires : goal.append-requires
-append-requires c = omega (arith, length-counts c.counts.result)
-
 pub returns-clause-bytes : goal.returns-clause-bytes
 unfolding head_spelled
 returns-clause-bytes c =
     let rows = c.args.rows.now in
-    let front = c.in_ok-append.ensures ∙ ap (λ (l : List ℕ). l ++ counts.spelling c.counts.result) c.new-out.ensures.items
+    let front = c.in_ok-append_front.ensures.bytes ∙ ap (λ (l : List ℕ). l ++ counts.spelling c.counts.result) c.new-out.ensures.items
     ∙ ap (λ (n : Counts). [] ++ counts.spelling n) c.counts.ensures in
     let d = ap (λ (l : List Desired). flat_map desired.spelling l) c.items.ensures in
     let a = ap (λ (l : List Actual). flat_map actual.spelling l) c.items-2.ensures in
