@@ -16,6 +16,7 @@ pub mod ReadTables
 pub mod HeadParts
 pub mod HeadLaws
 pub mod HeadAgain
+pub mod HeadNext
 pub mod Within
 pub mod HeadPlaces
 pub mod Rules

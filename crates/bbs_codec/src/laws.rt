@@ -1,5 +1,6 @@
 //! What holds of every command and every head in bytes.
-ghost use Rattle.std.specs.Prelude.{◌≡◌, ◌≤◌, ◌++◌, List, ℕ, length, Ok, Err};
+ghost use Rattle.std.specs.Prelude.{◌≡◌, ◌≤◌, ◌++◌, List, ℕ, length, take, Ok, Err};
+ghost use Rattle.std.specs.Int.{w64, from_be_bytes};
 ghost use Rattle.bbs_model.specs.declared.command.Command.{Command as ACommand};
 ghost use Rattle.wire_fields.specs.Laws.{IsBytes};
 ghost use Rattle.bbs_model.specs.declared.rows.Rows.{Rows as SomeRows};
@@ -43,6 +44,12 @@ pub fn heads_are_read_back()
 pub fn heads_have_one_spelling()
     ensures { (bytes : List ℕ) (rows : SomeRows) → IsBytes bytes → head_reading bytes ≡ Ok rows
         → (bytes ≡ head_spelled rows) × FitsHead rows }
+{}
+
+/// A head begins with the number of transitions of its rows, in eight bytes.
+pub fn heads_begin_with_their_transitions()
+    ensures { (bytes : List ℕ) (rows : SomeRows) → head_reading bytes ≡ Ok rows
+        → (8 ≤ length bytes) × (from_be_bytes w64 (take 8 bytes) ≡ rows.next) }
 {}
 
 /// No head begins another, so it is known where a head ends.

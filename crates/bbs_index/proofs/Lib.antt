@@ -4,4 +4,5 @@ pub mod Rows
 pub mod Counting
 pub mod Boards
 pub mod Numbers
+pub mod Numbering
 pub mod Gone

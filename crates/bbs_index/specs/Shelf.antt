@@ -2,6 +2,7 @@
 use Rattle.std.specs.Prelude.{◌≡◌, ℕ, Bool, List, [], ◌∷◌, map, length, Some}
 use Rattle.std.specs.declared.cmp.Ordering.{Ordering}
 use Rattle.std.specs.FinMap.Entries.{put}
+use Rattle.std.specs.List.{slice_get}
 use Rattle.std.specs.Map.{lookup}
 
 module _ {K X : Type 0} (R : K → K → Ordering) where
@@ -26,3 +27,7 @@ pub record IsShelf {K X : Type 0} (R : K → K → Ordering) (eq : K → K → B
     (es : List (K × X)) : Type 0 where
   pub at_key : (q : K) (x : X) → lookup (eq q) es ≡ Some x → key x ≡ q
   pub once : length (table_of R es) ≡ length es
+
+-- the rows of these numbers, one by one, are those rows
+abbrev pub AreNumbered : {X : Type 0} → List X → List ℕ → List X → Type 0
+AreNumbered numbered numbers rows = map (slice_get numbered) numbers ≡ map (λ x. Some x) rows

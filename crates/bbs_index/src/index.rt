@@ -101,4 +101,32 @@ impl Index {
         let rows = self.actual.rows(alloc)?;
         Ok(List::from(places_on(alloc, rows.as_slice(), cell)?))
     }
+
+    /// The shelf of the processes' rows.
+    pub fn desired_shelf(&self) -> &Shelf<Desired>
+        ensures { result.now.rows ≡ self.now.rows.desired }
+    {
+        &self.desired
+    }
+
+    /// The shelf of the instances' rows.
+    pub fn actual_shelf(&self) -> &Shelf<Actual>
+        ensures { result.now.rows ≡ self.now.rows.actual }
+    {
+        &self.actual
+    }
+
+    /// The shelf of the tasks' rows.
+    pub fn tasks_shelf(&self) -> &Shelf<Task>
+        ensures { result.now.rows ≡ self.now.rows.tasks }
+    {
+        &self.tasks
+    }
+
+    /// The shelf of the cells' rows.
+    pub fn cells_shelf(&self) -> &Shelf<CellRow>
+        ensures { result.now.rows ≡ self.now.rows.cells }
+    {
+        &self.cells
+    }
 }

@@ -1,12 +1,13 @@
 //! A shelf is a map from each row's key to the row, and contracts see it as the table of its rows.
 
-ghost use Rattle.std.specs.Prelude.{◌≡◌, ℕ, ◌<◌, ◌≤◌, [], length, slice_get, Some, IfSome, IsOk, IfOk, OnOk};
+ghost use Rattle.std.specs.Prelude.{◌≡◌, ℕ, ◌<◌, ◌≤◌, ◌^◌, [], length, vec_capacity, slice_get, Some, IfSome, IsOk, IfOk, OnOk};
 ghost use Rattle.std.specs.Option.{option_map, option_copied, option_and_then};
 ghost use Rattle.row_tables.specs.Table.{find_row, put_row, without_row, IsRising};
 ghost use Rattle.bbs_model.specs.Store.{HasRoom, TakesRoom};
+ghost use Rattle.bbs_index.specs.Shelf.{AreNumbered};
 
 use crate::entries::{put_entry, put_entry_at, remove_entry};
-use crate::sorted::sorted_entries;
+use crate::sorted::{order_entries, sorted_entries};
 use bbs_model::Rowed;
 use indexmap::IndexMap;
 use std::alloc::{AllocError, Global};
@@ -140,6 +141,17 @@ impl<X: Rowed> Shelf<X> {
         ensures spare { self.old.spare ≤ self.new.spare }
     {
         remove_entry(&mut self.map, key);
+    }
+
+    /// The numbers of the rows in the order of their keys, for which there is room. It takes no
+    /// memory.
+    pub fn order_into(&self, order: &mut Vec<u32>)
+        requires few { length self.now.rows < 2 ^ 32 }
+        requires room { length self.now.rows ≤ vec_capacity order.old }
+        ensures rows { AreNumbered self.now.numbered order.new.items self.now.rows }
+        ensures capacity { vec_capacity order.new ≡ vec_capacity order.old }
+    {
+        order_entries(&self.map, order);
     }
 
     /// The rows in the order of their keys. It fails only for want of memory.

@@ -1,6 +1,8 @@
 //! The order of a map's entries is made when they are read out.
-ghost use Rattle.std.specs.Prelude.{◌≡◌, IfOk};
-ghost use Rattle.bbs_index.specs.Shelf.{in_order};
+ghost use Rattle.std.specs.Prelude.{◌≡◌, ◌<◌, ◌≤◌, ◌^◌, slice_get, vec_capacity, IfOk};
+ghost use Rattle.std.specs.Option.{option_map};
+ghost use Rattle.indexmap.specs.IndexMap.{index_map_len, values};
+ghost use Rattle.bbs_index.specs.Shelf.{in_order, table_of, AreNumbered, IsShelf};
 
 use bbs_model::Rowed;
 use indexmap::IndexMap;
@@ -25,4 +27,29 @@ pub(crate) fn sorted_entries<X: Rowed>(
         sorted.insert(*key, *row)?;
     }
     Ok(sorted)
+}
+
+// The key of the entry of this number.
+fn key_at<X: Rowed>(map: &IndexMap<X::Key, X>, number: u32) -> Option<X::Key>
+    ensures { result ≡ option_map (λ e. e.0) (slice_get map.now.entries number) }
+{
+    match map.get_index(number as usize) {
+        Some((key, _)) => Some(*key),
+        None => None,
+    }
+}
+
+// The numbers of the entries in the order of their keys, sorted where they stand.
+pub(crate) fn order_entries<X: Rowed>(map: &IndexMap<X::Key, X>, order: &mut Vec<u32>)
+    requires shelf { IsShelf X.Key.cmp X.Key.eq X.key map.now.entries }
+    requires few { index_map_len map.now < 2 ^ 32 }
+    requires room { index_map_len map.now ≤ vec_capacity order.old }
+    ensures rows { AreNumbered (values map.now) order.new.items (table_of X.Key.cmp map.now.entries) }
+    ensures capacity { vec_capacity order.new ≡ vec_capacity order.old }
+{
+    order.clear();
+    for number in 0..map.len() as u32 {
+        order.push_reserved(number);
+    }
+    order.sort_unstable_by_key(|number| key_at(map, *number));
 }

@@ -1,4 +1,4 @@
-use Rattle.std.proofs.Common.{◌≡◌, ℕ, List, [], ◌++◌, length, ap, ◌∙◌, append_assoc, arith}
+use Rattle.std.proofs.Common.{◌≡◌, ℕ, List, [], ◌++◌, length, ap, ◌∙◌, append_assoc}
 use Rattle.std.specs.List.{flat_map}
 use Rattle.cell_records.specs.declared.cell_row.CellRow.{CellRow}
 use Rattle.lrp_records.specs.declared.actual.Actual.{Actual}
@@ -7,7 +7,6 @@ use Rattle.task_records.specs.declared.task.Task.{Task}
 use Rattle.bbs_codec.specs.Formats.{desired}
 use Rattle.bbs_codec.specs.Head.{Counts, counts, head_spelled}
 use Rattle.bbs_codec.specs.RowFormats.{actual, task_row, cell_row}
-use Rattle.bbs_codec.proofs.RowLaws.{length-counts}
 use Rattle.bbs_codec.proofs.head.writing.write_head.Goals as goal
 
 -- five texts, each put behind the one before it
