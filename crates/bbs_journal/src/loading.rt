@@ -53,6 +53,8 @@ pub fn load<D: Disk>(alloc: Global, mut disk: D) -> Result<Loaded<D>, (D, LoadFa
     ensures end { IfOk result (λ l. l.journal.end ≡
         23 + length l.head.items + bytes_of (payloads_of l.frames.items)) }
     ensures fresh { IfOk result (λ l. IsJustLoaded l.journal (length l.frames.items) l.broken) }
+    ensures kept { IfOk result (λ l. ForSome (D.told l.journal.disk) (IsKept l.journal.area
+        l.journal.generation l.journal.end l.journal.frames Nothing l.journal.broken l.journal.gate)) }
     ensures fault { IfErr result (λ e. (c : Image) → Shows (D.told e.0) c →
         Fails e.1 (headed c)) }
     ensures ok { IfOk result (λ l. Goes (D.told disk) (D.told l.journal.disk) Secures) }
