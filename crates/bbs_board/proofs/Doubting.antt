@@ -6,7 +6,7 @@ use Rattle.bbs_model.specs.declared.command.Command.{Command}
 use Rattle.bbs_model.specs.declared.item.Item.{Item}
 use Rattle.bbs_model.specs.declared.item.Item.TheVariants.{Done, Doubt}
 use Rattle.bbs_board.specs.Doubts.{doubts_in, RoseForEach}
-use Rattle.bbs_board.proofs.Keeping.{item_of}
+use Rattle.bbs_board.specs.Puts.{item_of}
 
 doubts-done : (log : List Item) (by : ℕ) (c : Command) → doubts_in (log ++ Done by c ∷ []) ≡ doubts_in log
 doubts-done [] by c = refl

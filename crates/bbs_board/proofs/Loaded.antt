@@ -1,5 +1,5 @@
 -- What was loaded is a board, and stands as one.
-use Rattle.std.proofs.Common.{◌≡◌, inl, inr, ℕ, false, ◌+◌, ◌≤◌, List, [], ◌∷◌, ◌++◌, length, Option, Some, None, Result, Ok, Err, refl, sym, subst, ◌∙◌, arith, length-append}
+use Rattle.std.proofs.Common.{◌≡◌, inl, inr, ℕ, Bool, ◌+◌, ◌≤◌, List, [], ◌∷◌, ◌++◌, length, Option, Some, None, Result, Ok, Err, refl, sym, subst, ◌∙◌, arith, length-append}
 use Rattle.std.specs.Int.{w32, w64}
 use Rattle.std.specs.Option.{ForSome}
 use Rattle.wire_fields.specs.Field.{field_number}
@@ -15,6 +15,9 @@ use Rattle.bbs_journal.specs.Header.{mark}
 use Rattle.bbs_journal.specs.Opening.{IsOpening}
 use Rattle.bbs_journal.specs.Other.{Yields}
 use Rattle.bbs_journal.specs.Reading.{bytes_of}
+use Rattle.bbs_journal.specs.View.{IsKept}
+use Rattle.bbs_journal.specs.declared.other_gate.OtherGate.{OtherGate}
+use Rattle.bbs_journal.specs.declared.waiting.Waiting.TheVariants.{Nothing}
 use Rattle.disk_trait.specs.Shows.{Shows, Secures}
 use Rattle.bbs_journal.specs.declared.load_fault.LoadFault.{LoadFault}
 use Rattle.bbs_journal.proofs.Public.{accepted, opens_once, recovered, ready}
@@ -82,8 +85,8 @@ module _ (base : Rows) (since : ℕ) (q : Past) (since_is : q.clock ≡ since) (
 pub loaded_holds : (t0 t1 : Option Past) (area : Area) (generation : ℕ) (head : List ℕ) (payloads : List (List ℕ)) (broken : Option ℕ) (end : ℕ) (rows : Rows) (since : ℕ) → Goes t0 t1 Secures
     → ((q : Past) → t1 ≡ Some q → q.clock ≡ since)
     → ((c : Image) → Shows t1 c → IsOpening c area generation head payloads broken end) → end ≡ 23 + length head + bytes_of payloads → board_of area head payloads broken ≡ Ok rows
-    → ForSome t1 (Holds rows [] [] since area generation end (length payloads) false)
-loaded_holds t0 t1 area generation head payloads broken end rows since goes timed found place is q told =
+    → (frames : ℕ) (unsound : Bool) (known : OtherGate) → ForSome t1 (IsKept area generation end frames Nothing unsound known) → ForSome t1 (Holds rows [] [] since area generation end (length payloads) Nothing known)
+loaded_holds t0 t1 area generation head payloads broken end rows since goes timed found place is frames unsound known stood q told =
     let back = goes_back t0 t1 Secures goes q told in
     let shows : Shows t1 (content q) = subst (λ (t : Option Past). Shows t (content q)) (sym told) (λ a. refl) in
     let none : broken ≡ None = unbroken area head payloads broken rows is in
@@ -106,8 +109,9 @@ loaded_holds t0 t1 area generation head payloads broken end rows since goes time
       waits_is = refl;
       may_show = λ payload never. absurd (cc (never));
       stands = stands;
-      beside = r.beside;
-      yields = beside;
+      next = (stood q told).next;
+      beside = (stood q told).beside;
+      leads_on = λ size never. absurd (cc (never));
       rows_are = rows_are;
       kept = kept_now rows since q (timed q told) (λ image leaves. record {
         area = area;

@@ -1,18 +1,23 @@
 -- What a stop leaves of a board while a command is stored where nothing waits, and after it.
 use Rattle.std.proofs.Common.{◌≡◌, ⊎_elim, inl, inr, ℕ, Bool, false, List, [], ◌∷◌, ◌++◌, Option, Some, None, Ok, refl, subst, ◌∙◌, arith}
-use Rattle.std.specs.Prelude.{is_some}
 use Rattle.std.specs.Option.{ForSome}
-use Rattle.disk_trait.specs.Held.{Held, Leaves}
+use Rattle.disk_trait.specs.Held.{Has, Leaves}
 use Rattle.disk_trait.specs.Past.{Past, Image, now, other, content, Images}
 use Rattle.disk_trait.specs.Steps.{Goes}
 use Rattle.disk_trait.specs.Runs.{Extends}
-use Rattle.disk_trait.proofs.Public.{extends_same, goes_same, goes_weaker}
+use Rattle.disk_trait.proofs.Public.{extends_same, goes_same, goes_weaker, has_weaker}
 use Rattle.disk_trait.specs.declared.area.Area.{Area}
 use Rattle.bbs_codec.specs.Command.{spelled, FitsCommand}
-use Rattle.bbs_journal.specs.Areas.{Ready, Stands}
+use Rattle.bbs_journal.specs.Areas.{Ready}
+use Rattle.bbs_journal.specs.Beside.{Beside}
 use Rattle.bbs_journal.specs.Calls.{Appends, AddsFrame}
 use Rattle.bbs_journal.specs.Grammar.{heading}
+use Rattle.bbs_journal.specs.Other.{Yields}
 use Rattle.bbs_journal.specs.Stops.{OpensAs}
+use Rattle.bbs_journal.specs.View.{is_waiting}
+use Rattle.bbs_journal.specs.declared.other_gate.OtherGate.{OtherGate}
+use Rattle.bbs_journal.specs.declared.waiting.Waiting.{Waiting}
+use Rattle.bbs_journal.specs.declared.waiting.Waiting.TheVariants.{Nothing}
 use Rattle.bbs_journal.proofs.Public.{accepted, stops_opened, acknowledged_opened}
 use Rattle.bbs_model.specs.Replay.{replay_log}
 use Rattle.bbs_model.specs.Step.{IsLegal, rows_after}
@@ -27,31 +32,30 @@ use Rattle.bbs_board.specs.declared.kept_in.KeptIn.{KeptIn}
 use Rattle.bbs_board.specs.Laws.{StopsLeaveBoards}
 use Rattle.bbs_board.specs.Stops.{Stores}
 use Rattle.bbs_board.specs.View.{Holds}
+use Rattle.bbs_board.proofs.Beside.{calm_nothing, calm_yields}
+use Rattle.bbs_board.proofs.Steps.{ready_where}
 use Rattle.bbs_board.proofs.Frames.{command_more}
 
--- where nothing waits nothing is in doubt
-ready_where : (waits : Bool) (doubt : Option (List ℕ)) (head : List ℕ) (payloads : List (List ℕ)) (end : ℕ) (held : Held) → waits ≡ false → waits ≡ is_some doubt → Stands head payloads doubt end held
-    → Ready head payloads end held
-ready_where waits None head payloads end held calm is stands = stands
-ready_where waits (Some payload) head payloads end held calm is stands = absurd (cc)
-
-module _ (base : Rows) (log : List Item) (marks : List ℕ) (since : ℕ) (area : Area) (generation end frames : ℕ) (p : Past) (h : Holds base log marks since area generation end frames false p) where
+module _ (base : Rows) (log : List Item) (marks : List ℕ) (since : ℕ) (area : Area) (generation end frames : ℕ) (known : OtherGate) (p : Past) (h : Holds base log marks since area generation end frames Nothing known p) where
   abbrev front : List ℕ
   front = h.gate ∷ heading generation h.head
 
   ready : Ready front h.payloads end (now p area)
-  ready = ready_where false h.doubt front h.payloads end (now p area) refl h.waits_is h.stands
+  ready = ready_where h.doubt front h.payloads end (now p area) h.waits_is h.stands
+
+  gives_way : Has (Yields known generation) (now p (other area))
+  gives_way = has_weaker (Beside h.next Nothing known generation) (Yields known generation) (now p (other area)) (λ bytes beside. calm_yields h.next Nothing known generation bytes refl beside) h.beside
 
   -- what a stop leaves of a board that stands is opened as its head and payloads
-  holds_images : (image : Image) → Images p image → OpensAs image area generation h.head h.payloads
+  pub holds_images : (image : Image) → Images p image → OpensAs image area generation h.head h.payloads
   holds_images image leaves =
       accepted image area generation h.head h.payloads (record {
         gate = h.gate;
         is_open = h.is_open;
         goes_with = h.goes_with;
         area_is = record { frames = ready.frames; whole = ready.whole; begins = ready.has.leaves (image area) (leaves area) };
-        beside = h.beside;
-        yields = h.yields.leaves (image (other area)) (leaves (other area));
+        beside = known;
+        yields = gives_way.leaves (image (other area)) (leaves (other area));
       })
 
   module _ (c : Command) (fits : FitsCommand c) (legal : IsLegal (replay_log base log) c) where
@@ -68,9 +72,9 @@ module _ (base : Rows) (log : List Item) (marks : List ℕ) (since : ℕ) (area 
       before = h.rows_are;
       after = after_is;
       reads = holds_images (content p) (p.possible p.clock);
-      each = λ image since. stops_opened p q area h.gate generation h.head h.payloads (spelled c) h.beside ok after end h.is_open h.goes_with h.yields appends image since;
+      each = λ image since. stops_opened p q area h.gate generation h.head h.payloads (spelled c) known ok after end h.is_open h.goes_with gives_way appends image since;
       done = λ is image leaves.
-          acknowledged_opened p q area h.gate generation h.head h.payloads (spelled c) h.beside after end h.is_open h.goes_with h.yields
+          acknowledged_opened p q area h.gate generation h.head h.payloads (spelled c) known after end h.is_open h.goes_with gives_way
           (subst (λ (b : Bool). Appends area b after front h.payloads (spelled c) end p q) is appends) image leaves;
     }
 
@@ -92,22 +96,22 @@ module _ (base : Rows) (log : List Item) (marks : List ℕ) (since : ℕ) (area 
 
 -- ---- the same, where the disk may tell nothing
 
-module _ (told : Option Past) (base : Rows) (log : List Item) (marks : List ℕ) (since : ℕ) (area : Area) (generation end frames : ℕ) (waits : Bool) (holds : ForSome told (Holds base log marks since area generation end frames waits)) (calm : waits ≡ false)
+module _ (told : Option Past) (base : Rows) (log : List Item) (marks : List ℕ) (since : ℕ) (area : Area) (generation end frames : ℕ) (waiting : Waiting) (known : OtherGate) (holds : ForSome told (Holds base log marks since area generation end frames waiting known)) (calm : is_waiting waiting ≡ false)
     (c : Command) (fits : FitsCommand c) (legal : IsLegal (replay_log base log) c) where
-  calmly : (p : Past) → told ≡ Some p → Holds base log marks since area generation end frames false p
-  calmly p is = subst (λ (b : Bool). Holds base log marks since area generation end frames b p) calm (holds p is)
+  calmly : (p : Past) → told ≡ Some p → Holds base log marks since area generation end frames Nothing known p
+  calmly p is = subst (λ (w : Waiting). Holds base log marks since area generation end frames w known p) (calm_nothing waiting calm) (holds p is)
 
   -- where nothing is done, nothing changes
   pub stores_nothing : Goes told told (Stores false (replay_log base log) c)
-  stores_nothing = goes_same told (Stores false (replay_log base log) c) (λ p is. stores_none base log marks since area generation end frames p (calmly p is) c fits legal)
+  stores_nothing = goes_same told (Stores false (replay_log base log) c) (λ p is. stores_none base log marks since area generation end frames known p (calmly p is) c fits legal)
 
   pub stores_by : (later : Option Past) (ok after : Bool) → Goes told later (AddsFrame area ok after (spelled c) end) → Goes told later (Stores ok (replay_log base log) c)
   stores_by later ok after goes =
       goes_weaker told later (AddsFrame area ok after (spelled c) end) (Stores ok (replay_log base log) c)
       (λ p q i j adds.
       let h = calmly p i in
-      stores base log marks since area generation end frames p h c fits legal q ok after
-      (adds (h.gate ∷ heading generation h.head) h.payloads (ready base log marks since area generation end frames p h))) goes
+      stores base log marks since area generation end frames known p h c fits legal q ok after
+      (adds (h.gate ∷ heading generation h.head) h.payloads (ready base log marks since area generation end frames known p h))) goes
 
 -- time goes on, and where nothing waits the rest is known
 passes_both : (t0 t1 : Option Past) (waits ok : Bool) (rows : Rows) (c : Command) → Goes t0 t1 Extends → (waits ≡ false → Goes t0 t1 (Stores ok rows c)) → Goes t0 t1 (Passes waits verdict.Ok ok rows c)
@@ -116,25 +120,25 @@ passes_both None (Some q) waits ok rows c extends stores = extends
 passes_both (Some p) None waits ok rows c extends stores = extends
 passes_both (Some p) (Some q) waits ok rows c extends stores = record { extends = extends; stores = stores }
 
-module _ (told : Option Past) (base : Rows) (log : List Item) (marks : List ℕ) (since : ℕ) (area : Area) (generation end frames : ℕ) (waits : Bool) (holds : ForSome told (Holds base log marks since area generation end frames waits))
+module _ (told : Option Past) (base : Rows) (log : List Item) (marks : List ℕ) (since : ℕ) (area : Area) (generation end frames : ℕ) (waiting : Waiting) (known : OtherGate) (holds : ForSome told (Holds base log marks since area generation end frames waiting known))
     (c : Command) (fits : FitsCommand c) (legal : IsLegal (replay_log base log) c) where
-  pub passes_nothing : Goes told told (Passes waits verdict.Ok false (replay_log base log) c)
-  passes_nothing = passes_both told told waits false (replay_log base log) c (goes_same told Extends (λ p is. extends_same p))
-      (λ calm. stores_nothing told base log marks since area generation end frames waits holds calm c fits legal)
+  pub passes_nothing : Goes told told (Passes (is_waiting waiting) verdict.Ok false (replay_log base log) c)
+  passes_nothing = passes_both told told (is_waiting waiting) false (replay_log base log) c (goes_same told Extends (λ p is. extends_same p))
+      (λ calm. stores_nothing told base log marks since area generation end frames waiting known holds calm c fits legal)
 
-  pub passes_by : (later : Option Past) (ok after : Bool) → Goes told later Extends → (waits ≡ false → Goes told later (AddsFrame area ok after (spelled c) end)) → Goes told later (Passes waits verdict.Ok ok (replay_log base log) c)
-  passes_by later ok after extends adds = passes_both told later waits ok (replay_log base log) c extends
-      (λ calm. stores_by told base log marks since area generation end frames waits holds calm c fits legal later ok after (adds calm))
+  pub passes_by : (later : Option Past) (ok after : Bool) → Goes told later Extends → (is_waiting waiting ≡ false → Goes told later (AddsFrame area ok after (spelled c) end)) → Goes told later (Passes (is_waiting waiting) verdict.Ok ok (replay_log base log) c)
+  passes_by later ok after extends adds = passes_both told later (is_waiting waiting) ok (replay_log base log) c extends
+      (λ calm. stores_by told base log marks since area generation end frames waiting known holds calm c fits legal later ok after (adds calm))
 
 -- where nothing waits it is known where the board is kept
-pub kept_where : (told : Option Past) (base : Rows) (log : List Item) (marks : List ℕ) (since : ℕ) (area : Area) (generation end frames : ℕ) (waits : Bool) → ForSome told (Holds base log marks since area generation end frames waits) → waits ≡ false
+pub kept_where : (told : Option Past) (base : Rows) (log : List Item) (marks : List ℕ) (since : ℕ) (area : Area) (generation end frames : ℕ) (waiting : Waiting) (known : OtherGate) → ForSome told (Holds base log marks since area generation end frames waiting known) → is_waiting waiting ≡ false
     → (place : KeptIn) → place.area ≡ area → place.generation ≡ generation → place.frames ≡ frames → ForSome told (IsKeptIn place)
-kept_where told base log marks since area generation end frames waits holds calm place area_is generation_is frames_is p is =
-    let h : Holds base log marks since area generation end frames false p = subst (λ (b : Bool). Holds base log marks since area generation end frames b p) calm (holds p is) in
+kept_where told base log marks since area generation end frames waiting known holds calm place area_is generation_is frames_is p is =
+    let h : Holds base log marks since area generation end frames Nothing known p = subst (λ (w : Waiting). Holds base log marks since area generation end frames w known p) (calm_nothing waiting calm) (holds p is) in
     record {
       head = h.head;
       payloads = h.payloads;
-      opens = rw (area_is, generation_is) (holds_images base log marks since area generation end frames p h (content p) (p.possible p.clock));
+      opens = rw (area_is, generation_is) (holds_images base log marks since area generation end frames known p h (content p) (p.possible p.clock));
       count = frames_is ∙ h.count;
     }
 

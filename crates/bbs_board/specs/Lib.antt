@@ -2,10 +2,11 @@ pub mod Opening
 pub mod Kept
 pub mod Doubts
 pub mod History
-pub mod Puts
 pub mod Stops
 pub mod Written
 pub mod KeptIn
 pub mod Calls
 pub mod View
+pub mod Puts
+pub mod Checkpoint
 pub mod Laws

@@ -1,59 +1,51 @@
--- What mending and then appending do to the area of a journal.
-use Rattle.std.specs.Prelude.{◌≡◌, ◌⊎◌, ℕ, ◌+◌, ◌≤◌, Bool, true, false, is_some, Option, Some, List, [], ◌∷◌, ◌++◌, length, if◌then◌else◌}
-use Rattle.disk_trait.specs.Held.{Held}
-use Rattle.disk_trait.specs.Past.{Past, now}
-use Rattle.disk_trait.specs.Runs.{Runs}
-use Rattle.disk_trait.specs.declared.area.Area.{Area}
-use Rattle.bbs_journal.specs.Areas.{IsArea, Ready, Stands}
-use Rattle.bbs_journal.specs.Calls.{mend_calls}
-use Rattle.bbs_journal.specs.View.{is_waiting}
-use Rattle.bbs_journal.specs.declared.waiting.Waiting.{Waiting}
-use Rattle.bbs_journal.specs.declared.waiting.Waiting.TheVariants.{Nothing, Frame}
+-- What the steps of a call do to a journal, and to the board that stands there.
+use Rattle.std.specs.Prelude.{◌≡◌, ℕ, ◌+◌, ◌≤◌, Bool, true, false, Option, List, [], ◌∷◌, ◌++◌, if◌then◌else◌}
+use Rattle.disk_trait.specs.Past.{Past}
+use Rattle.disk_trait.specs.Runs.{Extends}
+use Rattle.disk_trait.specs.Steps.{Goes}
+use Rattle.bbs_codec.specs.Command.{spelled, FitsCommand}
+use Rattle.bbs_journal.specs.Calls.{Stays, mend_calls}
+use Rattle.bbs_journal.specs.View.{View as JournalView}
+use Rattle.bbs_journal.specs.declared.waiting.Waiting.TheVariants.{Nothing}
+use Rattle.bbs_model.specs.Replay.{replay_log, IsLawful}
+use Rattle.bbs_model.specs.Step.{IsLegal}
+use Rattle.bbs_model.specs.declared.command.Command.{Command}
+use Rattle.bbs_model.specs.declared.item.Item.{Item}
+use Rattle.bbs_model.specs.declared.item.Item.TheVariants.{Done, Doubt}
+use Rattle.bbs_model.specs.declared.rows.Rows.{Rows}
+use Rattle.bbs_board.specs.View.{StandsOn}
 
--- where a gate waits it is the one behind the last frame
-abbrev pub OnlyFrameWaits : Waiting → Type 0
-OnlyFrameWaits waiting = waiting ≡ (if is_waiting waiting then Frame else Nothing)
+-- the item of a transition, acknowledged or in doubt
+abbrev pub item_of : Bool → ℕ → Command → Item
+item_of true by c = Done by c
+item_of false by c = Doubt by c
 
--- this payload is the one in doubt, or the new one
-abbrev pub IsOneOf : Option (List ℕ) → List ℕ → List ℕ → Type 0
-IsOneOf doubt payload one = (doubt ≡ Some one) ⊎ (one ≡ payload)
+-- time went on, and the board stands with this log
+pub record StandsWith {D : Type 0} (told : D → Option Past) (base : Rows) (log : List Item) (marks : List ℕ) (since : ℕ)
+    (old new : JournalView D) : Type 0 where
+  pub extends : Goes (told old.disk) (told new.disk) Extends
+  pub stands : StandsOn told base log marks since new
 
--- the area holds these payloads and then the one in doubt or the new one
-pub record HasOneMore (head : List ℕ) (payloads : List (List ℕ)) (doubt : Option (List ℕ)) (payload bytes : List ℕ) : Type 0 where
-  pub one : List ℕ
-  pub which : IsOneOf doubt payload one
-  pub area_is : IsArea head (payloads ++ one ∷ []) bytes
+-- whatever board stood there stands there still, with the log that it had
+abbrev pub StillStands : {D : Type 0} → (D → Option Past) → JournalView D → JournalView D → Type 0
+StillStands told old new =
+    (base : Rows) (log : List Item) (marks : List ℕ) (since : ℕ) → IsLawful base log → StandsOn told base log marks since old
+    → StandsWith told base log marks since old new
 
--- what a stop may leave meanwhile: these payloads, or one more
-abbrev pub MayHold : List ℕ → List (List ℕ) → Option (List ℕ) → List ℕ → List ℕ → Type 0
-MayHold head payloads doubt payload bytes = IsArea head payloads bytes ⊎ HasOneMore head payloads doubt payload bytes
+-- whatever board stood there stands there with one item more, which has this mark: a command whose payload was put,
+-- done or in doubt
+abbrev pub PutsItem : {D : Type 0} → (D → Option Past) → Bool → List ℕ → ℕ → JournalView D → JournalView D → Type 0
+PutsItem told ok payload mark old new =
+    (base : Rows) (log : List Item) (marks : List ℕ) (since : ℕ) → IsLawful base log → StandsOn told base log marks since old
+    → (by : ℕ) (c : Command) → FitsCommand c → IsLegal (replay_log base log) c → payload ≡ spelled c
+    → StandsWith told base (log ++ item_of ok by c ∷ []) (marks ++ mark ∷ []) since old new
 
--- the payload was refused, and one may be in doubt now
-pub record LeftOut (waits : Bool) (head : List ℕ) (payloads : List (List ℕ)) (doubt : Option (List ℕ))
-    (payload : List ℕ) (end : ℕ) (held : Held) : Type 0 where
-  pub left : Option (List ℕ)
-  pub waits_is : waits ≡ is_some left
-  pub which : (one : List ℕ) → left ≡ Some one → IsOneOf doubt payload one
-  pub stands : Stands head payloads left end held
-
--- how the area is left: with the payload, and nothing in doubt, or without it
-abbrev pub IsLeft : Bool → Bool → List ℕ → List (List ℕ) → Option (List ℕ) → List ℕ → ℕ → Held → Type 0
-IsLeft true waits head payloads doubt payload end held =
-    (waits ≡ false) × Ready head (payloads ++ payload ∷ []) (end + 3 + length payload) held
-IsLeft false waits head payloads doubt payload end held = LeftOut waits head payloads doubt payload end held
-
--- a put into an area that holds these payloads and this doubt
-pub record PutsOne (area : Area) (ok waits : Bool) (head : List ℕ) (payloads : List (List ℕ))
-    (doubt : Option (List ℕ)) (payload : List ℕ) (end : ℕ) (p q : Past) : Type 0 where
-  pub runs : Runs area (MayHold head payloads doubt payload) p q
-  pub leaves : IsLeft ok waits head payloads doubt payload end (now q area)
-
--- whatever the area holds, this payload is put into it; `before` and `after` tell whether something waits
-abbrev pub Puts : Area → Bool → Bool → Bool → List ℕ → ℕ → Past → Past → Type 0
-Puts area ok before after payload end p q =
-    (head : List ℕ) (payloads : List (List ℕ)) (doubt : Option (List ℕ)) → before ≡ is_some doubt
-    → Stands head payloads doubt end (now p area)
-    → PutsOne area ok after head payloads doubt payload end p q
+-- what a journal knows by itself after a put: it has no defect, one frame more where it succeeded, and then
+-- nothing waits
+pub record HasPut {D : Type 0} (ok : Bool) (old new : JournalView D) : Type 0 where
+  pub stays : Stays old new
+  pub frames : new.frames ≡ (if ok then old.frames + 1 else old.frames)
+  pub waits : ok ≡ true → new.waiting ≡ Nothing
 
 -- the device calls of a put: four where it succeeds, behind the two of a mend where a gate waited; where it fails
 -- no more than those and the two that close its own gate

@@ -1,5 +1,5 @@
 -- A board as its callers see it, and what it rests on.
-use Rattle.std.specs.Prelude.{◌≡◌, ℕ, ◌<◌, ◌≤◌, Bool, false, is_some, Option, Some, None, List, [], ◌∷◌, length, Ok}
+use Rattle.std.specs.Prelude.{◌≡◌, ℕ, ◌+◌, ◌<◌, ◌≤◌, Bool, false, is_some, Option, Some, None, List, [], ◌∷◌, length, Ok}
 use Rattle.std.specs.List.{slice_get}
 use Rattle.std.specs.Option.{ForSome}
 use Rattle.disk_trait.specs.Held.{Has}
@@ -8,9 +8,12 @@ use Rattle.disk_trait.specs.declared.area.Area.{Area}
 use Rattle.bbs_codec.specs.Command.{spelled, FitsCommand}
 use Rattle.bbs_journal.specs.Areas.{Stands}
 use Rattle.bbs_journal.specs.Grammar.{heading, GoesWith}
-use Rattle.bbs_journal.specs.Other.{Yields}
-use Rattle.bbs_journal.specs.View.{View as JournalView, is_waiting}
+use Rattle.bbs_journal.specs.Beside.{Beside}
+use Rattle.bbs_journal.specs.View.{View as JournalView, frame_waits}
 use Rattle.bbs_journal.specs.declared.other_gate.OtherGate.{OtherGate}
+use Rattle.bbs_journal.specs.declared.other_gate.OtherGate.TheVariants.{Written}
+use Rattle.bbs_journal.specs.declared.waiting.Waiting.{Waiting}
+use Rattle.bbs_journal.specs.declared.waiting.Waiting.TheVariants.{Header}
 use Rattle.bbs_model.specs.Replay.{replay_log, rows_at, IsLawful}
 use Rattle.bbs_model.specs.Told.{told_in}
 use Rattle.bbs_model.specs.Valid.{IsValid}
@@ -22,7 +25,6 @@ use Rattle.bbs_model.specs.declared.rows.Rows.{Rows}
 use Rattle.bbs_board.specs.Doubts.{doubts_in, RoseForEach}
 use Rattle.bbs_board.specs.Kept.{Kept}
 use Rattle.bbs_board.specs.Opening.{board_of}
-use Rattle.bbs_board.specs.Puts.{OnlyFrameWaits}
 
 -- its disk, the rows that it was opened with, the items since then with the disk's clock at the end of
 -- the call of each, the clock and the count of faults at the end of its load, whether a gate has to be
@@ -58,10 +60,15 @@ pub record MayShow (base : Rows) (log : List Item) (payload : List ℕ) : Type 0
   pub payload_is : payload ≡ spelled command
   pub fits : FitsCommand command
 
+-- the next head leads to these rows, in the other area and with the next generation
+pub record LeadsOn (area : Area) (generation : ℕ) (next : List ℕ) (rows : Rows) : Type 0 where
+  pub goes_with : GoesWith (generation + 1) next
+  pub rows_are : board_of (other area) next [] None ≡ Ok rows
+
 -- whatever a stop leaves, the area holds a head and so many payloads that leave the board's rows, and perhaps a
--- doubt, the other area gives way to it, and the board is kept
+-- doubt; the other area gives way to it, or may be open with a head that leaves these rows too; and the board is kept
 pub record Holds (base : Rows) (log : List Item) (marks : List ℕ) (since : ℕ) (area : Area)
-    (generation end frames : ℕ) (waits : Bool) (p : Past) : Type 0 where
+    (generation end frames : ℕ) (waiting : Waiting) (known : OtherGate) (p : Past) : Type 0 where
   pub gate : ℕ
   pub is_open : 0 < gate
   pub head : List ℕ
@@ -69,17 +76,23 @@ pub record Holds (base : Rows) (log : List Item) (marks : List ℕ) (since : ℕ
   pub count : frames ≡ length payloads
   pub doubt : Option (List ℕ)
   pub goes_with : GoesWith generation head
-  pub waits_is : waits ≡ is_some doubt
+  pub waits_is : frame_waits waiting ≡ is_some doubt
   pub may_show : (payload : List ℕ) → doubt ≡ Some payload → MayShow base log payload
   pub stands : Stands (gate ∷ heading generation head) payloads doubt end (now p area)
-  pub beside : OtherGate
-  pub yields : Has (Yields beside generation) (now p (other area))
+  pub next : List ℕ
+  pub beside : Has (Beside next waiting known generation) (now p (other area))
+  pub leads_on : (size : ℕ) → waiting ≡ Header → known ≡ Written size → LeadsOn area generation next (replay_log base log)
   pub rows_are : board_of area head payloads None ≡ Ok (replay_log base log)
   pub kept : Kept base log marks since p
 
+-- where the disk of a journal tells its past, the board stands there
+abbrev pub StandsOn : {D : Type 0} → (D → Option Past) → Rows → List Item → List ℕ → ℕ → JournalView D → Type 0
+StandsOn told base log marks since j =
+    ForSome (told j.disk) (Holds base log marks since j.area j.generation j.end j.frames j.waiting j.gate)
+
 -- so stands each board: it was opened with valid rows, its log is lawful and leads to its rows, which are
 -- valid, it is kept what each item told, each of its doubts has a fault for its cause, and its journal has
--- no defect, no more frames than the board has made transitions, and no other gate to mend than its last
+-- no defect and no more frames than the board has made transitions
 pub record IsSound {D : Type 0} (told : D → Option Past) (fault_count : D → ℕ) (rows base : Rows) (log : List Item)
     (marks : List ℕ) (events : List (Option Events)) (since faults : ℕ) (journal : JournalView D) : Type 0 where
   pub opened : IsValid base
@@ -88,8 +101,6 @@ pub record IsSound {D : Type 0} (told : D → Option Past) (fault_count : D → 
   pub rows_are : rows ≡ replay_log base log
   pub events_are : events ≡ told_in base log
   pub whole : journal.broken ≡ false
-  pub own : OnlyFrameWaits journal.waiting
   pub counted : journal.frames ≤ rows.next
   pub doubted : RoseForEach (doubts_in log) faults (fault_count journal.disk)
-  pub holds : ForSome (told journal.disk)
-      (Holds base log marks since journal.area journal.generation journal.end journal.frames (is_waiting journal.waiting))
+  pub holds : StandsOn told base log marks since journal

@@ -14,6 +14,7 @@ ghost use Rattle.bbs_board.specs.Kept.{Kept};
 ghost use Rattle.bbs_board.specs.Puts.{PutTakes};
 ghost use Rattle.bbs_board.specs.View.{rows_of};
 
+use crate::draft::Draft;
 use crate::history::History;
 use crate::putting::put;
 use crate::room::make_room;
@@ -38,6 +39,8 @@ pub struct Board<D: Disk> {
     // The disk's clock and its count of faults at the end of the load.
     pub(crate) since: u64,
     pub(crate) faults: u64,
+    // Room for the head of a checkpoint.
+    pub(crate) draft: Draft,
 }
 
 impl<D: Disk> Model for Board<D> {
@@ -160,6 +163,7 @@ impl<D: Disk> Board<D> {
             history,
             since: _,
             faults: _,
+            draft: _,
         } = self;
         let History {
             log,

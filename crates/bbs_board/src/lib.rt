@@ -2,6 +2,8 @@
 #![tactic(auto)]
 
 mod board;
+mod checkpoint;
+mod draft;
 mod following;
 mod head;
 mod history;

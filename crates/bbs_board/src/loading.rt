@@ -11,6 +11,7 @@ ghost use Rattle.bbs_board.specs.Opening.{board_of, IsBoard, Refuses, Gives};
 ghost use Rattle.bbs_board.specs.View.{IsFresh};
 
 use crate::Board;
+use crate::draft::Draft;
 use crate::following::follow;
 use crate::head::{HEAD, rows_in};
 use crate::history::History;
@@ -70,6 +71,7 @@ pub fn load<D: Disk>(alloc: Global, disk: D) -> Result<Board<D>, (D, LoadFault)>
             base: Snapshot::of(&index),
             index,
             history: History::new(alloc),
+            draft: Draft::new(alloc),
         }),
         Err(fault) => Err((journal.into_disk(), fault)),
     }

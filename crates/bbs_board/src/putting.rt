@@ -1,11 +1,11 @@
 //! Mending what an earlier fault left, and then appending.
-ghost use Rattle.std.specs.Prelude.{◌≡◌, ◌<◌, ◌^◌, true, false, length, is_ok, is_err};
+ghost use Rattle.std.specs.Prelude.{◌≡◌, ◌<◌, ◌^◌, true, false, is_ok, is_err};
 ghost use Rattle.byte_ports.specs.Cause.{HasCause};
 ghost use Rattle.disk_trait.specs.Steps.{Goes};
-ghost use Rattle.bbs_journal.specs.Calls.{AddsFrame, GrowsBy};
+ghost use Rattle.bbs_journal.specs.Calls.{AddsFrame};
 ghost use Rattle.bbs_journal.specs.Frames.{IsPayload};
 ghost use Rattle.bbs_board.specs.Doubts.{RoseForEach};
-ghost use Rattle.bbs_board.specs.Puts.{OnlyFrameWaits, Puts, PutTakes};
+ghost use Rattle.bbs_board.specs.Puts.{PutsItem, PutTakes, HasPut};
 ghost use Rattle.bbs_journal.specs.View.{is_waiting};
 
 use bbs_journal::{DiskFault, Journal};
@@ -18,11 +18,9 @@ use disk_trait::Disk;
 pub fn put<D: Disk>(journal: &mut Journal<D>, payload: &[u8]) -> Result<(), DiskFault>
     requires payload { IsPayload payload.now }
     requires whole { journal.old.broken ≡ false }
-    requires own { OnlyFrameWaits journal.old.waiting }
     requires frames { journal.old.frames < 2 ^ 48 }
-    ensures does { Goes (D.told journal.old.disk) (D.told journal.new.disk)
-        (Puts journal.old.area (is_ok result) (is_waiting journal.old.waiting)
-        (is_waiting journal.new.waiting) payload.now journal.old.end) }
+    ensures puts { PutsItem D.told (is_ok result) payload.now (D.moment journal.new.disk)
+        journal.old journal.new }
     ensures appends { is_waiting journal.old.waiting ≡ false → Goes (D.told journal.old.disk)
         (D.told journal.new.disk)
         (AddsFrame journal.old.area (is_ok result) (is_waiting journal.new.waiting) payload.now
@@ -33,7 +31,7 @@ pub fn put<D: Disk>(journal: &mut Journal<D>, payload: &[u8]) -> Result<(), Disk
         (D.moment journal.old.disk) (D.moment journal.new.disk) }
     ensures cause { HasCause (is_err result)
         (D.fault_count journal.old.disk) (D.fault_count journal.new.disk) }
-    ensures grows { GrowsBy (is_ok result) (length payload.now) journal.old journal.new }
+    ensures has { HasPut (is_ok result) journal.old journal.new }
 {
     journal.mend()?;
     match journal.append(payload) {

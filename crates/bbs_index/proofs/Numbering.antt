@@ -129,7 +129,6 @@ nothing [] moved = refl
 nothing (n ∷ ns) moved = let long = length_permutation [] (n ∷ ns) moved in absurd (omega (arith, long))
 
 module _ {K X : Type 0} {R : K → K → Ordering} (o : IsKeyOrder R) {eq : K → K → Bool} (laws : IsEquivalence eq) (ties : (x y : K) → eq x y ≡ eq_by_cmp R x y) (key : X → K) where
-
   pub AreNumbered-sorted : (es : List (K × X)) → IsShelf R eq key es → IsDistinct eq (map (λ e. e.0) es) → (numbers order : List ℕ) → AreNumbered (map (λ e. e.1) es) numbers (map (λ e. e.1) es) → IsPermutation numbers order
       → IsSortedByKey (λ n. option_map (λ e. e.0) (slice_get es n)) (option_cmp R) order → AreNumbered (map (λ e. e.1) es) order (table_of R es)
   AreNumbered-sorted [] shelf unique [] order are moved sorted = ap (map (slice_get [])) (nothing order moved)

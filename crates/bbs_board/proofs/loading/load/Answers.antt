@@ -1,4 +1,4 @@
-use Rattle.std.proofs.Common.{◌≡◌, ◌∙◌, Ok, None, Some, Option, List, [], ℕ, refl, sym, ap, subst, arith, rules}
+use Rattle.std.proofs.Common.{◌≡◌, ◌∙◌, Ok, None, Some, Option, List, [], ℕ, sym, ap, subst, arith, rules}
 use Rattle.std.specs.Prelude.{is_some}
 use Rattle.std.proofs.lemmas.List.{length-map}
 use Rattle.disk_trait.specs.Past.{Past}
@@ -11,7 +11,6 @@ use Rattle.bbs_model.specs.declared.rows.Rows.{Rows}
 use Rattle.bbs_model.specs.declared.item.Item.{Item}
 use Rattle.bbs_board.specs.Doubts.{doubts_in, RoseForEach}
 use Rattle.bbs_board.specs.Opening.{board_of, IsBoard}
-use Rattle.bbs_board.specs.Puts.{OnlyFrameWaits}
 use Rattle.bbs_board.proofs.Loaded.{unbroken, counted, loaded_board, loaded_holds}
 use Rattle.bbs_board.proofs.loading.load.Goals as goal
 
@@ -34,13 +33,12 @@ invariant_of-result g c =
       rows_are = sym base_is ∙ ap (replay_log c.of.result.value.rows) (sym log_is);
       events_are = c.new.ensures.told ∙ ap (told_in c.of.result.value.rows) (sym log_is);
       whole = fresh.broken ∙ ap is_some none;
-      own = subst OnlyFrameWaits (sym fresh.mended) refl;
       counted = omega (arith, fresh.count, count, length-map c.in-Ok.loaded.frames.items (λ v. v.items));
       doubted = subst (λ (l : List Item). RoseForEach (doubts_in l) c.faults-faults.result (g.D.Disk.fault_count c.in-Ok.loaded.journal.disk)) (sym log_is)
           (omega (arith, c.faults-faults.ensures, c.in-Ok.ensures.stood));
       holds = rw (base_is, log_is, marks_is, fresh.mended, frames_are)
           (loaded_holds _ _ c.in-Ok.loaded.journal.area c.in-Ok.loaded.journal.generation c.in-Ok.loaded.head.items payloads c.in-Ok.loaded.broken c.in-Ok.loaded.journal.end c.in-Ok-board_of.index.rows c.clock.result
-          c.in-Ok.ensures.ok timed c.in-Ok.ensures.found c.in-Ok.ensures.end is);
+          c.in-Ok.ensures.ok timed c.in-Ok.ensures.found c.in-Ok.ensures.end is _ _ _ c.in-Ok.ensures.kept);
     }
 
 pub returns-in-Ok-board_of-clause-found : goal.returns-in-Ok-board_of-clause-found

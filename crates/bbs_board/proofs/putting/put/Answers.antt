@@ -1,26 +1,33 @@
-use Rattle.std.proofs.Common.{refl, ap}
-use Rattle.bbs_journal.specs.View.{is_waiting}
-use Rattle.bbs_board.proofs.Mending.{put_made, put_failed, adds_failed, frame_only, grows_on, grows_closed}
+use Rattle.std.proofs.Common.{◌≡◌, true, false, is_ok, length, rules}
+use Rattle.bbs_board.proofs.Mending.{mended, put_unmended, put_added, put_then, grows_closed, adds_shut, adds_calm, frame_only}
 use Rattle.bbs_board.proofs.putting.put.Goals as goal
 
-pub returns-in-Ok-clause-does : goal.returns-in-Ok-clause-does
-returns-in-Ok-clause-does g c =
-    let made = c.in-Ok.ensures in
-    put_made g.D.Disk.told c.args.journal.now c.mend.new.self c.append.new.self c.args.payload.now c.in_ok-mend.ensures.settles (λ is. c.in_ok-mend.ensures.frame (frame_only _ c.requires.own is)) (ap is_waiting (made.grows.waits refl)) made.does
+pub returns-in_err-mend-clause-puts : goal.returns-in_err-mend-clause-puts
+returns-in_err-mend-clause-puts g c =
+    let e = c.in_err-mend.ensures in
+    let failed : is_ok c.from_residual.result ≡ false = search rules in
+    rw failed (put_unmended g.D.Disk.told c.args.journal.now c.mend.new.self c.args.payload.now _ (λ q told. g.met.D.Disk.timed c.mend.new.self.disk q told)
+    (mended g.D.Disk.told c.args.journal.now c.mend.new.self false e.settles e.frame e.header))
 
-pub returns-in-Err-clause-does : goal.returns-in-Err-clause-does
-returns-in-Err-clause-does g c =
+pub returns-in-Ok-clause-puts : goal.returns-in-Ok-clause-puts
+returns-in-Ok-clause-puts g c =
+    let e = c.in_ok-mend.ensures in
+    let made = c.in-Ok.ensures in
+    put_then g.D.Disk.told c.args.journal.now c.mend.new.self c.append.new.self true c.args.payload.now _ (mended g.D.Disk.told c.args.journal.now c.mend.new.self _ e.settles e.frame e.header)
+    (put_added g.D.Disk.told c.mend.new.self c.append.new.self true c.args.payload.now _ (λ q told. g.met.D.Disk.timed c.append.new.self.disk q told) e.settles.waiting made.grows made.does)
+
+pub returns-in-Err-clause-puts : goal.returns-in-Err-clause-puts
+returns-in-Err-clause-puts g c =
+    let e = c.in_ok-mend.ensures in
     let failed = c.in-Err.ensures in
-    put_failed g.D.Disk.told c.args.journal.now c.mend.new.self c.append.new.self c.args.payload.now c.in_ok-mend.ensures.settles (λ is. c.in_ok-mend.ensures.frame (frame_only _ c.requires.own is)) c.mend-closed.new.self _ failed.does failed.grows
-    c.mend-closed.ensures.settles (λ is. c.mend-closed.ensures.frame (frame_only _ failed.grows.frame is))
+    put_then g.D.Disk.told c.args.journal.now c.mend.new.self c.mend-closed.new.self false c.args.payload.now _ (mended g.D.Disk.told c.args.journal.now c.mend.new.self _ e.settles e.frame e.header)
+    (put_added g.D.Disk.told c.mend.new.self c.mend-closed.new.self false c.args.payload.now _ (λ q told. g.met.D.Disk.timed c.mend-closed.new.self.disk q told) e.settles.waiting
+    (grows_closed _ _ _ (length c.args.payload.now) _ failed.grows c.mend-closed.ensures.settles)
+    (adds_shut g.D.Disk.told c.mend.new.self c.append.new.self c.mend-closed.new.self c.args.payload.now _ failed.does failed.grows c.mend-closed.ensures.settles (λ is. c.mend-closed.ensures.frame (frame_only _ failed.grows.frame is))))
 
 pub returns-in-Err-clause-appends : goal.returns-in-Err-clause-appends
 returns-in-Err-clause-appends g c =
     let failed = c.in-Err.ensures in
-    adds_failed g.D.Disk.told c.args.journal.now c.mend.new.self c.append.new.self c.args.payload.now c.in_ok-mend.ensures.settles (λ is. c.in_ok-mend.ensures.frame (frame_only _ c.requires.own is)) c.mend-closed.new.self _ failed.does failed.grows
-    c.mend-closed.ensures.settles (λ is. c.mend-closed.ensures.frame (frame_only _ failed.grows.frame is))
-
-pub returns-in-Err-clause-grows : goal.returns-in-Err-clause-grows
-returns-in-Err-clause-grows g c =
-    let failed = c.in-Err.ensures in
-    grows_on _ _ _ c.requires.own _ _ c.in_ok-mend.ensures.settles (grows_closed _ _ _ _ _ failed.grows c.mend-closed.ensures.settles)
+    λ idle.
+    adds_calm g.D.Disk.told c.args.journal.now c.mend.new.self c.mend-closed.new.self _ _ c.args.payload.now c.in_ok-mend.ensures.settles idle
+    (adds_shut g.D.Disk.told c.mend.new.self c.append.new.self c.mend-closed.new.self c.args.payload.now _ failed.does failed.grows c.mend-closed.ensures.settles (λ is. c.mend-closed.ensures.frame (frame_only _ failed.grows.frame is)))

@@ -1,6 +1,5 @@
 use Rattle.std.proofs.Common.{◌≡◌, false, subst}
 use Rattle.std.specs.Option.{ForSome}
-use Rattle.bbs_journal.specs.View.{is_waiting}
 use Rattle.bbs_board.specs.KeptIn.{IsKeptIn}
 use Rattle.bbs_board.specs.View.{View}
 use Rattle.bbs_board.specs.declared.kept_in.KeptIn.{KeptIn}
@@ -12,5 +11,5 @@ returns g c =
     let b = c.self.inside in
     let place : KeptIn = record { area = c.area.result; generation = c.generation.result; frames = c.frames.result } in
     subst (λ (v : View g.row.D.Denot). v.waits ≡ false → ForSome (g.D.Disk.told v.disk) (IsKeptIn place)) c.self.view_is
-    (λ calm. kept_where (g.D.Disk.told b.journal.disk) b.base.value.rows b.history.log b.history.marks b.since b.journal.area b.journal.generation b.journal.end b.journal.frames (is_waiting b.journal.waiting) c.self.invariant.holds calm place
+    (λ calm. kept_where (g.D.Disk.told b.journal.disk) b.base.value.rows b.history.log b.history.marks b.since b.journal.area b.journal.generation b.journal.end b.journal.frames b.journal.waiting b.journal.gate c.self.invariant.holds calm place
     c.area.ensures c.generation.ensures c.frames.ensures)

@@ -11,9 +11,10 @@ use Rattle.bbs_model.specs.declared.rows.Rows.{Rows}
 use Rattle.bbs_model.specs.declared.verdict.Verdict.TheVariants as verdict
 use Rattle.bbs_board.specs.Calls.{Passes}
 use Rattle.bbs_board.specs.History.{Entries, with_item}
+use Rattle.bbs_board.specs.Puts.{HasPut}
 use Rattle.bbs_board.specs.View.{View, rows_of}
-use Rattle.bbs_board.proofs.Held.{sound_more, puts_extend}
-use Rattle.bbs_board.proofs.Mending.{puts_as, adds_as, grows_as}
+use Rattle.bbs_board.proofs.Held.{sound_more, put_extends}
+use Rattle.bbs_board.proofs.Mending.{puts_as, adds_as}
 use Rattle.bbs_board.proofs.Storing.{passes_nothing, passes_by}
 use Rattle.bbs_board.proofs.board.Board.transition.Goals as goal
 
@@ -28,7 +29,7 @@ pub returns-then-is_err-clause-does : goal.returns-then-is_err-clause-does
 returns-then-is_err-clause-does g c =
     let law : IsLegal (replay_log c.self.inside.base.value.rows c.self.inside.history.log) c.args.command.now = subst (λ (v : View g.row.D.Denot). IsLegal (rows_of v) c.args.command.now) (sym c.self.view_is) c.requires in
     let still = passes_nothing (g.D.Disk.told c.self.inside.journal.disk) c.self.inside.base.value.rows c.self.inside.history.log c.self.inside.history.marks c.self.inside.since
-    c.self.inside.journal.area c.self.inside.journal.generation c.self.inside.journal.end c.self.inside.journal.frames (is_waiting c.self.inside.journal.waiting) c.self.invariant.holds c.args.command.now c.write_command-len.ensures.fits law in
+    c.self.inside.journal.area c.self.inside.journal.generation c.self.inside.journal.end c.self.inside.journal.frames c.self.inside.journal.waiting c.self.inside.journal.gate c.self.invariant.holds c.args.command.now c.write_command-len.ensures.fits law in
     subst (λ (v : View g.row.D.Denot). Goes (g.D.Disk.told v.disk) (g.D.Disk.told c.self.inside.journal.disk) (Passes v.waits verdict.Ok false (rows_of v) c.args.command.now)) c.self.view_is still
 
 pub invariant_of-self-then-is_err-2 : goal.invariant_of-self-then-is_err-2
@@ -46,9 +47,8 @@ invariant_of-self-then-is_err-2 g c =
     (ap (λ (e : Entries). e.marks) added)
     (ap (λ (e : Entries). e.told) added)
     (rw c.make_room.ensures.rows c.self.invariant.valid)
-    (λ q told. g.met.D.Disk.timed c.put-stored.new.journal.disk q told ∙ sym c.clock-mark.ensures)
-    (puts_as (is_ok c.put-stored.result) false _ _ failed bytes _ _ _ _ _ _ c.put-stored.ensures.does)
-    (grows_as (is_ok c.put-stored.result) false _ _ failed bytes _ _ c.put-stored.ensures.grows)
+    (rw c.clock-mark.ensures (puts_as g.D.Disk.told _ _ (is_ok c.put-stored.result) false _ _ _ failed bytes c.put-stored.ensures.puts))
+    (subst (λ (b : Bool). HasPut b c.self.inside.journal c.put-stored.new.journal) failed c.put-stored.ensures.has)
     (subst (λ (b : Bool). HasCause b (g.D.Disk.fault_count c.self.inside.journal.disk) (g.D.Disk.fault_count c.put-stored.new.journal.disk)) err c.put-stored.ensures.cause)
 
 pub returns-then-is_err-2-clause-does : goal.returns-then-is_err-2-clause-does
@@ -56,11 +56,10 @@ returns-then-is_err-2-clause-does g c =
     let law : IsLegal (replay_log c.self.inside.base.value.rows c.self.inside.history.log) c.args.command.now = subst (λ (v : View g.row.D.Denot). IsLegal (rows_of v) c.args.command.now) (sym c.self.view_is) c.requires in
     let failed : is_ok c.put-stored.result ≡ false = search rules in
     let bytes = c.write_command-len.ensures.bytes in
-    let puts = puts_as (is_ok c.put-stored.result) false _ _ failed bytes _ _ _ _ _ _ c.put-stored.ensures.does in
-    let extends = puts_extend _ _ c.self.inside.base.value.rows c.self.inside.history.log c.self.inside.history.marks c.self.inside.since
-    c.self.inside.journal.area c.self.inside.journal.generation c.self.inside.journal.end c.self.inside.journal.frames (is_waiting c.self.inside.journal.waiting) c.self.invariant.holds false _ _ puts in
+    let puts = puts_as g.D.Disk.told _ _ (is_ok c.put-stored.result) false _ _ _ failed bytes c.put-stored.ensures.puts in
+    let extends = put_extends g.D.Disk.told g.D.Disk.fault_count _ _ _ _ _ _ _ _ _ c.self.invariant c.args.by c.args.command.now c.write_command-len.ensures.fits law false _ puts in
     let does = passes_by (g.D.Disk.told c.self.inside.journal.disk) c.self.inside.base.value.rows c.self.inside.history.log c.self.inside.history.marks c.self.inside.since
-    c.self.inside.journal.area c.self.inside.journal.generation c.self.inside.journal.end c.self.inside.journal.frames (is_waiting c.self.inside.journal.waiting) c.self.invariant.holds c.args.command.now c.write_command-len.ensures.fits law
+    c.self.inside.journal.area c.self.inside.journal.generation c.self.inside.journal.end c.self.inside.journal.frames c.self.inside.journal.waiting c.self.inside.journal.gate c.self.invariant.holds c.args.command.now c.write_command-len.ensures.fits law
     (g.D.Disk.told c.put-stored.new.journal.disk) false (is_waiting c.put-stored.new.journal.waiting) extends
     (λ calm. adds_as (is_ok c.put-stored.result) false _ _ failed bytes _ _ _ _ _ (c.put-stored.ensures.appends calm)) in
     subst (λ (v : View g.row.D.Denot). Goes (g.D.Disk.told v.disk) (g.D.Disk.told c.put-stored.new.journal.disk) (Passes v.waits verdict.Ok false (rows_of v) c.args.command.now)) c.self.view_is does
@@ -81,9 +80,8 @@ invariant_of-self-2 g c =
     (ap (λ (e : Entries). e.marks) added)
     (ap (λ (e : Entries). e.told) added ∙ ap (λ (t : Option Events). c.self.inside.history.told ++ t ∷ []) told)
     c.apply-events.ensures.valid
-    (λ q told. g.met.D.Disk.timed c.put-stored.new.journal.disk q told ∙ sym c.clock-mark.ensures)
-    (puts_as (is_ok c.put-stored.result) true _ _ made bytes _ _ _ _ _ _ c.put-stored.ensures.does)
-    (grows_as (is_ok c.put-stored.result) true _ _ made bytes _ _ c.put-stored.ensures.grows)
+    (rw c.clock-mark.ensures (puts_as g.D.Disk.told _ _ (is_ok c.put-stored.result) true _ _ _ made bytes c.put-stored.ensures.puts))
+    (subst (λ (b : Bool). HasPut b c.self.inside.journal c.put-stored.new.journal) made c.put-stored.ensures.has)
     (subst (λ (b : Bool). HasCause b (g.D.Disk.fault_count c.self.inside.journal.disk) (g.D.Disk.fault_count c.put-stored.new.journal.disk)) err c.put-stored.ensures.cause)
 
 pub returns-clause-does : goal.returns-clause-does
@@ -91,11 +89,10 @@ returns-clause-does g c =
     let law : IsLegal (replay_log c.self.inside.base.value.rows c.self.inside.history.log) c.args.command.now = subst (λ (v : View g.row.D.Denot). IsLegal (rows_of v) c.args.command.now) (sym c.self.view_is) c.requires in
     let made : is_ok c.put-stored.result ≡ true = search rules in
     let bytes = c.write_command-len.ensures.bytes in
-    let puts = puts_as (is_ok c.put-stored.result) true _ _ made bytes _ _ _ _ _ _ c.put-stored.ensures.does in
-    let extends = puts_extend _ _ c.self.inside.base.value.rows c.self.inside.history.log c.self.inside.history.marks c.self.inside.since
-    c.self.inside.journal.area c.self.inside.journal.generation c.self.inside.journal.end c.self.inside.journal.frames (is_waiting c.self.inside.journal.waiting) c.self.invariant.holds true _ _ puts in
+    let puts = puts_as g.D.Disk.told _ _ (is_ok c.put-stored.result) true _ _ _ made bytes c.put-stored.ensures.puts in
+    let extends = put_extends g.D.Disk.told g.D.Disk.fault_count _ _ _ _ _ _ _ _ _ c.self.invariant c.args.by c.args.command.now c.write_command-len.ensures.fits law true _ puts in
     let does = passes_by (g.D.Disk.told c.self.inside.journal.disk) c.self.inside.base.value.rows c.self.inside.history.log c.self.inside.history.marks c.self.inside.since
-    c.self.inside.journal.area c.self.inside.journal.generation c.self.inside.journal.end c.self.inside.journal.frames (is_waiting c.self.inside.journal.waiting) c.self.invariant.holds c.args.command.now c.write_command-len.ensures.fits law
+    c.self.inside.journal.area c.self.inside.journal.generation c.self.inside.journal.end c.self.inside.journal.frames c.self.inside.journal.waiting c.self.inside.journal.gate c.self.invariant.holds c.args.command.now c.write_command-len.ensures.fits law
     (g.D.Disk.told c.put-stored.new.journal.disk) true (is_waiting c.put-stored.new.journal.waiting) extends
     (λ calm. adds_as (is_ok c.put-stored.result) true _ _ made bytes _ _ _ _ _ (c.put-stored.ensures.appends calm)) in
     subst (λ (v : View g.row.D.Denot). Goes (g.D.Disk.told v.disk) (g.D.Disk.told c.put-stored.new.journal.disk) (Passes v.waits verdict.Ok true (rows_of v) c.args.command.now)) c.self.view_is does

@@ -1,0 +1,63 @@
+//! Checkpoints: the rows in place of the frames that led to them, so that a load has few frames to do again.
+ghost use Rattle.std.specs.Prelude.{◌≡◌, ◌+◌, ◌-◌, ◌<◌, ◌≤◌, ◌^◌, true, false, length, is_ok, is_err};
+ghost use Rattle.byte_ports.specs.Cause.{HasCause};
+ghost use Rattle.disk_trait.specs.Steps.{Goes};
+ghost use Rattle.bbs_journal.specs.Calls.{mend_calls};
+ghost use Rattle.bbs_journal.specs.View.{is_waiting};
+ghost use Rattle.bbs_board.specs.Checkpoint.{Checkpoints, EndsCheckpoint, MovedOn, MovesOn, is_checkpoint_fault};
+ghost use Rattle.bbs_board.specs.View.{rows_of};
+
+use crate::Board;
+use crate::draft::row_count;
+use bbs_journal::{DiskFault, Journal};
+use bbs_model::CallFault;
+use bbs_snapshot::switch;
+use disk_trait::Disk;
+
+/// Mends what an earlier fault left, and goes on in the other area with this head.
+fn move_on<D: Disk>(journal: &mut Journal<D>, head: &[u8]) -> Result<(), DiskFault>
+    requires whole { journal.old.broken ≡ false }
+    requires generation { journal.old.generation < 2 ^ 64 - 1 }
+    requires few { length head.now < 2 ^ 32 }
+    ensures moves { MovesOn D.told (is_ok result) head.now journal.old journal.new }
+    ensures knows { MovedOn (is_ok result) journal.old journal.new }
+    ensures calls { D.moment journal.new.disk
+        ≤ D.moment journal.old.disk + mend_calls (is_waiting journal.old.waiting) + 8 }
+    ensures cause { HasCause (is_err result)
+        (D.fault_count journal.old.disk) (D.fault_count journal.new.disk) }
+{
+    journal.mend()?;
+    switch(journal, head)
+}
+
+impl<D: Disk> Board<D> {
+    /// Puts the rows as a head into the other area of the disk, and goes on there without frames, so
+    /// that the next load has none to do again. Where there are none it does nothing. It takes the time
+    /// and the memory of the rows in bytes, and has its memory before its first device call. Where one of
+    /// those fails the board goes on in the area that it is in, and has no doubt more: a stop leaves the
+    /// rows in any case.
+    pub fn checkpoint(&mut self) -> Result<(), CallFault>
+        ensures stays { self.new ≡ record self.old { disk = self.new.disk; waits = self.new.waits } }
+        ensures ends { EndsCheckpoint (length self.old.log) result }
+        ensures does { Goes (D.told self.old.disk) (D.told self.new.disk)
+            (Checkpoints (is_ok result) self.old.waits (rows_of self.old)) }
+        ensures calm { is_ok result ≡ true → self.old.waits ≡ false → self.new.waits ≡ false }
+        ensures calls { D.moment self.new.disk
+            ≤ D.moment self.old.disk + mend_calls self.old.waits + 8 }
+        ensures cause { HasCause (is_checkpoint_fault result)
+            (D.fault_count self.old.disk) (D.fault_count self.new.disk) }
+    {
+        if self.journal.frames() == 0 || self.journal.generation() == u64::MAX {
+            return Ok(());
+        }
+        let place = self.history.place();
+        if self.draft.reserve(row_count(&self.index)).is_err() {
+            return Err(CallFault::OutOfMemory);
+        }
+        self.draft.write(&self.index);
+        match move_on(&mut self.journal, &self.draft.bytes) {
+            Ok(()) => Ok(()),
+            Err(_) => Err(CallFault::Disk { place }),
+        }
+    }
+}

@@ -1,0 +1,148 @@
+//! The head of a checkpoint: the rows of an index in bytes, written where room was made for them.
+ghost use Rattle.std.specs.Prelude.{◌≡◌, ◌+◌, ◌*◌, ◌≤◌, ◌<◌, ◌^◌, ◌++◌, length, vec_len, vec_capacity, OnOk};
+ghost use Rattle.std.specs.List.{flat_map, AllByRecursion};
+ghost use Rattle.bbs_codec.specs.Head.{counts, head_counts, head_spelled, FitsHead};
+ghost use Rattle.bbs_index.specs.Shelf.{AreNumbered};
+ghost use Rattle.bbs_model.specs.Valid.{IsValid};
+ghost use Rattle.bbs_board.specs.Checkpoint.{row_count};
+
+use bbs_codec::{Counts, HeadRow, ROW_BYTES, append_front, append_row};
+use bbs_index::{Index, Shelf};
+use bbs_model::RowStore;
+use diego_names::OutOfMemory;
+use std::alloc::Global;
+
+/// A head in bytes, and the numbers of one table's rows at a time. Their room is kept from one
+/// checkpoint to the next.
+#[derive(Drop)]
+pub struct Draft {
+    pub(crate) bytes: Vec<u8>,
+    pub(crate) order: Vec<u32>,
+}
+
+/// Puts the front of a head behind what is written.
+fn put_front(out: &mut Vec<u8>, front: Counts)
+    requires { vec_len out.old + 344 ≤ vec_capacity out.old }
+    ensures bytes { out.new.items ≡ out.old.items ++ counts.spelling front }
+    ensures few { vec_len out.new ≤ vec_len out.old + 344 }
+    ensures kept { vec_capacity out.old ≤ vec_capacity out.new }
+{
+    match append_front(out, front) {
+        Ok(()) => {}
+        Err(_) => unreachable!(),
+    }
+}
+
+/// Puts a row behind what is written.
+fn put_row<X: HeadRow>(out: &mut Vec<u8>, row: &X)
+    requires { vec_len out.old + 344 ≤ vec_capacity out.old }
+    ensures bytes { out.new.items ≡ out.old.items ++ X.format.spelling row.entry.now }
+    ensures fits { X.format.Fits row.entry.now }
+    ensures few { vec_len out.new ≤ vec_len out.old + 344 }
+    ensures kept { vec_capacity out.old ≤ vec_capacity out.new }
+{
+    match append_row(out, row) {
+        Ok(()) => {}
+        Err(_) => unreachable!(),
+    }
+}
+
+/// Puts the rows of these numbers behind what is written.
+fn put_numbered<X: HeadRow>(out: &mut Vec<u8>, shelf: &Shelf<X>, numbers: &[u32])
+    requires numbered { AreNumbered shelf.now.numbered numbers.now shelf.now.rows }
+    requires room { vec_len out.old + 344 * length shelf.now.rows ≤ vec_capacity out.old }
+    ensures bytes { out.new.items ≡ out.old.items ++ flat_map X.format.spelling shelf.entry.now.rows }
+    ensures fits { AllByRecursion X.format.Fits shelf.entry.now.rows }
+    ensures few { vec_len out.new ≤ vec_len out.old + 344 * length shelf.entry.now.rows }
+    ensures kept { vec_capacity out.old ≤ vec_capacity out.new }
+{
+    for number in numbers {
+        put_row(out, shelf.at(*number as usize));
+    }
+}
+
+/// Puts the rows of a shelf behind what is written, in the order of their keys.
+fn put_rows<X: HeadRow>(out: &mut Vec<u8>, order: &mut Vec<u32>, shelf: &Shelf<X>)
+    requires room { vec_len out.old + 344 * length shelf.now.rows ≤ vec_capacity out.old }
+    requires numbers { length shelf.now.rows ≤ vec_capacity order.old }
+    requires countable { length shelf.now.rows < 2 ^ 32 }
+    ensures bytes { out.new.items ≡ out.old.items ++ flat_map X.format.spelling shelf.entry.now.rows }
+    ensures fits { AllByRecursion X.format.Fits shelf.entry.now.rows }
+    ensures few { vec_len out.new ≤ vec_len out.old + 344 * length shelf.entry.now.rows }
+    ensures kept { vec_capacity out.old ≤ vec_capacity out.new }
+    ensures order { vec_capacity order.new ≡ vec_capacity order.old }
+{
+    shelf.order_into(order);
+    put_numbered(out, shelf, order);
+}
+
+fn front_of(index: &Index) -> Counts
+    requires { IsValid index.now.rows }
+    ensures { result ≡ head_counts index.now.rows }
+{
+    (
+        index.next(),
+        (
+            (
+                index.desired_shelf().len() as u32,
+                index.actual_shelf().len() as u32,
+            ),
+            (
+                index.tasks_shelf().len() as u32,
+                index.cells_shelf().len() as u32,
+            ),
+        ),
+    )
+}
+
+/// How many rows a board has in all its tables.
+pub fn row_count(index: &Index) -> usize
+    requires { IsValid index.now.rows }
+    ensures count { result ≡ row_count index.now.rows }
+    ensures few { result ≤ 156000 }
+{
+    index.desired_shelf().len()
+        + index.actual_shelf().len()
+        + index.tasks_shelf().len()
+        + index.cells_shelf().len()
+}
+
+impl Draft {
+    /// A draft of nothing. It takes no memory.
+    pub fn new(alloc: Global) -> Draft {
+        Draft {
+            bytes: Vec::new(alloc),
+            order: Vec::new(alloc),
+        }
+    }
+
+    /// Makes room for the head of so many rows. It fails only for want of memory.
+    pub fn reserve(&mut self, rows: usize) -> Result<(), OutOfMemory>
+        requires { rows ≤ 156000 }
+        ensures bytes { OnOk result (344 * (rows + 1) ≤ vec_capacity self.new.bytes) }
+        ensures numbers { OnOk result (rows ≤ vec_capacity self.new.order) }
+    {
+        self.bytes.clear();
+        self.order.clear();
+        self.bytes.reserve(ROW_BYTES * (rows + 1))?;
+        self.order.reserve(rows)?;
+        Ok(())
+    }
+
+    /// Writes the head of the rows of an index over what stands there. It takes no memory.
+    pub fn write(&mut self, index: &Index)
+        requires valid { IsValid index.now.rows }
+        requires bytes { 344 * (row_count index.now.rows + 1) ≤ vec_capacity self.old.bytes }
+        requires numbers { row_count index.now.rows ≤ vec_capacity self.old.order }
+        ensures bytes { self.new.bytes.items ≡ head_spelled index.entry.now.rows }
+        ensures fits { FitsHead index.entry.now.rows }
+        ensures few { length self.new.bytes.items < 2 ^ 32 }
+    {
+        self.bytes.clear();
+        put_front(&mut self.bytes, front_of(index));
+        put_rows(&mut self.bytes, &mut self.order, index.desired_shelf());
+        put_rows(&mut self.bytes, &mut self.order, index.actual_shelf());
+        put_rows(&mut self.bytes, &mut self.order, index.tasks_shelf());
+        put_rows(&mut self.bytes, &mut self.order, index.cells_shelf());
+    }
+}
