@@ -8,9 +8,11 @@ pub mod Writing
 pub mod Beside
 pub mod Keeping
 pub mod Steps
+pub mod Adding
 pub mod Doubting
 pub mod Held
 pub mod Moving
+pub mod Compacting
 pub mod Drafting
 pub mod Again
 pub mod Completing

@@ -23,7 +23,8 @@ use Rattle.bbs_model.specs.declared.rows.Rows.{Rows}
 use Rattle.bbs_board.specs.Puts.{item_of, StandsWith, StillStands, PutsItem, HasPut}
 use Rattle.bbs_board.specs.View.{Holds, StandsOn}
 use Rattle.bbs_board.proofs.Beside.{calm_nothing}
-use Rattle.bbs_board.proofs.Steps.{end_of, frames_of, left_waiting, left_known, frame_left, holds_frame, holds_header, holds_doubted, holds_added}
+use Rattle.bbs_board.proofs.Adding.{holds_doubted, holds_added}
+use Rattle.bbs_board.proofs.Steps.{end_of, frames_of, left_waiting, left_known, frame_left, holds_frame, holds_header}
 
 -- a step of a disk that may tell nothing
 pub by_step : (t0 t1 : Option Past) (Does : Past → Past → Type 0) (P Q : Past → Type 0) → ((p q : Past) → t1 ≡ Some q → Does p q → P p → Extends p q × Q q)

@@ -1,6 +1,6 @@
 use Rattle.std.proofs.Common.{◌≡◌, false, is_ok, rules}
 use Rattle.bbs_board.proofs.Mending.{mended}
-use Rattle.bbs_board.proofs.Moving.{moves_switched, moves_then, moves_not}
+use Rattle.bbs_board.proofs.Compacting.{moves_switched, moves_then, moves_not}
 use Rattle.bbs_board.proofs.checkpoint.move_on.Goals as goal
 
 pub returns-in_err-mend-clause-moves : goal.returns-in_err-mend-clause-moves

@@ -6,7 +6,7 @@ use Rattle.bbs_model.specs.Valid.{IsValid}
 use Rattle.bbs_board.specs.Checkpoint.{Checkpoints}
 use Rattle.bbs_board.specs.View.{View, rows_of}
 use Rattle.bbs_board.proofs.Held.{sound_moved}
-use Rattle.bbs_board.proofs.Moving.{checkpoint_none, checkpoint_never, checkpoint_starved, checkpoint_tried}
+use Rattle.bbs_board.proofs.Compacting.{checkpoint_none, checkpoint_never, checkpoint_starved, checkpoint_tried}
 use Rattle.bbs_board.proofs.board.Board.checkpoint.Goals.{then-frames-eq0-via-then-frames-eq0, then-frames-eq0-via-else-frames-eq0+then-generation}
 use Rattle.bbs_board.proofs.board.Board.checkpoint.Goals as goal
 
