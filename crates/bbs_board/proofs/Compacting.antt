@@ -14,7 +14,7 @@ use Rattle.bbs_journal.specs.declared.other_gate.OtherGate.{OtherGate}
 use Rattle.bbs_journal.specs.declared.other_gate.OtherGate.TheVariants.{Shut, Loose, Written}
 use Rattle.bbs_journal.specs.declared.waiting.Waiting.{Waiting}
 use Rattle.bbs_journal.specs.declared.waiting.Waiting.TheVariants.{Nothing, Frame, Header}
-use Rattle.bbs_snapshot.specs.Switches.{Switches, SwitchesAll, GoesOn}
+use Rattle.bbs_snapshot.specs.Switches.{Switches, SwitchesAll, KnowsAfterSwitch}
 use Rattle.bbs_model.specs.Replay.{replay_log, IsLawful}
 use Rattle.bbs_model.specs.Valid.{IsValid}
 use Rattle.bbs_model.specs.declared.item.Item.{Item}
@@ -50,7 +50,7 @@ module _ {D : Type 0} (told : D → Option Past) (v0 v1 : JournalView D) (base :
       all h.gate h.head h.payloads v0.end h.is_open h.goes_with (lead_at p h).goes_with
       (calm_ready base log marks since v0.area v0.generation v0.end v0.frames v0.gate p q h new (lead_at p h))
 
-  switched_there : GoesOn true (length new) v0 v1 → Goes (told v0.disk) (told v1.disk) (SwitchesAll true v0.area v0.generation v1.waiting v1.gate new) → StandsWith told base log marks since v0 v1
+  switched_there : KnowsAfterSwitch true (length new) v0 v1 → Goes (told v0.disk) (told v1.disk) (SwitchesAll true v0.area v0.generation v1.waiting v1.gate new) → StandsWith told base log marks since v0 v1
   switched_there goes_on goes =
       let made = goes_on.made refl in
       let both = by_step (told v0.disk) (told v1.disk) (SwitchesAll true v0.area v0.generation v1.waiting v1.gate new) Here (Holds base log marks since (other v0.area) (v0.generation + 1) (23 + length new) 0 Nothing Loose)
@@ -65,7 +65,7 @@ module _ {D : Type 0} (told : D → Option Past) (v0 v1 : JournalView D) (base :
             (ap (λ (v : JournalView D). v.waiting) made) (ap (λ (v : JournalView D). v.gate) made) both.1;
       }
 
-  switched_here : GoesOn false (length new) v0 v1 → Goes (told v0.disk) (told v1.disk) (SwitchesAll false v0.area v0.generation v1.waiting v1.gate new) → StandsWith told base log marks since v0 v1
+  switched_here : KnowsAfterSwitch false (length new) v0 v1 → Goes (told v0.disk) (told v1.disk) (SwitchesAll false v0.area v0.generation v1.waiting v1.gate new) → StandsWith told base log marks since v0 v1
   switched_here goes_on goes =
       let failed = goes_on.failed refl in
       let both = by_step (told v0.disk) (told v1.disk) (SwitchesAll false v0.area v0.generation v1.waiting v1.gate new) Here (Holds base log marks since v0.area v0.generation v0.end v0.frames v1.waiting v1.gate)
@@ -78,7 +78,7 @@ module _ {D : Type 0} (told : D → Option Past) (v0 v1 : JournalView D) (base :
         stands = standing told base log marks since v1 v0.area v0.generation v0.end v0.frames v1.waiting v1.gate failed.stays.area failed.stays.generation failed.end failed.frames refl refl both.1;
       }
 
-  switched : (ok : Bool) → GoesOn ok (length new) v0 v1 → Goes (told v0.disk) (told v1.disk) (SwitchesAll ok v0.area v0.generation v1.waiting v1.gate new) → StandsWith told base log marks since v0 v1
+  switched : (ok : Bool) → KnowsAfterSwitch ok (length new) v0 v1 → Goes (told v0.disk) (told v1.disk) (SwitchesAll ok v0.area v0.generation v1.waiting v1.gate new) → StandsWith told base log marks since v0 v1
   switched true goes_on goes = switched_there goes_on goes
   switched false goes_on goes = switched_here goes_on goes
 
@@ -91,11 +91,11 @@ module _ {D : Type 0} (told : D → Option Past) (v0 v1 : JournalView D) (base :
 
 module _ {D : Type 0} (told : D → Option Past) where
   -- a switch where nothing waits
-  pub moves_switched : (v0 v1 : JournalView D) (ok : Bool) (head : List ℕ) → v0.waiting ≡ Nothing → length head < 2 ^ 32 → GoesOn ok (length head) v0 v1
+  pub moves_switched : (v0 v1 : JournalView D) (ok : Bool) (head : List ℕ) → v0.waiting ≡ Nothing → length head < 2 ^ 32 → KnowsAfterSwitch ok (length head) v0 v1
       → Goes (told v0.disk) (told v1.disk) (SwitchesAll ok v0.area v0.generation v1.waiting v1.gate head) → MovesOn told ok head v0 v1
   moves_switched v0 v1 ok head calm small goes_on goes base log marks since lawful stands some fits is =
       let few : length (head_spelled (replay_log base log)) < 2 ^ 32 = subst (λ (l : List ℕ). length l < 2 ^ 32) is small in
-      let on : GoesOn ok (length (head_spelled (replay_log base log))) v0 v1 = subst (λ (l : List ℕ). GoesOn ok (length l) v0 v1) is goes_on in
+      let on : KnowsAfterSwitch ok (length (head_spelled (replay_log base log))) v0 v1 = subst (λ (l : List ℕ). KnowsAfterSwitch ok (length l) v0 v1) is goes_on in
       let all = subst (λ (l : List ℕ). Goes (told v0.disk) (told v1.disk) (SwitchesAll ok v0.area v0.generation v1.waiting v1.gate l)) is goes in (
         switched told v0 v1 base log marks since calm stands some fits few ok on all,
         λ idle. compacted_so told v0 v1 base log marks since calm stands some fits few ok all,
@@ -132,7 +132,7 @@ module _ {D : Type 0} (v0 v1 v2 : JournalView D) (whole : v0.broken ≡ false) w
       let frames : v1.frames ≡ v0.frames = settles.frames in
       record { whole = settles.stays.broken ∙ whole; frames = omega (arith, frames); waits = λ never. absurd (cc (never)) }
 
-  pub moved_on : (ok : Bool) (size : ℕ) → Settles true v0 v1 → GoesOn ok size v1 v2 → MovedOn ok v0 v2
+  pub moved_on : (ok : Bool) (size : ℕ) → Settles true v0 v1 → KnowsAfterSwitch ok size v1 v2 → MovedOn ok v0 v2
   moved_on true size settles on =
       let made = on.made refl in
       record {
