@@ -1,5 +1,5 @@
-//! What calls are answered that the way to the board or back loses, and what is refused by the state that it finds or by its
-//! cell's room.
+//! Calls that are lost on the way to the board or back, and calls that are refused by the state that they find
+//! or by their cell's room.
 use super::doubts::CRASHED;
 use super::*;
 

@@ -75,7 +75,8 @@ fn a_round_passes_the_gate_before_each_of_its_calls(rt: HostRuntime) {
     );
 }
 
-// A refusal is a call, and so is one whose reply is lost. A rep that is down makes none, nor does one that has nothing to do.
+// A refusal is a call, and so is one whose reply is lost. A rep that is down makes none, nor does one
+// that has nothing to do.
 #[test]
 fn an_actor_passes_the_gate_before_each_call_and_not_where_it_makes_none(rt: HostRuntime) {
     pass(
