@@ -34,12 +34,7 @@ fn a_clients_call_that_is_lost_is_made_by_the_next_run(rt: HostRuntime) {
     );
 }
 
-#[test]
-fn what_an_emptied_cell_tells_can_be_lost_on_either_way(rt: HostRuntime) {
-    plays(
-        &rt,
-        rt.alloc(),
-        r#"{"at":0}
+const EMPTIED_LINES: &str = r#"{"at":0}
 {"cell":"c1","op":"join","zone":"z1","memory":1024,"disk":4096,"containers":10,"ttl":600}
 {"cell":"c1","op":"evacuate"}
 {"at":0}
@@ -59,8 +54,9 @@ fn what_an_emptied_cell_tells_can_be_lost_on_either_way(rt: HostRuntime) {
 {"cell":"c2","op":"evacuate"}
 {"cell":"c2","op":"settle","lost":"call"}
 {"cell":"c2","op":"settle"}
-"#,
-        r#"{"actor":"c1","answer":"ok","call":"join","line":2,"subject":"c1"}
+"#;
+
+const EMPTIED_TEXT: &str = r#"{"actor":"c1","answer":"ok","call":"join","line":2,"subject":"c1"}
 {"actor":"c1","answer":"ok","call":"drain","line":3,"subject":"c1"}
 {"actor":"c1","answer":"none","call":"evacuate","line":3,"subject":"c1"}
 {"event":"created","row":{"cell":"c1","containers":10,"disk":4096,"epoch":0,"evacuating":false,"memory":1024,"tag":null,"until":600,"zone":"z1"},"table":"cell"}
@@ -90,16 +86,14 @@ fn what_an_emptied_cell_tells_can_be_lost_on_either_way(rt: HostRuntime) {
 {"event":"created","row":{"cell":"c2","containers":10,"disk":4096,"epoch":7,"evacuating":false,"memory":1024,"tag":null,"until":603,"zone":"z2"},"table":"cell"}
 {"event":"changed","row":{"cell":"c2","containers":10,"disk":4096,"epoch":7,"evacuating":true,"memory":1024,"tag":null,"until":603,"zone":"z2"},"table":"cell"}
 {"done":11,"doubts":0,"next":11,"phases":5}
-"#,
-    );
-}
+"#;
 
 #[test]
-fn a_call_is_refused_by_the_state_that_it_finds_and_a_run_by_its_cells_room(rt: HostRuntime) {
-    plays(
-        &rt,
-        rt.alloc(),
-        r#"{"at":0}
+fn what_an_emptied_cell_tells_can_be_lost_on_either_way(rt: HostRuntime) {
+    plays(&rt, rt.alloc(), EMPTIED_LINES, EMPTIED_TEXT);
+}
+
+const FOUND_LINES: &str = r#"{"at":0}
 {"cell":"c1","op":"join","zone":"z1","memory":1024,"disk":4096,"containers":10,"ttl":600}
 {"cell":"c1","op":"run","process":"web","index":0,"memory":1025,"disk":1}
 {"cell":"c1","op":"run","process":"web","index":0,"memory":1,"disk":4097}
@@ -120,8 +114,9 @@ fn a_call_is_refused_by_the_state_that_it_finds_and_a_run_by_its_cells_room(rt: 
 {"op":"round"}
 {"at":601}
 {"cell":"c1","op":"run","process":"web","index":0,"memory":64,"disk":128}
-"#,
-        r#"{"actor":"c1","answer":"ok","call":"join","line":2,"subject":"c1"}
+"#;
+
+const FOUND_TEXT: &str = r#"{"actor":"c1","answer":"ok","call":"join","line":2,"subject":"c1"}
 {"actor":"c1","answer":"refused","call":"run","line":3,"subject":"web/0","why":"no memory left"}
 {"actor":"c1","answer":"refused","call":"run","line":4,"subject":"web/0","why":"no disk left"}
 {"event":"created","row":{"cell":"c1","containers":10,"disk":4096,"epoch":0,"evacuating":false,"memory":1024,"tag":null,"until":600,"zone":"z1"},"table":"cell"}
@@ -148,6 +143,9 @@ fn a_call_is_refused_by_the_state_that_it_finds_and_a_run_by_its_cells_room(rt: 
 {"event":"removed","row":{"cell":"c1","containers":10,"disk":4096,"epoch":0,"evacuating":false,"memory":1024,"tag":null,"until":600,"zone":"z1"},"table":"cell"}
 {"actor":"c1","answer":"refused","call":"start","line":21,"subject":"web/0","why":"unknown cell"}
 {"done":12,"doubts":0,"next":12,"phases":7}
-"#,
-    );
+"#;
+
+#[test]
+fn a_call_is_refused_by_the_state_that_it_finds_and_a_run_by_its_cells_room(rt: HostRuntime) {
+    plays(&rt, rt.alloc(), FOUND_LINES, FOUND_TEXT);
 }

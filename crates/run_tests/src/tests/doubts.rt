@@ -17,15 +17,7 @@ fn fails(rt: &impl Abort, alloc: Global, board: &[u8], calls: &[u64], scenario: 
     ends(rt, &left, 5, text);
 }
 
-// A write that fails is one device call, and the append that follows is four.
-#[test]
-fn each_call_of_a_client_can_meet_a_disk_fault_and_then_be_made(rt: HostRuntime) {
-    fails(
-        &rt,
-        rt.alloc(),
-        CRASHED,
-        &[8, 13, 18, 23, 28, 33, 38, 43],
-        r#"{"at":30}
+const CLIENT_LINES: &str = r#"{"at":30}
 {"client":"cli","op":"desire","process":"api","domain":"apps","instances":1,"memory":64,"disk":128,"times":2}
 {"client":"cli","op":"update","process":"api","instances":2,"times":2}
 {"client":"cli","op":"restart","process":"web","index":0,"times":2}
@@ -34,8 +26,10 @@ fn each_call_of_a_client_can_meet_a_disk_fault_and_then_be_made(rt: HostRuntime)
 {"client":"cli","op":"cancel","name":"job","times":2}
 {"client":"cli","op":"resolve","name":"job","times":2}
 {"client":"cli","op":"delete","name":"job","times":2}
-"#,
-        r#"{"actor":"cli","answer":"disk","call":"desire","line":2,"subject":"api"}
+"#;
+
+const CLIENT_TEXT: &str =
+    r#"{"actor":"cli","answer":"disk","call":"desire","line":2,"subject":"api"}
 {"actor":"cli","answer":"ok","call":"desire","line":2,"subject":"api"}
 {"actor":"cli","answer":"disk","call":"update","line":3,"subject":"api"}
 {"actor":"cli","answer":"ok","call":"update","line":3,"subject":"api"}
@@ -60,19 +54,22 @@ fn each_call_of_a_client_can_meet_a_disk_fault_and_then_be_made(rt: HostRuntime)
 {"event":"changed","row":{"birth":504,"cell":null,"disk":64,"failed":true,"instance":null,"memory":64,"name":"job","since":30,"state":"resolving","tag":null},"table":"task"}
 {"event":"removed","row":{"birth":504,"cell":null,"disk":64,"failed":true,"instance":null,"memory":64,"name":"job","since":30,"state":"resolving","tag":null},"table":"task"}
 {"done":8,"doubts":8,"next":508,"phases":1}
-"#,
-    );
-}
+"#;
 
-// The last settles twice: the first time both of its calls fail.
+// A write that fails is one device call, and the append that follows is four.
 #[test]
-fn each_call_of_a_cell_can_meet_a_disk_fault_and_then_be_made(rt: HostRuntime) {
+fn each_call_of_a_client_can_meet_a_disk_fault_and_then_be_made(rt: HostRuntime) {
     fails(
         &rt,
         rt.alloc(),
-        EMPTY,
-        &[32, 37, 42, 47, 52, 57, 62, 75, 80, 81],
-        r#"{"at":0}
+        CRASHED,
+        &[8, 13, 18, 23, 28, 33, 38, 43],
+        CLIENT_LINES,
+        CLIENT_TEXT,
+    );
+}
+
+const CELL_LINES: &str = r#"{"at":0}
 {"client":"cli","op":"desire","process":"web","domain":"apps","instances":2,"memory":64,"disk":128}
 {"client":"cli","op":"task","name":"job","memory":64,"disk":64}
 {"at":1}
@@ -89,8 +86,9 @@ fn each_call_of_a_cell_can_meet_a_disk_fault_and_then_be_made(rt: HostRuntime) {
 {"cell":"c1","op":"claim","process":"web","index":1,"memory":64,"disk":128}
 {"cell":"c1","op":"evacuate","times":2}
 {"cell":"c1","op":"settle"}
-"#,
-        r#"{"actor":"cli","answer":"ok","call":"desire","line":2,"subject":"web"}
+"#;
+
+const CELL_TEXT: &str = r#"{"actor":"cli","answer":"ok","call":"desire","line":2,"subject":"web"}
 {"actor":"cli","answer":"ok","call":"task","line":3,"subject":"job"}
 {"event":"created","row":{"disk":128,"domain":"apps","instances":2,"memory":64,"port":8080,"process":"web","route":null,"tag":null},"table":"desired"}
 {"event":"created","row":{"birth":1,"cell":null,"disk":64,"failed":null,"instance":null,"memory":64,"name":"job","since":0,"state":"pending","tag":null},"table":"task"}
@@ -135,6 +133,17 @@ fn each_call_of_a_cell_can_meet_a_disk_fault_and_then_be_made(rt: HostRuntime) {
 {"event":"changed","row":{"cell":"c1","containers":10,"disk":4096,"epoch":6,"evacuating":false,"memory":1024,"tag":null,"until":702,"zone":"z1"},"table":"cell"}
 {"event":"changed","row":{"cell":"c1","containers":10,"disk":4096,"epoch":6,"evacuating":true,"memory":1024,"tag":null,"until":702,"zone":"z1"},"table":"cell"}
 {"done":18,"doubts":10,"next":18,"phases":3}
-"#,
+"#;
+
+// The last settles twice: the first time both of its calls fail.
+#[test]
+fn each_call_of_a_cell_can_meet_a_disk_fault_and_then_be_made(rt: HostRuntime) {
+    fails(
+        &rt,
+        rt.alloc(),
+        EMPTY,
+        &[32, 37, 42, 47, 52, 57, 62, 75, 80, 81],
+        CELL_LINES,
+        CELL_TEXT,
     );
 }

@@ -8,14 +8,7 @@ const OLD: &[u8] =
 \x00\x00\x01\x00\x00\x00@\x00\x00\x00\x80\x00\x00\x1f\x90\x03web\x00\x00\x00\x00\x00\x03\x00\
 \x00\x00\x04\x00\x00\x00\x00\x00\x00";
 
-// 26 transitions are made. A container whose call is refused is gone, so that the last settles nothing.
-#[test]
-fn a_board_without_a_transition_left_refuses_each_call_that_is_legal(rt: HostRuntime) {
-    plays_on(
-        &rt,
-        rt.alloc(),
-        OLD,
-        r#"{"at":0}
+const FULL_LINES: &str = r#"{"at":0}
 {"cell":"c1","op":"join","zone":"z1","memory":1024,"disk":4096,"containers":10,"ttl":600}
 {"at":0}
 {"cell":"c2","op":"join","zone":"z2","memory":1024,"disk":4096,"containers":10,"ttl":600}
@@ -53,8 +46,9 @@ fn a_board_without_a_transition_left_refuses_each_call_that_is_legal(rt: HostRun
 {"at":30}
 {"cell":"c2","op":"settle"}
 {"cell":"c2","op":"settle"}
-"#,
-        r#"{"actor":"c1","answer":"ok","call":"join","line":2,"subject":"c1"}
+"#;
+
+const FULL_TEXT: &str = r#"{"actor":"c1","answer":"ok","call":"join","line":2,"subject":"c1"}
 {"event":"created","row":{"cell":"c1","containers":10,"disk":4096,"epoch":999974,"evacuating":false,"memory":1024,"tag":null,"until":600,"zone":"z1"},"table":"cell"}
 {"actor":"c2","answer":"ok","call":"join","line":4,"subject":"c2"}
 {"actor":"c2","answer":"ok","call":"drain","line":5,"subject":"c2"}
@@ -111,6 +105,10 @@ fn a_board_without_a_transition_left_refuses_each_call_that_is_legal(rt: HostRun
 {"actor":"c2","answer":"refused","call":"unclaim","line":37,"subject":"gpu/0","why":"board full"}
 {"actor":"c2","answer":"none","call":"settle","line":38,"subject":"c2"}
 {"done":26,"doubts":0,"next":1000000,"phases":10}
-"#,
-    );
+"#;
+
+// 26 transitions are made. A container whose call is refused is gone, so that the last settles nothing.
+#[test]
+fn a_board_without_a_transition_left_refuses_each_call_that_is_legal(rt: HostRuntime) {
+    plays_on(&rt, rt.alloc(), OLD, FULL_LINES, FULL_TEXT);
 }
