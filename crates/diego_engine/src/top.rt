@@ -32,10 +32,10 @@ use serial_runs::runs_are_alone;
 use std::alloc::Global;
 use still_words::{Asked, read_words, still_top};
 
-fn asks_for_a_run(words: &[String]) -> bool
+fn asks_for_a_run(alloc: Global, words: &[String]) -> bool
     ensures { IsTrue result ↔ (asked_of (map (λ w. string_bytes w) words.now) ≡ Some wanted.Run) }
 {
-    matches!(read_words(words), Some(Asked::Run))
+    matches!(read_words(alloc, words), Some(Asked::Run))
 }
 
 fn top_end<S, K, D>(ended: Ended, source: S, sink: K, disk: D) -> TopEnd<S, K, D>
@@ -78,7 +78,7 @@ fn whole_top<S: Source, K: Sink, D: Disk, G: Gate>(
         → result.source ≡ source }
     ensures unopened { is_before_board result.status ≡ true → result.disk ≡ disk }
 {
-    if !asks_for_a_run(words) {
+    if !asks_for_a_run(alloc, words) {
         return still_top(alloc, words, source, sink, disk);
     }
     let (ended, disk) = run(alloc, &mut source, &mut sink, disk, gate);

@@ -1,3 +1,4 @@
 pub mod Laws
+pub mod OneWord
 pub mod Public
 pub mod Shown

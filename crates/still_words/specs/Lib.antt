@@ -1,3 +1,4 @@
+pub mod Level
 pub mod Records
 pub mod Showing
 pub mod Still

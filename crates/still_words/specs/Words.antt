@@ -4,6 +4,13 @@ use Rattle.std.specs.Str.{bytes_eq}
 use Rattle.still_words.specs.declared.words.Asked.{Asked}
 use Rattle.still_words.specs.declared.words.Asked.TheVariants.{Run, Prepare, Records, Check}
 
+-- the word that asks for it
+abbrev pub word_for : Asked → List ℕ
+word_for Run = codes "run"
+word_for Prepare = codes "prepare"
+word_for Records = codes "records"
+word_for Check = codes "check"
+
 -- what one word asks for
 abbrev pub asked_by_word : List ℕ → Option Asked
 asked_by_word word =

@@ -3,6 +3,7 @@
 #![tactic(auto)]
 
 mod checking;
+mod level;
 mod preparing;
 mod records;
 mod showing;

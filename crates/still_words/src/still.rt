@@ -96,7 +96,7 @@ pub fn still_top<S: Source, K: Sink, D: Disk>(
         → (Rose (D.fault_count disk) (D.fault_count result.disk) → ⊥)
         → (result.status ≡ 0) ⊎ (result.status ≡ 7) }
 {
-    let (ending, disk) = still(alloc, read_words(words), &mut sink, disk);
+    let (ending, disk) = still(alloc, read_words(alloc, words), &mut sink, disk);
     TopEnd {
         status: number_of(ending),
         source,

@@ -50,7 +50,7 @@ fn ended<K: Sink + Drop>(
     let words = words(alloc, texts)?;
     let source = MemorySource::new(Vec::new(alloc), Vec::new(alloc));
     let disk = disk(alloc, given)?;
-    let end = match read_words(&words) {
+    let end = match read_words(alloc, &words) {
         Some(Asked::Run) => return Err(Fail::from("the words ask for a run")),
         Some(Asked::Prepare) | Some(Asked::Records) | Some(Asked::Check) | None => {
             still_top(alloc, &words, source, sink, disk)
