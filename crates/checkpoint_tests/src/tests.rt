@@ -1,5 +1,7 @@
 //! What no clause says: that checkpoints of a board in memory are made, with which calls, and what is loaded then.
 mod faults;
+mod heads;
+mod long;
 mod stops;
 
 use bbs_board::{Board, Closed, KeptIn, LoadFault, load, prepare};
