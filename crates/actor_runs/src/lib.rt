@@ -3,6 +3,7 @@
 #![tactic(auto)]
 
 mod actor_state;
+mod gated_lines;
 mod gated_port;
 mod run_wire;
 mod turn;

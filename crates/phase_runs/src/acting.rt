@@ -40,5 +40,5 @@ pub(crate) fn act_on<D: Disk, G: Gate>(
         gate,
         actor: by,
     };
-    actor.lines(alloc, by, lines, &mut port, now, out)
+    actor.gated_lines(alloc, by, lines, &mut port, now, out)
 }
