@@ -1,2 +1,4 @@
 mod Turning
 mod Sharing
+mod Sent
+pub mod Public

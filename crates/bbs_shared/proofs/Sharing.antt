@@ -1,13 +1,13 @@
 -- A desk is dealt and closed, in the words of the board.
-use Rattle.std.proofs.Common.{◌≡◌, ℕ, List, [], ◌++◌, length, Option, Some, sym, ap, ◌∙◌, subst}
+use Rattle.std.proofs.Common.{◌≡◌, ℕ, List, ◌++◌, Option, sym, ap, ◌∙◌, subst}
 use Rattle.std.proofs.lemmas.List.{append_cancel_left}
 use Rattle.atomic_table.specs.Seated.{TableId}
 use Rattle.disk_trait.specs.Past.{Past}
 use Rattle.bbs_board.specs.View.{View}
-use Rattle.bbs_model.specs.Calls.{by_of, by_number}
+use Rattle.bbs_model.specs.Calls.{by_of}
 use Rattle.bbs_model.specs.declared.item.Item.{Item}
 use Rattle.sole_port.specs.Going.{BoardGoesOn}
-use Rattle.ticket_desk.specs.Passes.{AreDealt, IsClosed, IsNew, view_of}
+use Rattle.ticket_desk.specs.Passes.{AreDealt, IsClosed, IsNew}
 use Rattle.ticket_desk.specs.declared.pass.Pass.{Pass}
 use Rattle.bbs_shared.specs.Boards.{BoardStanding, HasGone, base_of, log_of, origin_of}
 use Rattle.bbs_shared.specs.Passes.{seen_by}

@@ -15,3 +15,6 @@ pub use at_desk::AtDesk;
 pub use origin::Origin;
 pub use port::SharedPort;
 pub use shared_board::{BoardPass, SharedBoard};
+
+#[cfg(test)]
+mod tests;
