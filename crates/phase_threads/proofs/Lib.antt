@@ -1,0 +1,4 @@
+mod Pairs
+mod Outs
+mod Closing
+mod Ports

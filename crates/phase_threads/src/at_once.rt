@@ -1,0 +1,61 @@
+//! The actors of a phase at once.
+ghost use Rattle.std.specs.Prelude.{◌≡◌, ℕ, ◌<◌, All, length, slice_index_or};
+ghost use Rattle.phase_threads.specs.Acting.{ActsOut, IsReady};
+ghost use Rattle.phase_threads.specs.declared.acting.Acting.{Acting};
+
+use crate::acting::{Acting, act_out};
+use actor_runs::GatedPort;
+use bbs_model::Port;
+use byte_ports::Gate;
+use crash_backoff::Moment;
+use scenario_lines::Line;
+use std::alloc::Global;
+use std::thread;
+use std::thread::Threads;
+
+/// Each actor does its lines on a thread of its own, so that one may wait at the gate for another.
+fn act_each<'a, R: Threads + Sync, P: Port + Drop + Send, G: Gate + Sync>(
+    rt: &R,
+    alloc: Global,
+    all: &mut [Acting<GatedPort<'a, P, G>>],
+    lines: &[Line],
+    now: Moment,
+)
+    requires some { 0 < length all.old }
+    requires ready { All (IsReady (λ p. P.number p.port) lines.now) all.old }
+    ensures acts { (k : ℕ) (d : Acting _) → k < length all.old
+        → ActsOut (λ p. P.view p.port) (λ p q. P.keeps p.port q.port) now lines.now
+        (slice_index_or all.old k d) (slice_index_or all.new k d) }
+{
+    let threads = all.len();
+    thread::for_each_mut(
+        rt,
+        all,
+        threads,
+        &|_, acting: &mut Acting<GatedPort<'_, P, G>>|
+            requires { IsReady (λ p. P.number p.port) lines.now acting.now }
+            ensures { ActsOut (λ p. P.view p.port) (λ p q. P.keeps p.port q.port)
+                now lines.entry.now acting.entry.now acting.exit.now }
+        { act_out(alloc, acting, lines, now) },
+    );
+}
+
+/// As `act_each`, of a list that is handed in and comes back.
+pub(crate) fn act_at_once<'a, R: Threads + Sync, P: Port + Drop + Send, G: Gate + Sync>(
+    rt: &R,
+    alloc: Global,
+    mut all: Vec<Acting<GatedPort<'a, P, G>>>,
+    lines: &[Line],
+    now: Moment,
+) -> Vec<Acting<GatedPort<'a, P, G>>>
+    requires ready { All (IsReady (λ p. P.number p.port) lines.now) all.items }
+    ensures count { length result.items ≡ length all.entry.items }
+    ensures acts { (k : ℕ) (d : Acting _) → k < length all.entry.items
+        → ActsOut (λ p. P.view p.port) (λ p q. P.keeps p.port q.port) now lines.now
+        (slice_index_or all.entry.items k d) (slice_index_or result.items k d) }
+{
+    if !all.is_empty() {
+        act_each(rt, alloc, all.as_mut_slice(), lines, now);
+    }
+    all
+}
