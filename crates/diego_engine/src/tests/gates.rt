@@ -1,4 +1,5 @@
-//! That an actor is held up at its gate before its call, and nobody else anywhere.
+//! That an actor is held up at its gate before its call and behind its last line, and nobody else
+//! anywhere.
 use super::bytes::first_run;
 use super::{Given, left_at};
 use byte_ports::Gate;
@@ -20,7 +21,7 @@ impl Gate for Counting {
 }
 
 #[test]
-fn a_run_passes_its_gate_once_where_it_makes_its_call(rt: HostRuntime) -> Result<(), Fail> {
+fn a_run_passes_its_gate_before_its_call_and_behind_its_answer(rt: HostRuntime) -> Result<(), Fail> {
     let whole = first_run();
     let no_board = Given { a: &[], ..whole };
     let no_script = Given {
@@ -28,7 +29,7 @@ fn a_run_passes_its_gate_once_where_it_makes_its_call(rt: HostRuntime) -> Result
         ..whole
     };
     let cases: [(&str, Given<'_>, u8, u32, u32); 4] = [
-        ("run", whole, 0, 1, 1),
+        ("run", whole, 0, 2, 1),
         ("run", no_board, 6, 0, 0),
         ("run", no_script, 2, 0, 0),
         ("prepare", no_board, 0, 0, 0),
