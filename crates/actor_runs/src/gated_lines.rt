@@ -1,7 +1,7 @@
 //! The lines of an actor behind a gate.
 ghost use Rattle.std.specs.Prelude.{◌≡◌, OnOk, OnErr};
 ghost use Rattle.actor_runs.specs.Runs.{IsOneActor};
-ghost use Rattle.actor_runs.specs.Turns.{standing, turns_in, CanDo, IsCutShort, Takes};
+ghost use Rattle.actor_runs.specs.Turns.{actor_standing, turns_in, CanDo, IsCutShort, Takes};
 
 use crate::actor_state::ActorState;
 use crate::gated_port::GatedPort;
@@ -29,8 +29,8 @@ impl ActorState {
         ensures keeps { P.keeps port.old.port port.new.port }
         ensures number { P.number port.new.port ≡ P.number port.old.port }
         ensures taken { OnOk result (Takes by now (turns_in by lines.now)
-            (standing self.old (P.view port.old.port) out.old.items)
-            (standing self.new (P.view port.new.port) out.new.items)) }
+            (actor_standing self.old (P.view port.old.port) out.old.items)
+            (actor_standing self.new (P.view port.new.port) out.new.items)) }
         ensures cut { OnErr result (IsCutShort by now (turns_in by lines.now)
             self.old (P.view port.old.port) self.new (P.view port.new.port)) }
         ensures one { IsOneActor self.old self.new }

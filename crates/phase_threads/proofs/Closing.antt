@@ -10,7 +10,7 @@ use Rattle.bbs_model.specs.Calls.{by_number}
 use Rattle.bbs_model.specs.PortView.{PortView}
 use Rattle.bbs_model.specs.declared.item.Item.{Item}
 use Rattle.bbs_shared.specs.Passes.{seen_by}
-use Rattle.bbs_shared.specs.Sharings.{seen_at, CameBack}
+use Rattle.bbs_shared.specs.Sharings.{whole_view, CameBack}
 use Rattle.bbs_shared.specs.declared.origin.Origin.{Origin}
 use Rattle.scenario_lines.specs.declared.answered.Answered.{Answered}
 use Rattle.scenario_lines.specs.declared.script.Phase.{Phase}
@@ -27,7 +27,7 @@ use Rattle.phase_threads.proofs.Pairs.{as_elem, stands}
 module _ {V S D : Type 0} (told : D → Option Past) (v w : View D) (z : TableId) (actors : ℕ) (passes : List (Pass V Item (Origin S)))
     (are : AreBack z actors passes) (back : CameBack told v w passes) where
   -- what the holder of a pass has seen lies within the phase
-  pub pass_sees : (k : ℕ) (p : Pass V Item (Origin S)) → slice_get passes k ≡ Some p → SeesPhase v.base v.log back.fresh k (seen_at v) (seen_by p)
+  pub pass_sees : (k : ℕ) (p : Pass V Item (Origin S)) → slice_get passes k ≡ Some p → SeesPhase v.base v.log back.fresh k (whole_view v) (seen_by p)
   pass_sees k p is = record {
     base_is = refl;
     from = ([], sym (append-nil v.log));
@@ -54,11 +54,11 @@ module _ {V S D : Type 0} (told : D → Option Past) (v w : View D) (z : TableId
         let has = pass_at k (omega (arith, slice_get_within olds k a is, count)) in
         let takes = run.ran k a a' answers has.0 is new part has.1 in
         record {
-          first = seen_at v;
+          first = whole_view v;
           last = seen_by has.0;
           sees = pass_sees (suc k) has.0 has.1;
           taken =
-              subst (λ (l : List Answered). TakesTurns (suc k) phase.at (turns_in (suc k) phase.lines) a (seen_at v) l a' (seen_by has.0))
+              subst (λ (l : List Answered). TakesTurns (suc k) phase.at (turns_in (suc k) phase.lines) a (whole_view v) l a' (seen_by has.0))
               (sym takes.out_is) takes.taken;
           fed = ap is_any_unfed takes.out_is ∙ takes.fed;
         }
@@ -68,7 +68,7 @@ module _ {V S D : Type 0} (told : D → Option Past) (v w : View D) (z : TableId
     part_cut cut k a a' is new =
         let has = pass_at k (omega (arith, slice_get_within olds k a is, count)) in
         record {
-          first = seen_at v;
+          first = whole_view v;
           last = seen_by has.0;
           sees = pass_sees (suc k) has.0 has.1;
           cut = cut.cut k a a' has.0 is new has.1;

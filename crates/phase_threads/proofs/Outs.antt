@@ -8,7 +8,7 @@ use Rattle.bbs_board.specs.View.{View}
 use Rattle.bbs_model.specs.PortView.{PortView}
 use Rattle.bbs_model.specs.declared.item.Item.{Item}
 use Rattle.bbs_shared.specs.Passes.{seen_by, IsSame}
-use Rattle.bbs_shared.specs.Sharings.{seen_at, AreHanded}
+use Rattle.bbs_shared.specs.Sharings.{whole_view, AreHanded}
 use Rattle.bbs_shared.specs.declared.origin.Origin.{Origin}
 use Rattle.crash_backoff.specs.declared.moment.Moment.{Moment}
 use Rattle.scenario_lines.specs.declared.answered.Answered.{Answered}
@@ -17,18 +17,18 @@ use Rattle.ticket_desk.specs.Passes.{IsPass}
 use Rattle.ticket_desk.specs.declared.pass.Pass.{Pass}
 use Rattle.ticket_desk.proofs.Public.{pass_stays}
 use Rattle.actor_runs.specs.Runs.{IsOneActor}
-use Rattle.actor_runs.specs.Turns.{standing, turns_in, CanDo, IsCutAt, IsCutShort, Takes, Turn}
+use Rattle.actor_runs.specs.Turns.{actor_standing, turns_in, CanDo, IsCutAt, IsCutShort, Takes, Turn}
 use Rattle.actor_runs.specs.declared.actor_state.ActorState.{ActorState}
-use Rattle.phase_runs.specs.Actors.{AreSame, CanAllDo}
+use Rattle.phase_runs.specs.Actors.{AreSameActors, CanAllDo}
 use Rattle.phase_runs.proofs.Public.{one_of, same_as}
-use Rattle.phase_threads.specs.Acting.{ActsOut, HasActed, IsReady}
+use Rattle.phase_threads.specs.Acting.{ActsOut, HasActedOut, IsReady}
 use Rattle.phase_threads.specs.Sharing.{AreBack, AreOwn, AtEach, HaveRun, IsOut, IsOwn, IsSet, IsUnused, WereCut}
 use Rattle.phase_threads.specs.declared.acting.Acting.{Acting}
 use Rattle.phase_threads.proofs.Pairs.{as_elem, as_slice, image_at, none_has, stands}
 
 -- lines that were all done were done up to their end
 pub all_done : (by : ℕ) (now : Moment) (lines : List Line) (a a' : ActorState) (v w : PortView) (answers : List Answered)
-    → Takes by now (turns_in by lines) (standing a v []) (standing a' w answers) → IsCutShort by now (turns_in by lines) a v a' w
+    → Takes by now (turns_in by lines) (actor_standing a v []) (actor_standing a' w answers) → IsCutShort by now (turns_in by lines) a v a' w
 all_done by now lines a a' v w answers takes = record {
   done = turns_in by lines;
   rest = [];
@@ -42,7 +42,7 @@ all_done by now lines a a' v w answers takes = record {
 
 -- whatever became of them, they were done up to some place
 pub acted_cut : (now : Moment) (lines : List Line) (by : ℕ) (a a' : ActorState) (v w : PortView) (answers : List Answered) (starved : Bool)
-    → HasActed now lines by a v a' w answers starved → IsCutShort by now (turns_in by lines) a v a' w
+    → HasActedOut now lines by a v a' w answers starved → IsCutShort by now (turns_in by lines) a v a' w
 acted_cut now lines by a a' v w answers false acted = all_done by now lines a a' v w answers (acted.whole refl)
 acted_cut now lines by a a' v w answers true acted = acted.cut refl
 
@@ -70,9 +70,9 @@ module _ {V S D P : Type 0} (pass_of : P → Pass V Item (Origin S)) (board : Vi
       out_at k a x y set_is out = record {
         pass = pass_stays z many (suc k) (pass_of x.port) (pass_of y.port) out.keeps.pass set_is.own.pass;
         acted =
-            subst (λ (n : ℕ). HasActed now lines n a (seen_at board) y.actor (seen_by (pass_of y.port)) y.part.items y.starved) set_is.by
-            (subst (λ (b : ActorState). HasActed now lines x.by b (seen_at board) y.actor (seen_by (pass_of y.port)) y.part.items y.starved) set_is.actor
-            (subst (λ (v : PortView). HasActed now lines x.by x.actor v y.actor (seen_by (pass_of y.port)) y.part.items y.starved) set_is.own.seen
+            subst (λ (n : ℕ). HasActedOut now lines n a (whole_view board) y.actor (seen_by (pass_of y.port)) y.part.items y.starved) set_is.by
+            (subst (λ (b : ActorState). HasActedOut now lines x.by b (whole_view board) y.actor (seen_by (pass_of y.port)) y.part.items y.starved) set_is.actor
+            (subst (λ (v : PortView). HasActedOut now lines x.by x.actor v y.actor (seen_by (pass_of y.port)) y.part.items y.starved) set_is.own.seen
             out.acted));
       }
 
@@ -113,7 +113,7 @@ module _ {V S D P : Type 0} (pass_of : P → Pass V Item (Origin S)) (board : Vi
     pass_is k a p is has =
         image_at after (λ (x : Acting P). pass_of x.port) k (acting_at k a is) p (at_it k a is) (sym (ap (λ l. slice_get l (suc k)) passes_are) ∙ has)
 
-    all_same : AreSame olds news
+    all_same : AreSameActors olds news
     all_same = record {
       length_is = ap length news_are ∙ length-map after (λ (x : Acting P). x.actor) ∙ out.length_is;
       one = λ k a a' is new. subst (IsOneActor a) (new_is k a a' is new) (out_is k a is).acted.one;
@@ -130,10 +130,10 @@ module _ {V S D P : Type 0} (pass_of : P → Pass V Item (Origin S)) (board : Vi
           let part_is : x.part.items ≡ answers =
           image_at after (λ (y : Acting P). y.part.items) k x answers (at_it k a is) (sym (ap (λ l. slice_get l k) parts_are) ∙ part) in
           let fed_is : x.starved ≡ false = none_has (λ (y : Acting P). y.starved) after k x fed (at_it k a is) in
-          subst (λ b. Takes (suc k) now (turns_in (suc k) lines) (standing a (seen_at board) []) (standing b (seen_by p) answers)) (new_is k a a' is new)
-          (subst (λ (q : Pass V Item (Origin S)). Takes (suc k) now (turns_in (suc k) lines) (standing a (seen_at board) []) (standing x.actor (seen_by q) answers))
+          subst (λ b. Takes (suc k) now (turns_in (suc k) lines) (actor_standing a (whole_view board) []) (actor_standing b (seen_by p) answers)) (new_is k a a' is new)
+          (subst (λ (q : Pass V Item (Origin S)). Takes (suc k) now (turns_in (suc k) lines) (actor_standing a (whole_view board) []) (actor_standing x.actor (seen_by q) answers))
           (pass_is k a p is has)
-          (subst (λ l. Takes (suc k) now (turns_in (suc k) lines) (standing a (seen_at board) []) (standing x.actor (seen_by (pass_of x.port)) l)) part_is
+          (subst (λ l. Takes (suc k) now (turns_in (suc k) lines) (actor_standing a (whole_view board) []) (actor_standing x.actor (seen_by (pass_of x.port)) l)) part_is
           ((out_is k a is).acted.whole fed_is)));
     }
 
@@ -144,15 +144,15 @@ module _ {V S D P : Type 0} (pass_of : P → Pass V Item (Origin S)) (board : Vi
       same = all_same;
       cut = λ k a a' p is new has.
           let x = acting_at k a is in
-          subst (λ b. IsCutShort (suc k) now (turns_in (suc k) lines) a (seen_at board) b (seen_by p)) (new_is k a a' is new)
-          (subst (λ (q : Pass V Item (Origin S)). IsCutShort (suc k) now (turns_in (suc k) lines) a (seen_at board) x.actor (seen_by q))
+          subst (λ b. IsCutShort (suc k) now (turns_in (suc k) lines) a (whole_view board) b (seen_by p)) (new_is k a a' is new)
+          (subst (λ (q : Pass V Item (Origin S)). IsCutShort (suc k) now (turns_in (suc k) lines) a (whole_view board) x.actor (seen_by q))
           (pass_is k a p is has)
-          (acted_cut now lines (suc k) a x.actor (seen_at board) (seen_by (pass_of x.port)) x.part.items x.starved (out_is k a is).acted));
+          (acted_cut now lines (suc k) a x.actor (whole_view board) (seen_by (pass_of x.port)) x.part.items x.starved (out_is k a is).acted));
     }
 
     -- the round's pass is as it was
     pub unused : IsUnused board passes
-    unused p is = subst (λ (q : Pass V Item (Origin S)). seen_by q ≡ seen_at board)
+    unused p is = subst (λ (q : Pass V Item (Origin S)). seen_by q ≡ whole_view board)
         (one_of (Some first) first p refl (sym (ap (λ l. slice_get l 0) passes_are) ∙ is)) own.seen
 
     count : length passes ≡ suc (length olds)
@@ -203,23 +203,23 @@ module _ {V S D : Type 0} (board : View D) (z : TableId) (actors : ℕ) (passes 
     news = olds;
     same = same_as olds olds refl;
     cut = λ k a a' p is new has.
-        subst (λ b. IsCutShort (suc k) now (turns_in (suc k) lines) a (seen_at board) b (seen_by p)) (one_of (slice_get olds k) a a' is new)
-        (subst (λ w. IsCutShort (suc k) now (turns_in (suc k) lines) a (seen_at board) a w)
+        subst (λ b. IsCutShort (suc k) now (turns_in (suc k) lines) a (whole_view board) b (seen_by p)) (one_of (slice_get olds k) a a' is new)
+        (subst (λ w. IsCutShort (suc k) now (turns_in (suc k) lines) a (whole_view board) a w)
         (sym (handed.2 (suc k) p (as_elem passes (suc k) p has))) (nothing (suc k) now lines a));
   }
     where
-      nothing : (by : ℕ) (now : Moment) (lines : List Line) (a : ActorState) → IsCutShort by now (turns_in by lines) a (seen_at board) a (seen_at board)
+      nothing : (by : ℕ) (now : Moment) (lines : List Line) (a : ActorState) → IsCutShort by now (turns_in by lines) a (whole_view board) a (whole_view board)
       nothing by now lines a = record {
         done = [];
         rest = turns_in by lines;
         split = refl;
         new = [];
         mid = a;
-        middle = seen_at board;
+        middle = whole_view board;
         taken = (refl, (refl, refl));
         cut = not_next (turns_in by lines);
       }
         where
-          not_next : (ts : List Turn) → IsCutAt by now ts a (seen_at board) a (seen_at board)
+          not_next : (ts : List Turn) → IsCutAt by now ts a (whole_view board) a (whole_view board)
           not_next [] = (refl, refl)
           not_next (t ∷ ts) = inl (refl, refl)

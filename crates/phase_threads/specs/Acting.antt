@@ -5,15 +5,15 @@ use Rattle.crash_backoff.specs.declared.moment.Moment.{Moment}
 use Rattle.scenario_lines.specs.declared.answered.Answered.{Answered}
 use Rattle.scenario_lines.specs.declared.script.Line.{Line}
 use Rattle.actor_runs.specs.Runs.{IsOneActor}
-use Rattle.actor_runs.specs.Turns.{standing, turns_in, CanDo, IsCutShort, Takes}
+use Rattle.actor_runs.specs.Turns.{actor_standing, turns_in, CanDo, IsCutShort, Takes}
 use Rattle.actor_runs.specs.declared.actor_state.ActorState.{ActorState}
 use Rattle.phase_threads.specs.declared.acting.Acting.{Acting}
 
 -- the actor with that number did all of its lines, with these answers, or memory ran out and it did the first of them
-pub record HasActed (now : Moment) (lines : List Line) (by : ℕ) (a : ActorState) (v : PortView)
+pub record HasActedOut (now : Moment) (lines : List Line) (by : ℕ) (a : ActorState) (v : PortView)
     (a' : ActorState) (w : PortView) (answers : List Answered) (starved : Bool) : Type 0 where
   pub one : IsOneActor a a'
-  pub whole : starved ≡ false → Takes by now (turns_in by lines) (standing a v []) (standing a' w answers)
+  pub whole : starved ≡ false → Takes by now (turns_in by lines) (actor_standing a v []) (actor_standing a' w answers)
   pub cut : starved ≡ true → IsCutShort by now (turns_in by lines) a v a' w
 
 module _ {P : Type 0} where
@@ -28,4 +28,4 @@ module _ {P : Type 0} where
       (x y : Acting P) : Type 0 where
     pub by : y.by ≡ x.by
     pub keeps : Keeps x.port y.port
-    pub acted : HasActed now lines x.by x.actor (view x.port) y.actor (view y.port) y.part.items y.starved
+    pub acted : HasActedOut now lines x.by x.actor (view x.port) y.actor (view y.port) y.part.items y.starved

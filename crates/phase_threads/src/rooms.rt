@@ -1,6 +1,6 @@
 //! Memory that is taken before a phase begins, so that none is wanted while passes are out.
 ghost use Rattle.std.specs.Prelude.{IfOk};
-ghost use Rattle.phase_threads.specs.Rooms.{HasRoom};
+ghost use Rattle.phase_threads.specs.Rooms.{HasEmptyRoom};
 
 use diego_names::OutOfMemory;
 use std::alloc::Global;
@@ -10,7 +10,7 @@ pub(crate) fn three_rooms<A: Drop, B: Drop, C: Drop>(
     alloc: Global,
     count: usize,
 ) -> Result<(Vec<A>, Vec<B>, Vec<C>), OutOfMemory>
-    ensures { IfOk result (λ r. HasRoom count r.0 × HasRoom count r.1 × HasRoom count r.2) }
+    ensures { IfOk result (λ r. HasEmptyRoom count r.0 × HasEmptyRoom count r.1 × HasEmptyRoom count r.2) }
 {
     let first = Vec::with_capacity(alloc, count)?;
     let second = Vec::with_capacity(alloc, count)?;

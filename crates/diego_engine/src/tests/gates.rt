@@ -21,7 +21,9 @@ impl Gate for Counting {
 }
 
 #[test]
-fn a_run_passes_its_gate_before_its_call_and_behind_its_answer(rt: HostRuntime) -> Result<(), Fail> {
+fn a_run_passes_its_gate_before_its_call_and_behind_its_answer(
+    rt: HostRuntime,
+) -> Result<(), Fail> {
     let whole = first_run();
     let no_board = Given { a: &[], ..whole };
     let no_script = Given {

@@ -1,4 +1,5 @@
-//! Who passes the gate, and when: each caller before each of its calls of the board, and nobody else.
+//! Who passes the gate, and when: each caller before each of its calls of the board, an actor once more behind the last
+//! line that it has in a phase, and nobody else.
 use super::*;
 use byte_ports::{Gate, MemorySink, MemorySource};
 use diego_engine::{TopEnd, diego_top_in_memory};
@@ -55,7 +56,7 @@ fn pass(rt: &impl Abort, alloc: Global, scenario: &str, count: u32, number: u64)
     assert_eq!(rt; gate.number.get(), number);
 }
 
-// Two cells join, a client desires, and a round makes three rows and claims them.
+// Two cells join, a client desires, each in a phase of its own, and a round makes three rows and claims them.
 #[test]
 fn a_round_passes_the_gate_before_each_of_its_calls(rt: HostRuntime) {
     pass(
@@ -70,15 +71,15 @@ fn a_round_passes_the_gate_before_each_of_its_calls(rt: HostRuntime) {
 {"at":1}
 {"op":"round"}
 "#,
-        9,
-        123_000_000,
+        12,
+        112_233_000_000,
     );
 }
 
 // A refusal is a call, and so is one whose reply is lost. A rep that is down makes none, nor does one
-// that has nothing to do.
+// that has nothing to do; behind its last line of a phase each actor passes once more.
 #[test]
-fn an_actor_passes_the_gate_before_each_call_and_not_where_it_makes_none(rt: HostRuntime) {
+fn an_actor_passes_the_gate_before_each_call_and_behind_its_last_line(rt: HostRuntime) {
     pass(
         &rt,
         rt.alloc(),
@@ -100,7 +101,7 @@ fn an_actor_passes_the_gate_before_each_call_and_not_where_it_makes_none(rt: Hos
 {"at":3}
 {"cell":"c1","op":"settle"}
 "#,
-        11,
-        11_122_001_122,
+        16,
+        1_111_222_001_112_222,
     );
 }
