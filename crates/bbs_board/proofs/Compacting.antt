@@ -6,7 +6,7 @@ use Rattle.disk_trait.specs.Past.{Past, other}
 use Rattle.disk_trait.specs.Runs.{Extends}
 use Rattle.disk_trait.specs.Steps.{Goes}
 use Rattle.disk_trait.proofs.Public.{goes_then, goes_weaker, goes_same, extends_same, extends_then}
-use Rattle.bbs_codec.specs.Head.{head_spelled, FitsHead}
+use Rattle.head_codec.specs.Head.{head_spelled, FitsHead}
 use Rattle.bbs_journal.specs.Calls.{Settles}
 use Rattle.bbs_journal.specs.Switching.{close_calls}
 use Rattle.bbs_journal.specs.View.{View as JournalView, is_waiting, frame_waits}

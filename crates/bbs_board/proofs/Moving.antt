@@ -5,9 +5,9 @@ use Rattle.wire_fields.proofs.Public.{bind_ok}
 use Rattle.disk_trait.specs.Held.{Has, Leaves}
 use Rattle.disk_trait.specs.Past.{Past, Image, Images, ImagesSince, now, other, content}
 use Rattle.disk_trait.specs.declared.area.Area.{Area}
-use Rattle.bbs_codec.specs.Head.{head_reading, head_spelled, FitsHead}
+use Rattle.head_codec.specs.Head.{head_reading, head_spelled, FitsHead}
 use Rattle.bbs_codec.specs.declared.fault.CodecFault.{CodecFault}
-use Rattle.bbs_codec.proofs.Public.{head_again, head_next}
+use Rattle.head_codec.proofs.Public.{head_again, head_next}
 use Rattle.bbs_journal.specs.Areas.{Ready}
 use Rattle.bbs_journal.specs.Beside.{Beside}
 use Rattle.bbs_journal.specs.Grammar.{heading}

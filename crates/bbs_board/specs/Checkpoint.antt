@@ -3,7 +3,7 @@ use Rattle.std.specs.Prelude.{◌≡◌, ◌⊎◌, ℕ, ◌+◌, ◌<◌, ◌�
 use Rattle.disk_trait.specs.Past.{Past, Image, Images, ImagesSince, other}
 use Rattle.disk_trait.specs.Runs.{Extends}
 use Rattle.disk_trait.specs.Steps.{Goes}
-use Rattle.bbs_codec.specs.Head.{head_spelled, FitsHead}
+use Rattle.head_codec.specs.Head.{head_spelled, FitsHead}
 use Rattle.bbs_journal.specs.Stops.{OpensAs}
 use Rattle.bbs_journal.specs.View.{View as JournalView, is_waiting}
 use Rattle.bbs_model.specs.Replay.{replay_log, IsLawful}

@@ -4,7 +4,7 @@ use Rattle.disk_trait.specs.Past.{Image}
 use Rattle.disk_trait.specs.declared.area.Area.{Area}
 use Rattle.wire_fields.specs.Reading.{◌>>=◌}
 use Rattle.bbs_codec.specs.Command.{reading}
-use Rattle.bbs_codec.specs.Head.{head_reading, fault_place}
+use Rattle.head_codec.specs.Head.{head_reading, fault_place}
 use Rattle.bbs_codec.specs.declared.fault.CodecFault.{CodecFault}
 use Rattle.bbs_index.specs.Index.{Indexed}
 use Rattle.bbs_journal.specs.Opening.{IsOpening, headed}

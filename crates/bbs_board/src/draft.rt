@@ -1,15 +1,15 @@
 //! The head of a checkpoint: the rows of an index in bytes, written where room was made for them.
 ghost use Rattle.std.specs.Prelude.{◌≡◌, ◌+◌, ◌*◌, ◌≤◌, ◌<◌, ◌^◌, ◌++◌, length, vec_len, vec_capacity, OnOk};
 ghost use Rattle.std.specs.List.{flat_map, AllByRecursion};
-ghost use Rattle.bbs_codec.specs.Head.{counts, head_counts, head_spelled, FitsHead};
+ghost use Rattle.head_codec.specs.Head.{counts, head_counts, head_spelled, FitsHead};
 ghost use Rattle.bbs_index.specs.Shelf.{AreNumbered};
 ghost use Rattle.bbs_model.specs.Valid.{IsValid};
 ghost use Rattle.bbs_board.specs.Checkpoint.{row_count};
 
-use bbs_codec::{Counts, HeadRow, ROW_BYTES, append_front, append_row};
 use bbs_index::{Index, Shelf};
 use bbs_model::RowStore;
 use diego_names::OutOfMemory;
+use head_codec::{Counts, HeadRow, ROW_BYTES, append_front, append_row};
 use std::alloc::Global;
 
 /// A head in bytes, and the numbers of one table's rows at a time. Their room is kept from one

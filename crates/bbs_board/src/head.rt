@@ -1,13 +1,14 @@
 //! The rows of the head of an area.
 ghost use Rattle.std.specs.Prelude.{◌≡◌, ◌+◌, ◌<◌, ◌^◌, length, IfOk};
 ghost use Rattle.bbs_model.specs.Valid.{IsValid};
-ghost use Rattle.bbs_codec.specs.Head.{fault_place};
+ghost use Rattle.head_codec.specs.Head.{fault_place};
 ghost use Rattle.bbs_board.specs.Opening.{rows_in, Gives};
 
-use bbs_codec::{CodecFault, HeadFault, read_head};
+use bbs_codec::CodecFault;
 use bbs_index::Index;
 use bbs_journal::LoadFault;
 use disk_trait::Area;
+use head_codec::{HeadFault, read_head};
 use std::alloc::Global;
 
 /// The place of the head in an area.

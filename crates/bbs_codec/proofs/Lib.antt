@@ -6,17 +6,4 @@ pub mod Commands
 pub mod Written
 pub mod Cases
 pub mod RowLaws
-pub mod Pushes
-pub mod Followers
-pub mod RowLists
-pub mod Tables
-pub mod SeenRows
-pub mod Steps
-pub mod ReadTables
-pub mod HeadParts
-pub mod HeadLaws
-pub mod HeadAgain
-pub mod HeadNext
-pub mod Within
-pub mod HeadPlaces
 pub mod Rules

@@ -3,5 +3,3 @@ pub mod Formats
 pub mod RowFormats
 pub mod Ops
 pub mod Command
-pub mod Head
-pub mod Seen

@@ -1,7 +1,4 @@
-mod bad_heads;
 mod faults;
-mod full_tables;
-mod heads;
 mod spellings;
 
 use super::*;

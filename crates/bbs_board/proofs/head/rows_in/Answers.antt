@@ -1,6 +1,6 @@
 use Rattle.std.proofs.Common.{ap, arith}
-use Rattle.bbs_codec.specs.Head.{fault_place}
-use Rattle.bbs_codec.proofs.Public.{head_fault_lies}
+use Rattle.head_codec.specs.Head.{fault_place}
+use Rattle.head_codec.proofs.Public.{head_fault_lies}
 use Rattle.bbs_board.proofs.head.rows_in.Goals as goal
 
 pub overflow_add-at : goal.overflow_add-at

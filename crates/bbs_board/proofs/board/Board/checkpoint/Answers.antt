@@ -1,6 +1,6 @@
 use Rattle.std.proofs.Common.{◌≡◌, ◌<◌, ◌∙◌, is_ok, sym, ap, subst, arith, rules}
 use Rattle.disk_trait.specs.Steps.{Goes}
-use Rattle.bbs_codec.specs.Head.{head_spelled, FitsHead}
+use Rattle.head_codec.specs.Head.{head_spelled, FitsHead}
 use Rattle.bbs_model.specs.Replay.{replay_log}
 use Rattle.bbs_model.specs.Valid.{IsValid}
 use Rattle.bbs_board.specs.Checkpoint.{Checkpoints}

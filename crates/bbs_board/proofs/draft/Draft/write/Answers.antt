@@ -5,7 +5,7 @@ use Rattle.lrp_records.specs.declared.actual.Actual.{Actual}
 use Rattle.lrp_records.specs.declared.desired.Desired.{Desired}
 use Rattle.task_records.specs.declared.task.Task.{Task}
 use Rattle.bbs_codec.specs.Formats.{desired}
-use Rattle.bbs_codec.specs.Head.{Counts, counts, head_counts, head_spelled}
+use Rattle.head_codec.specs.Head.{Counts, counts, head_counts, head_spelled}
 use Rattle.bbs_codec.specs.RowFormats.{actual, task_row, cell_row}
 use Rattle.bbs_board.proofs.Drafting.{texts_joined}
 use Rattle.bbs_board.proofs.draft.Draft.write.Goals as goal

@@ -1,5 +1,0 @@
-use Rattle.bbs_codec.proofs.HeadLaws.{head_one}
-use Rattle.bbs_codec.proofs.laws.heads_have_one_spelling.Goals as goal
-
-pub returns : goal.returns
-returns c = head_one

@@ -1,0 +1,15 @@
+pub mod Public
+pub mod RowLengths
+pub mod Pushes
+pub mod Followers
+pub mod RowLists
+pub mod Tables
+pub mod SeenRows
+pub mod Steps
+pub mod ReadTables
+pub mod HeadParts
+pub mod HeadLaws
+pub mod HeadAgain
+pub mod HeadNext
+pub mod Within
+pub mod HeadPlaces

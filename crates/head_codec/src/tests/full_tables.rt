@@ -1,0 +1,43 @@
+//! Heads of as many rows as a table holds, and of one more.
+
+use super::*;
+use std::alloc::Global;
+use std::test::Fail;
+
+/// A name of four digits, of which a greater number has the greater one.
+fn put_name(out: &mut Vec<u8>, number: u32) -> Result<(), Fail> {
+    out.push(4)?;
+    out.push(b'0' + (number / 1000 % 10) as u8)?;
+    out.push(b'0' + (number / 100 % 10) as u8)?;
+    out.push(b'0' + (number / 10 % 10) as u8)?;
+    out.push(b'0' + (number % 10) as u8)?;
+    Ok(())
+}
+
+/// A head of so many cells, after 2,000 transitions. Each row takes 37 bytes.
+fn cells(alloc: Global, count: u32) -> Result<Vec<u8>, Fail> {
+    let mut out = Vec::new(alloc);
+    out.extend_from_slice(b"\0\0\0\0\0\0\x07\xd0\0\0\0\0\0\0\0\0\0\0\0\0")?;
+    out.extend_from_slice(&count.to_be_bytes())?;
+    for number in 0..count {
+        put_name(&mut out, number)?;
+        out.extend_from_slice(b"\x01z\0\0\0\0\0\0\0\0\0\0\0\0\0")?;
+        out.extend_from_slice(&(number as u64).to_be_bytes())?;
+        out.extend_from_slice(&[0; 9])?;
+    }
+    Ok(out)
+}
+
+#[test]
+fn a_table_holds_no_row_more(rt: HostRuntime) -> Result<(), Fail> {
+    let alloc = rt.alloc();
+    let rows = read_head(alloc, cells(alloc, 1000)?.as_slice())?;
+    assert_eq!(rt; rows.cells.len(), 1000);
+    match read_head(alloc, cells(alloc, 1001)?.as_slice()) {
+        Err(HeadFault::Codec(fault)) => {
+            assert_eq!(rt; fault, CodecFault::BadField { at: 37_024 });
+        }
+        _ => assert!(rt; false),
+    }
+    Ok(())
+}
