@@ -12,9 +12,12 @@ use Rattle.std.proofs.lemmas.List.Sums.{sum_by-cons, sum_by_push}
 use Rattle.cell_records.specs.declared.container.Container.{Container}
 use Rattle.cell_records.specs.declared.job_name.JobName.{JobName}
 use Rattle.cell_records.specs.declared.container_state.ContainerState.TheVariants.{Reserved}
+use Rattle.row_tables.proofs.Public.{IsRising-push}
 use Rattle.container_store.specs.Changes.{reserved, next_of}
 use Rattle.container_store.specs.Store.{StoreView, IsStore, IsGiven, number_of, used_memory, used_disk}
-use Rattle.serial_runs.proofs.RisingKept.{IsRising-map, IsRising-filter, IsRising-push}
+use Rattle.container_store.proofs.Public.{IsRising-filter}
+use Rattle.convergence.proofs.Public.{IsKeyOrder-nat_cmp}
+use Rattle.serial_runs.proofs.RisingKept.{IsRising-map}
 
 -- a sum of what a change leaves is left
 pub sum_by-map_same : (f : Container → ℕ) (g : Container → Container) → ((c : Container) → f (g c) ≡ f c) → (cs : List Container) → sum_by f (map g cs) ≡ sum_by f cs
@@ -86,7 +89,7 @@ IsStore-reserved s job memory disk h room_m room_d slot number =
     let disk_is = sum_by_push (λ (c : Container). c.disk) s.containers new in
     let length_is = length-append s.containers (new ∷ []) in
     record {
-      rising = IsRising-push nat_cmp number_of s.containers new h.rising (All-weaker (IsGiven s.epoch s.last) (λ c. nat_cmp (number_of c) (number_of new) ≡ Less) (below_next s.epoch s.last) s.containers h.given);
+      rising = IsRising-push nat_cmp number_of IsKeyOrder-nat_cmp new s.containers h.rising (All-weaker (IsGiven s.epoch s.last) (λ c. nat_cmp (number_of c) (number_of new) ≡ Less) (below_next s.epoch s.last) s.containers h.given);
       given = All-push (IsGiven s.epoch (s.last + 1)) s.containers new (All-weaker (IsGiven s.epoch s.last) (IsGiven s.epoch (s.last + 1)) (given_later s.epoch s.last) s.containers h.given) (record { epoch_is = refl; counted = omega arith; known = omega arith });
       memory = omega (arith, memory_is, room_m);
       disk = omega (arith, disk_is, room_d);
