@@ -22,11 +22,11 @@ use Rattle.bbs_snapshot.specs.Switches.{Switches}
 use Rattle.bbs_model.specs.Replay.{replay_log}
 use Rattle.bbs_model.specs.declared.item.Item.{Item}
 use Rattle.bbs_model.specs.declared.rows.Rows.{Rows}
-use Rattle.bbs_board.specs.Checkpoint.{OpensTo, LeadsTo, headed_instead, compacted, Compacts}
+use Rattle.bbs_board.specs.Checkpoint.{Compacts}
 use Rattle.bbs_board.specs.Kept.{IsFound, Kept}
 use Rattle.bbs_board.specs.Opening.{in_area, rows_in, followed}
 use Rattle.bbs_board.specs.View.{Holds, LeadsOn}
-use Rattle.bbs_board.specs.Written.{Reading}
+use Rattle.bbs_board.specs.Written.{Reading, OpensTo, LeadsTo, headed_instead, compacted}
 use Rattle.bbs_board.proofs.Frames.{next-followed}
 use Rattle.bbs_board.proofs.Keeping.{kept_on}
 use Rattle.bbs_board.proofs.Logs.{reached_end}
