@@ -1,33 +1,30 @@
 -- Storing a command in a journal whose area may be full.
-use Rattle.std.proofs.Common.{◌≡◌, inl, inr, ⊎_elim, ℕ, ◌+◌, ◌-◌, ◌^◌, ◌<◌, ◌≤◌, Bool, true, false, ◌&&◌, nat_le, nat_lt, Option, Some, None, List, [], ◌∷◌, ◌++◌, length, refl, sym, ap, subst, ◌∙◌, arith, if◌then◌else◌}
+use Rattle.std.proofs.Common.{◌≡◌, inl, inr, ⊎_elim, ℕ, ◌+◌, ◌-◌, ◌^◌, ◌<◌, ◌≤◌, Bool, true, false, ◌&&◌, nat_le, nat_lt, Option, Some, List, [], ◌∷◌, ◌++◌, length, refl, ap, subst, ◌∙◌, arith, if◌then◌else◌}
 use Rattle.std.proofs.lemmas.Bool.Decides.{nat_tests}
-use Rattle.std.specs.Option.{ForSome}
 use Rattle.disk_trait.specs.Past.{Past}
 use Rattle.disk_trait.specs.Runs.{Extends}
 use Rattle.disk_trait.specs.Steps.{Goes}
 use Rattle.disk_trait.specs.declared.area.Area.{Area}
 use Rattle.disk_trait.proofs.Public.{goes_then, goes_weaker, extends_then}
-use Rattle.bbs_codec.specs.Command.{spelled, FitsCommand}
+use Rattle.bbs_codec.specs.Command.{spelled}
 use Rattle.bbs_journal.specs.Calls.{AddsFrame, mend_calls}
 use Rattle.bbs_journal.specs.View.{View as JournalView, is_waiting, frame_waits}
 use Rattle.bbs_journal.specs.declared.other_gate.OtherGate.{OtherGate}
 use Rattle.bbs_journal.specs.declared.waiting.Waiting.{Waiting}
 use Rattle.bbs_journal.specs.declared.waiting.Waiting.TheVariants.{Nothing}
-use Rattle.bbs_model.specs.Replay.{replay_log, IsLawful}
-use Rattle.bbs_model.specs.Step.{IsLegal}
+use Rattle.bbs_model.specs.Replay.{replay_log}
 use Rattle.bbs_model.specs.Valid.{IsValid}
-use Rattle.bbs_model.specs.declared.command.Command.{Command}
 use Rattle.bbs_model.specs.declared.item.Item.{Item}
 use Rattle.bbs_model.specs.declared.item.Item.TheVariants.{Doubt}
 use Rattle.bbs_model.specs.declared.rows.Rows.{Rows}
 use Rattle.bbs_board.specs.Checkpoint.{Compacts, MovesOn, MovedOn, SwitchTakes}
 use Rattle.bbs_board.specs.Puts.{PutsItem, PutTakes, HasPut}
 use Rattle.bbs_board.specs.Stops.{Stores}
-use Rattle.bbs_board.specs.Storing.{IsHeadOf, StoresItem, HasStored, StoreTakes}
-use Rattle.bbs_board.specs.View.{Holds, StandsOn, is_due}
+use Rattle.bbs_board.specs.Storing.{StoresItem, HasStored, StoreTakes}
+use Rattle.bbs_board.specs.View.{Holds, is_due}
 use Rattle.bbs_board.specs.Written.{Reading, ReadsAs}
 use Rattle.bbs_board.proofs.Adding.{holds_doubted}
-use Rattle.bbs_board.proofs.Adds.{AddsBehind, stores_short, stores_moved, stores_unmoved}
+use Rattle.bbs_board.proofs.Adds.{stores_short, stores_moved, stores_unmoved}
 use Rattle.bbs_board.proofs.Beside.{calm_nothing}
 use Rattle.bbs_board.proofs.Moving.{not_above}
 use Rattle.bbs_board.proofs.Storing.{adds_behind, reads_count, goes_both}

@@ -1,6 +1,6 @@
 -- The whole board after an item was added to its log, or none.
 use Rattle.std.proofs.Common.{◌≡◌, ℕ, ◌+◌, ◌≤◌, Bool, true, false, List, [], ◌∷◌, ◌++◌, Option, Some, Result, Ok, Err, refl, sym, ap, subst, ◌∙◌, arith, if◌then◌else◌}
-use Rattle.std.specs.Prelude.{not, max, is_err, OnOk}
+use Rattle.std.specs.Prelude.{not, is_err, OnOk}
 use Rattle.std.specs.Option.{ForSome}
 use Rattle.disk_trait.specs.Past.{Past}
 use Rattle.disk_trait.specs.Runs.{Extends}

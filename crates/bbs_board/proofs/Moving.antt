@@ -1,5 +1,5 @@
 -- How a board stands after a switch to the other area, and what a stop leaves of it.
-use Rattle.std.proofs.Common.{◌≡◌, ◌⊎◌, inl, inr, ⊎_elim, ℕ, ◌+◌, ◌<◌, ◌≤◌, ◌-◌, ◌^◌, Bool, true, false, List, [], ◌∷◌, length, None, Result, Ok, Err, refl, sym, ap, subst, arith}
+use Rattle.std.proofs.Common.{◌≡◌, ◌⊎◌, inl, inr, ⊎_elim, ℕ, ◌+◌, ◌<◌, ◌≤◌, ◌^◌, Bool, true, false, List, [], ◌∷◌, length, None, Result, Ok, Err, refl, sym, ap, subst, arith}
 use Rattle.wire_fields.specs.Reading.{◌>>=◌}
 use Rattle.wire_fields.proofs.Public.{bind_ok}
 use Rattle.disk_trait.specs.Held.{Has, Leaves}

@@ -1,21 +1,19 @@
 -- How many frames whoever opens a board's disk has to do again.
-use Rattle.std.proofs.Common.{◌≡◌, ◌⊎◌, inl, inr, ⊎_elim, ℕ, zero, suc, ◌+◌, ◌<◌, ◌≤◌, true, Option, Some, None, List, [], ◌∷◌, ◌++◌, length, refl, sym, ap, subst, ◌∙◌, arith, append_assoc, append-nil, length-append}
+use Rattle.std.proofs.Common.{◌≡◌, ◌⊎◌, inl, inr, ⊎_elim, ℕ, zero, suc, ◌+◌, ◌<◌, ◌≤◌, true, Option, Some, None, List, [], ◌∷◌, ◌++◌, length, refl, sym, ap, ◌∙◌, arith, append_assoc, append-nil, length-append}
 use Rattle.std.specs.Prelude.{is_some}
 use Rattle.disk_trait.specs.Held.{Held, Leaves}
-use Rattle.disk_trait.specs.Past.{Past, Image, Images, now, other}
+use Rattle.disk_trait.specs.Past.{Past, Image, now, other}
 use Rattle.disk_trait.specs.declared.area.Area.{Area}
-use Rattle.bbs_journal.specs.Areas.{IsArea, BeforeOrAfter, Ready, Waits, Stands, body_of}
+use Rattle.bbs_journal.specs.Areas.{IsArea, BeforeOrAfter, Stands, body_of}
 use Rattle.bbs_journal.specs.Beside.{Beside}
 use Rattle.bbs_journal.specs.Frames.{IsPayload, frame_spelled, Whole}
 use Rattle.bbs_journal.specs.Grammar.{heading}
-use Rattle.bbs_journal.specs.Other.{Yields}
 use Rattle.bbs_journal.specs.Stops.{OpensAs}
-use Rattle.bbs_journal.specs.View.{View as JournalView, frame_waits}
+use Rattle.bbs_journal.specs.View.{frame_waits}
 use Rattle.bbs_journal.specs.declared.other_gate.OtherGate.{OtherGate}
 use Rattle.bbs_journal.specs.declared.waiting.Waiting.{Waiting}
 use Rattle.bbs_journal.specs.declared.waiting.Waiting.TheVariants.{Header}
 use Rattle.bbs_journal.proofs.Public.{area_opens}
-use Rattle.bbs_model.specs.Replay.{replay_log}
 use Rattle.bbs_model.specs.declared.item.Item.{Item}
 use Rattle.bbs_model.specs.declared.rows.Rows.{Rows}
 use Rattle.bbs_board.specs.KeptIn.{HasAtMost}

@@ -63,12 +63,13 @@ pub record SwitchTakes (ok waits : Bool) (before after : ℕ) : Type 0 where
   pub done : ok ≡ true → (after ≡ before + mend_calls waits + 6) ⊎ (after ≡ before + mend_calls waits + 8)
   pub most : after ≤ before + mend_calls waits + 10
 
--- nothing has changed but its disk, whether something waits, its frames, of which none are left after a checkpoint that
--- was made, and its room, which is no less
+-- nothing has changed but its disk, whether something waits, its frames, of which there are no more, and its room, which
+-- is no less; where nothing waited and it was made, nothing waits
 pub record StaysCompacted {D : Type 0} (ok : Bool) (old new : View D) : Type 0 where
   pub same : new ≡ record old { disk = new.disk; waits = new.waits; frames = new.frames; spare = new.spare }
   pub frames : new.frames ≤ old.frames
   pub room : old.spare ≤ new.spare
+  pub calm : ok ≡ true → old.waits ≡ false → new.waits ≡ false
 
 -- the device calls of a checkpoint, behind the two of a mend where a gate waited: eight, and two more where it failed
 pub record CheckpointTakes (ok waits : Bool) (before after : ℕ) : Type 0 where

@@ -1,6 +1,6 @@
 -- Storing a command in a journal: where its area is full it goes on in the other one first.
-use Rattle.std.specs.Prelude.{◌≡◌, ◌⊎◌, ℕ, ◌+◌, ◌-◌, ◌^◌, ◌<◌, ◌≤◌, Bool, true, false, nat_le, nat_lt, Option, List, [], ◌∷◌, ◌++◌, length, if◌then◌else◌}
-use Rattle.disk_trait.specs.Past.{Past, Image, Images}
+use Rattle.std.specs.Prelude.{◌≡◌, ◌⊎◌, ℕ, ◌+◌, ◌-◌, ◌^◌, ◌<◌, ◌≤◌, Bool, true, false, Option, List, [], ◌∷◌, ◌++◌, length, if◌then◌else◌}
+use Rattle.disk_trait.specs.Past.{Past}
 use Rattle.disk_trait.specs.Steps.{Goes}
 use Rattle.bbs_codec.specs.Command.{spelled, FitsCommand}
 use Rattle.bbs_codec.specs.Head.{head_spelled, FitsHead}

@@ -1,6 +1,6 @@
 use Rattle.std.proofs.Common.{◌≡◌, false, is_ok, refl, rules}
 use Rattle.bbs_board.proofs.Closing.{closed_switch, stays_closed}
-use Rattle.bbs_board.proofs.Compacting.{moves_switched, moves_then, moves_not, left_knows, moved_not, moved_made, moved_left, few_close_calls}
+use Rattle.bbs_board.proofs.Compacting.{moves_switched, moves_then, moves_not, left_knows, moved_not, moved_made, moved_left}
 use Rattle.bbs_board.proofs.Mending.{mended}
 use Rattle.bbs_board.proofs.checkpoint.move_on.Goals as goal
 
