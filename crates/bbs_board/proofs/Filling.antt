@@ -21,7 +21,7 @@ use Rattle.bbs_board.specs.Checkpoint.{Compacts, MovesOn, MovedOn, SwitchTakes}
 use Rattle.bbs_board.specs.Puts.{PutsItem, PutTakes, HasPut}
 use Rattle.bbs_board.specs.Stops.{Stores}
 use Rattle.bbs_board.specs.Storing.{StoresItem, HasStored, StoreTakes}
-use Rattle.bbs_board.specs.View.{Holds, is_due}
+use Rattle.bbs_board.specs.View.{Holds, wants_checkpoint}
 use Rattle.bbs_board.specs.Written.{Reading, ReadsAs}
 use Rattle.bbs_board.proofs.Adding.{holds_doubted}
 use Rattle.bbs_board.proofs.Adds.{stores_short, stores_moved, stores_unmoved}
@@ -41,17 +41,17 @@ short_by_tests : (frames generation top : ℕ) → frames < 4096 → nat_le 4096
 short_by_tests frames generation top short = grind (arith, nat_tests)
 
 module _ {D : Type 0} (j : JournalView D) where
-  pub due_is : is_due j ≡ true → (4096 ≤ j.frames) × (j.generation < 2 ^ 64 - 1)
+  pub due_is : wants_checkpoint j ≡ true → (4096 ≤ j.frames) × (j.generation < 2 ^ 64 - 1)
   due_is is = by_tests j.frames j.generation (2 ^ 64 - 1) is
 
-  pub not_due : is_due j ≡ false → j.generation < 2 ^ 64 - 1 → j.frames < 4096
+  pub not_due : wants_checkpoint j ≡ false → j.generation < 2 ^ 64 - 1 → j.frames < 4096
   not_due is low = not_by_tests j.frames j.generation (2 ^ 64 - 1) is low
 
-  pub short_not_due : j.frames < 4096 → is_due j ≡ false
+  pub short_not_due : j.frames < 4096 → wants_checkpoint j ≡ false
   short_not_due short = short_by_tests j.frames j.generation (2 ^ 64 - 1) short
 
 -- it is due as it was before
-pub due_same : {D : Type 0} (v w : JournalView D) → w.frames ≡ v.frames → w.generation ≡ v.generation → is_due w ≡ is_due v
+pub due_same : {D : Type 0} (v w : JournalView D) → w.frames ≡ v.frames → w.generation ≡ v.generation → wants_checkpoint w ≡ wants_checkpoint v
 due_same v w frames generation = ap (λ (n : ℕ). nat_le 4096 n && nat_lt w.generation (2 ^ 64 - 1)) frames ∙ ap (λ (n : ℕ). nat_le 4096 v.frames && nat_lt n (2 ^ 64 - 1)) generation
 
 -- ---- a board over a disk that tells its past
@@ -79,7 +79,7 @@ module _ (base : Rows) (log : List Item) (marks : List ℕ) (since : ℕ) (area 
 
 module _ {D : Type 0} (told : D → Option Past) (head payload : List ℕ) (mark : ℕ) where
   -- behind the frames that are there
-  pub stores_put : (v0 v1 : JournalView D) (ok : Bool) → is_due v0 ≡ false → PutsItem told ok payload mark v0 v1
+  pub stores_put : (v0 v1 : JournalView D) (ok : Bool) → wants_checkpoint v0 ≡ false → PutsItem told ok payload mark v0 v1
       → (is_waiting v0.waiting ≡ false → Goes (told v0.disk) (told v1.disk) (AddsFrame v0.area ok (is_waiting v1.waiting) payload v0.end)) → StoresItem told ok head payload mark v0 v1
   stores_put v0 v1 ok due puts appends base log marks since lawful valid stands heads by c fits legal is = (
     puts base log marks since lawful stands by c fits legal is,
@@ -96,7 +96,7 @@ module _ {D : Type 0} (told : D → Option Past) (head payload : List ℕ) (mark
   )
 
   -- behind a checkpoint
-  pub stores_then : (v0 v1 v2 : JournalView D) (ok : Bool) → is_due v0 ≡ true → MovesOn told true head v0 v1 → MovedOn true v0 v1 → PutsItem told ok payload mark v1 v2
+  pub stores_then : (v0 v1 v2 : JournalView D) (ok : Bool) → wants_checkpoint v0 ≡ true → MovesOn told true head v0 v1 → MovedOn true v0 v1 → PutsItem told ok payload mark v1 v2
       → (is_waiting v1.waiting ≡ false → Goes (told v1.disk) (told v2.disk) (AddsFrame v1.area ok (is_waiting v2.waiting) payload v1.end)) → StoresItem told ok head payload mark v0 v2
   stores_then v0 v1 v2 ok due moves knows puts appends base log marks since lawful valid stands heads by c fits legal is =
       let long = (due_is v0 due).0 in
@@ -121,7 +121,7 @@ module _ {D : Type 0} (told : D → Option Past) (head payload : List ℕ) (mark
       )
 
   -- the checkpoint before it failed
-  pub stores_not : (v0 v1 : JournalView D) → is_due v0 ≡ true → ((q : Past) → told v1.disk ≡ Some q → q.clock ≡ mark) → MovesOn told false head v0 v1 → StoresItem told false head payload mark v0 v1
+  pub stores_not : (v0 v1 : JournalView D) → wants_checkpoint v0 ≡ true → ((q : Past) → told v1.disk ≡ Some q → q.clock ≡ mark) → MovesOn told false head v0 v1 → StoresItem told false head payload mark v0 v1
   stores_not v0 v1 due timed moves base log marks since lawful valid stands heads by c fits legal is =
       let long = (due_is v0 due).0 in
       let some : 0 < v0.frames = omega (arith, long) in
@@ -160,7 +160,7 @@ module _ {D : Type 0} (v0 v1 v2 : JournalView D) where
   not_done true w waits is = absurd (let none = waits refl in let calm = ap frame_waits none in cc)
   not_done false w waits is = refl
 
-  pub has_put_there : (ok : Bool) → v0.broken ≡ false → is_due v0 ≡ false → HasPut ok v0 v1 → HasStored ok v0 v1
+  pub has_put_there : (ok : Bool) → v0.broken ≡ false → wants_checkpoint v0 ≡ false → HasPut ok v0 v1 → HasStored ok v0 v1
   has_put_there ok whole due has = record {
     whole = has.stays.broken ∙ whole;
     frames = no_more ok v1.frames v0.frames has.frames;
@@ -184,7 +184,7 @@ module _ {D : Type 0} (v0 v1 v2 : JournalView D) where
         crowded = λ before is. short_not_due v2 (omega (arith, few.1));
       }
 
-  pub has_not_moved : is_due v0 ≡ true → MovedOn false v0 v1 → HasStored false v0 v1
+  pub has_not_moved : wants_checkpoint v0 ≡ true → MovedOn false v0 v1 → HasStored false v0 v1
   has_not_moved due moved =
       let frames : v1.frames ≡ v0.frames = moved.frames in
       record {

@@ -26,7 +26,7 @@ use Rattle.bbs_board.specs.Doubts.{doubts_in, RoseForEach}
 use Rattle.bbs_board.specs.KeptIn.{StaysShort, most_after}
 use Rattle.bbs_board.specs.Puts.{item_of}
 use Rattle.bbs_board.specs.Storing.{IsHeadOf, StoresItem, HasStored}
-use Rattle.bbs_board.specs.View.{IsSound, StandsOn, is_due}
+use Rattle.bbs_board.specs.View.{IsSound, StandsOn, wants_checkpoint}
 use Rattle.bbs_board.proofs.Doubting.{rose_more}
 use Rattle.bbs_board.proofs.Filling.{due_same, short_not_due, not_due, low_generation}
 use Rattle.bbs_board.proofs.Logs.{replay_more}
@@ -36,7 +36,7 @@ use Rattle.bbs_board.proofs.Storing.{passes_both}
 -- with an item
 pub sound_more : {D : Type 0} (told : D → Option Past) (fault_count : D → ℕ) (rows base : Rows) (log : List Item) (marks : List ℕ) (events : List (Option Events)) (since faults : ℕ) (journal later : JournalView D) → IsSound told fault_count rows base log marks events since faults journal
     → (by : ℕ) (c : Command) → FitsCommand c → IsLegal rows c → (ok : Bool) (rows' : Rows) (log' : List Item) (marks' : List ℕ) (events' : List (Option Events)) (mark : ℕ)
-    → rows' ≡ after_item rows (item_of ok by c) → log' ≡ log ++ item_of ok by c ∷ [] → marks' ≡ marks ++ mark ∷ [] → events' ≡ events ++ told_by rows (item_of ok by c) ∷ [] → IsValid rows' → (head : List ℕ) → (is_due journal ≡ true → IsHeadOf rows head) → StoresItem told ok head (spelled c) mark journal later → HasStored ok journal later
+    → rows' ≡ after_item rows (item_of ok by c) → log' ≡ log ++ item_of ok by c ∷ [] → marks' ≡ marks ++ mark ∷ [] → events' ≡ events ++ told_by rows (item_of ok by c) ∷ [] → IsValid rows' → (head : List ℕ) → (wants_checkpoint journal ≡ true → IsHeadOf rows head) → StoresItem told ok head (spelled c) mark journal later → HasStored ok journal later
     → HasCause (not ok) (fault_count journal.disk) (fault_count later.disk) → IsSound told fault_count rows' base log' marks' events' since faults later
 sound_more {D} told fault_count rows base log marks events since faults journal later sound by c fits legal ok rows' log' marks' events' mark rows_is log_is marks_is events_are valid head heads stores has cause =
     let law : IsLegal (replay_log base log) c = subst (λ (r : Rows). IsLegal r c) sound.rows_are legal in
@@ -90,13 +90,13 @@ sound_moved told fault_count rows base log marks events since faults journal lat
     fewer false is = omega (arith, is)
 
     never_due : (done : Bool) → (done ≡ true → is_waiting later.waiting ≡ false) → later.frames ≡ (if done then 0 else journal.frames) → (done ≡ false → later.generation ≡ journal.generation) → frame_waits later.waiting ≡ true
-        → is_due later ≡ false
+        → wants_checkpoint later ≡ false
     never_due true calm frames generation is = short_not_due later (omega (arith, frames))
     never_due false calm frames generation is = due_same journal later frames (generation refl) ∙ sound.crowded (moved.frame is)
 
 -- ---- how long it takes to open
 
-module _ {D : Type 0} (told : D → Option Past) (base : Rows) (log : List Item) (marks : List ℕ) (since : ℕ) (journal : JournalView D) (valid : IsValid (replay_log base log)) (stands : StandsOn told base log marks since journal) (crowded : frame_waits journal.waiting ≡ true → is_due journal ≡ false) where
+module _ {D : Type 0} (told : D → Option Past) (base : Rows) (log : List Item) (marks : List ℕ) (since : ℕ) (journal : JournalView D) (valid : IsValid (replay_log base log)) (stands : StandsOn told base log marks since journal) (crowded : frame_waits journal.waiting ≡ true → wants_checkpoint journal ≡ false) where
   pub stays_short : (most : ℕ) → 4096 ≤ most → ((p : Past) → told journal.disk ≡ Some p → journal.frames ≤ most) → ForSome (told journal.disk) (StaysShort most journal.frames)
   stays_short most enough few p is =
       let h = stands p is in
@@ -115,7 +115,7 @@ sound_short told fault_count rows base log marks events since faults journal sou
 
 -- where a command was, or was tried
 pub stored_short : {D : Type 0} (told : D → Option Past) (fault_count : D → ℕ) (rows base : Rows) (log : List Item) (marks : List ℕ) (events : List (Option Events)) (since faults : ℕ) (journal later : JournalView D) → IsSound told fault_count rows base log marks events since faults journal
-    → (by : ℕ) (c : Command) → FitsCommand c → IsLegal (replay_log base log) c → (ok : Bool) (mark : ℕ) (head : List ℕ) → (is_due journal ≡ true → IsHeadOf rows head) → StoresItem told ok head (spelled c) mark journal later → HasStored ok journal later
+    → (by : ℕ) (c : Command) → FitsCommand c → IsLegal (replay_log base log) c → (ok : Bool) (mark : ℕ) (head : List ℕ) → (wants_checkpoint journal ≡ true → IsHeadOf rows head) → StoresItem told ok head (spelled c) mark journal later → HasStored ok journal later
     → ForSome (told later.disk) (StaysShort (most_after ok journal.frames) later.frames)
 stored_short {D} told fault_count rows base log marks events since faults journal later sound by c fits legal ok mark head heads stores has =
     let valid = subst IsValid sound.rows_are sound.valid in
@@ -140,7 +140,7 @@ stored_short {D} told fault_count rows base log marks events since faults journa
 
 -- the bytes of a command that was stored, or was tried
 pub stored_passes : {D : Type 0} (told : D → Option Past) (fault_count : D → ℕ) (rows base : Rows) (log : List Item) (marks : List ℕ) (events : List (Option Events)) (since faults : ℕ) (journal later : JournalView D) → IsSound told fault_count rows base log marks events since faults journal
-    → (by : ℕ) (c : Command) → FitsCommand c → IsLegal (replay_log base log) c → (ok : Bool) (mark : ℕ) (head : List ℕ) → (is_due journal ≡ true → IsHeadOf rows head) → StoresItem told ok head (spelled c) mark journal later
+    → (by : ℕ) (c : Command) → FitsCommand c → IsLegal (replay_log base log) c → (ok : Bool) (mark : ℕ) (head : List ℕ) → (wants_checkpoint journal ≡ true → IsHeadOf rows head) → StoresItem told ok head (spelled c) mark journal later
     → Goes (told journal.disk) (told later.disk) (Passes (is_waiting journal.waiting) verdict.Ok ok (replay_log base log) c)
 stored_passes told fault_count rows base log marks events since faults journal later sound by c fits legal ok mark head heads stores =
     let stored = stores base log marks since sound.lawful (subst IsValid sound.rows_are sound.valid) sound.holds (λ due. subst (λ (r : Rows). IsHeadOf r head) sound.rows_are (heads due)) by c fits legal refl in

@@ -15,7 +15,8 @@ pub record OpensWith (rows : Rows) (r : Reading) (image : Image) : Type 0 where
 -- the image is opened as what was read before a command, with room made for it or not, or with it stored
 abbrev pub IsOnTheWay : Rows → Command → Reading → Image → Type 0
 IsOnTheWay rows command r image =
-    OpensTo r image ⊎ (OpensWith rows (with_room rows r) image ⊎ OpensWith (rows_after rows command) (stored_behind rows command r) image)
+    OpensTo r image
+    ⊎ (OpensWith rows (with_room rows r) image ⊎ OpensWith (rows_after rows command) (stored_behind rows command r) image)
 
 -- a command was stored at these rows, or storing it failed: what the disk read before is the history that leads to
 -- the rows; all the while a stop leaves that, or what is read when there is room for one more, or that with the
@@ -26,4 +27,5 @@ pub record Stores (stored : Bool) (rows : Rows) (command : Command) (p q : Past)
   pub reads : ReadsAs before p
   pub leads : LeadsTo before rows
   pub each : (image : Image) → ImagesSince q p.clock image → IsOnTheWay rows command before image
-  pub done : stored ≡ true → (image : Image) → Images q image → OpensWith (rows_after rows command) (stored_behind rows command before) image
+  pub done : stored ≡ true → (image : Image) → Images q image
+      → OpensWith (rows_after rows command) (stored_behind rows command before) image

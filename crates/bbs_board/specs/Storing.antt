@@ -14,7 +14,7 @@ use Rattle.bbs_model.specs.declared.item.Item.{Item}
 use Rattle.bbs_model.specs.declared.rows.Rows.{Rows}
 use Rattle.bbs_board.specs.Puts.{item_of, StandsWith}
 use Rattle.bbs_board.specs.Stops.{Stores}
-use Rattle.bbs_board.specs.View.{StandsOn, is_due}
+use Rattle.bbs_board.specs.View.{StandsOn, wants_checkpoint}
 
 -- the bytes are the head of these rows, and a header can tell its length
 pub record IsHeadOf (rows : Rows) (bytes : List ℕ) : Type 0 where
@@ -25,10 +25,11 @@ pub record IsHeadOf (rows : Rows) (bytes : List ℕ) : Type 0 where
 -- whatever board stood there stands there with one item more, which has this mark: a command whose payload was stored,
 -- done or in doubt, behind a checkpoint with this head where one was due; and where nothing waited it is known what a
 -- stop leaves to the byte
-abbrev pub StoresItem : {D : Type 0} → (D → Option Past) → Bool → List ℕ → List ℕ → ℕ → JournalView D → JournalView D → Type 0
+abbrev pub StoresItem : {D : Type 0} → (D → Option Past) → Bool → List ℕ → List ℕ → ℕ → JournalView D → JournalView D →
+    Type 0
 StoresItem told ok head payload mark old new =
     (base : Rows) (log : List Item) (marks : List ℕ) (since : ℕ) → IsLawful base log → IsValid (replay_log base log)
-    → StandsOn told base log marks since old → (is_due old ≡ true → IsHeadOf (replay_log base log) head)
+    → StandsOn told base log marks since old → (wants_checkpoint old ≡ true → IsHeadOf (replay_log base log) head)
     → (by : ℕ) (c : Command) → FitsCommand c → IsLegal (replay_log base log) c → payload ≡ spelled c
     → StandsWith told base (log ++ item_of ok by c ∷ []) (marks ++ mark ∷ []) since old new
     × (is_waiting old.waiting ≡ false → Goes (told old.disk) (told new.disk) (Stores ok (replay_log base log) c))
@@ -40,7 +41,7 @@ pub record HasStored {D : Type 0} (ok : Bool) (old new : JournalView D) : Type 0
   pub frames : new.frames ≤ (if ok then old.frames + 1 else old.frames)
   pub short : ok ≡ true → old.generation < 2 ^ 64 - 1 → new.frames ≤ 4096
   pub waits : ok ≡ true → is_waiting new.waiting ≡ false
-  pub crowded : (frame_waits old.waiting ≡ true → is_due old ≡ false) → frame_waits new.waiting ≡ true → is_due new ≡ false
+  pub crowded : (frame_waits old.waiting ≡ true → wants_checkpoint old ≡ false) → frame_waits new.waiting ≡ true → wants_checkpoint new ≡ false
 
 -- the device calls of storing a command, behind the two of a mend where a gate waited: four, and before them those of
 -- a checkpoint, six or eight, if the area had 4,096 frames; where it fails no more than these and the two that close its own gate

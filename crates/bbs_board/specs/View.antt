@@ -92,8 +92,8 @@ StandsOn told base log marks since j =
     ForSome (told j.disk) (Holds base log marks since j.area j.generation j.end j.frames j.waiting j.gate)
 
 -- a checkpoint is due before the next frame: there are 4,096 or more, and there is a next generation
-abbrev pub is_due : {D : Type 0} → JournalView D → Bool
-is_due j = nat_le 4096 j.frames && nat_lt j.generation (2 ^ 64 - 1)
+abbrev pub wants_checkpoint : {D : Type 0} → JournalView D → Bool
+wants_checkpoint j = nat_le 4096 j.frames && nat_lt j.generation (2 ^ 64 - 1)
 
 -- so stands each board: it was opened with valid rows, its log is lawful and leads to its rows, which are
 -- valid, it is kept what each item told, each of its doubts has a fault for its cause, and its journal has
@@ -108,6 +108,6 @@ pub record IsSound {D : Type 0} (told : D → Option Past) (fault_count : D → 
   pub events_are : events ≡ told_in base log
   pub whole : journal.broken ≡ false
   pub counted : journal.frames ≤ rows.next
-  pub crowded : frame_waits journal.waiting ≡ true → is_due journal ≡ false
+  pub crowded : frame_waits journal.waiting ≡ true → wants_checkpoint journal ≡ false
   pub doubted : RoseForEach (doubts_in log) faults (fault_count journal.disk)
   pub holds : StandsOn told base log marks since journal

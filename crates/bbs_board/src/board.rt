@@ -2,14 +2,13 @@
 //! whatever a stop leaves is opened as the board after a prefix of its log.
 ghost use Rattle.std.specs.Prelude.{◌≡◌, ◌<◌, ◌≤◌, false, true, length, OnOk};
 ghost use Rattle.std.specs.Option.{ForSome};
-ghost use Rattle.byte_ports.specs.Cause.{HasCause};
 ghost use Rattle.disk_trait.specs.Steps.{Goes};
 ghost use Rattle.bbs_model.specs.Calls.{Ends, added, is_done, is_disk_fault, is_starved};
 ghost use Rattle.bbs_model.specs.Replay.{IsLawful};
 ghost use Rattle.bbs_model.specs.Step.{verdict_of, IsLegal};
 ghost use Rattle.bbs_model.specs.Valid.{IsValid};
 ghost use Rattle.bbs_board.specs.Calls.{Grows, Passes};
-ghost use Rattle.bbs_board.specs.Doubts.{doubts_in, RoseForEach};
+ghost use Rattle.bbs_board.specs.Doubts.{CountsFaults, doubts_in, RoseForEach};
 ghost use Rattle.bbs_board.specs.Kept.{Kept};
 ghost use Rattle.bbs_board.specs.KeptIn.{StaysShort, most_after};
 ghost use Rattle.bbs_board.specs.Storing.{StoreTakes};
@@ -18,7 +17,7 @@ ghost use Rattle.bbs_board.specs.View.{rows_of};
 use crate::draft::Draft;
 use crate::history::History;
 use crate::room::{make_room, prepare_call};
-use crate::storage::{is_due, store};
+use crate::storage::{store, wants_checkpoint};
 use bbs_codec::write_command;
 use bbs_index::Index;
 use bbs_journal::Journal;
@@ -79,9 +78,9 @@ pub struct Closed<D> {
 }
 
 impl<D: Disk> Board<D> {
-    /// Makes a legal command a transition, by the four device calls of an append. Before them two mend a
-    /// gate that an earlier fault left, and eight at most make a checkpoint where the area is full; behind
-    /// one that failed at its own gate two close that.
+    /// Makes a legal command a transition, by the four device calls of an append. Before them two mend
+    /// a gate that an earlier fault left, and eight at most make a checkpoint where the area is full;
+    /// behind an append that failed at its own gate two close that.
     fn transition(&mut self, by: u32, command: &Command) -> Result<Reply, CallFault>
         requires { IsLegal (rows_of self.old) command.now }
         ensures ends { Ends Verdict.Ok (length self.old.log) (rows_of self.old).next result }
@@ -89,21 +88,20 @@ impl<D: Disk> Board<D> {
             (D.moment self.new.disk) self.old self.new }
         ensures fed { 0 < self.old.spare → is_starved result ≡ false }
         ensures does { Goes (D.told self.old.disk) (D.told self.new.disk)
-            (Passes self.old.waits Verdict.Ok (is_done result) (rows_of self.old) command.entry.now) }
-        ensures closes { self.old.waits ≡ false → self.new.waits ≡ true →
-            RoseForEach 2 (D.fault_count self.old.disk) (D.fault_count self.new.disk) }
+            (Passes self.old.waits Verdict.Ok (is_done result) (rows_of self.old)
+            command.entry.now) }
         ensures few { ForSome (D.told self.new.disk)
             (StaysShort (most_after (is_done result) self.old.frames) self.new.frames) }
         ensures calls { StoreTakes (is_done result) self.old.waits self.old.frames
             (D.moment self.old.disk) (D.moment self.new.disk) }
-        ensures cause { HasCause (is_disk_fault result)
+        ensures faults { CountsFaults (is_disk_fault result) self.old.waits self.new.waits
             (D.fault_count self.old.disk) (D.fault_count self.new.disk) }
     {
         let place = self.history.place();
         let stamp = self.index.next();
         let mut payload = [0u8; 512];
         let len = write_command(&mut payload, command);
-        let due = is_due(&self.journal);
+        let due = wants_checkpoint(&self.journal);
         if prepare_call(&mut self.index, &mut self.history, &mut self.draft, due).is_err() {
             return Err(CallFault::OutOfMemory);
         }
@@ -131,13 +129,11 @@ impl<D: Disk> Board<D> {
         ensures does { Goes (D.told self.old.disk) (D.told self.new.disk)
             (Passes self.old.waits (verdict_of (rows_of self.old) command) (is_done result)
             (rows_of self.old) command) }
-        ensures closes { self.old.waits ≡ false → self.new.waits ≡ true →
-            RoseForEach 2 (D.fault_count self.old.disk) (D.fault_count self.new.disk) }
         ensures few { ForSome (D.told self.new.disk)
             (StaysShort (most_after (is_done result) self.old.frames) self.new.frames) }
         ensures calls { StoreTakes (is_done result) self.old.waits self.old.frames
             (D.moment self.old.disk) (D.moment self.new.disk) }
-        ensures cause { HasCause (is_disk_fault result)
+        ensures faults { CountsFaults (is_disk_fault result) self.old.waits self.new.waits
             (D.fault_count self.old.disk) (D.fault_count self.new.disk) }
     {
         let place = self.history.place();

@@ -4,7 +4,7 @@ ghost use Rattle.byte_ports.specs.Cause.{HasCause};
 ghost use Rattle.disk_trait.specs.Steps.{Goes};
 ghost use Rattle.bbs_journal.specs.View.{is_waiting};
 ghost use Rattle.bbs_board.specs.Checkpoint.{Checkpoints, CheckpointTakes, EndsCheckpoint, MovedOn, MovesOn, StaysCompacted, SwitchTakes, is_checkpoint_fault};
-ghost use Rattle.bbs_board.specs.Doubts.{RoseForEach};
+ghost use Rattle.bbs_board.specs.Doubts.{CountsFaults, RoseForEach};
 ghost use Rattle.bbs_board.specs.View.{rows_of};
 
 use crate::Board;
@@ -15,8 +15,8 @@ use bbs_snapshot::switch;
 use disk_trait::Disk;
 
 /// Mends what an earlier fault left, and goes on in the other area with this head. Where closing or
-/// opening the gate of that area fails, it is closed at once, and tried once, as `put` does and for the
-/// same reason.
+/// opening the gate of that area fails, it is closed at once, and that is tried once, as `put` does
+/// and for the same reason.
 pub fn move_on<D: Disk>(journal: &mut Journal<D>, head: &[u8]) -> Result<(), DiskFault>
     requires whole { journal.old.broken ≡ false }
     requires generation { journal.old.generation < 2 ^ 64 - 1 }
@@ -51,11 +51,9 @@ impl<D: Disk> Board<D> {
         ensures ends { EndsCheckpoint (length self.old.log) result }
         ensures does { Goes (D.told self.old.disk) (D.told self.new.disk)
             (Checkpoints (is_ok result) self.old.waits (rows_of self.old)) }
-        ensures closes { self.old.waits ≡ false → self.new.waits ≡ true →
-            RoseForEach 2 (D.fault_count self.old.disk) (D.fault_count self.new.disk) }
         ensures calls { CheckpointTakes (is_ok result) self.old.waits
             (D.moment self.old.disk) (D.moment self.new.disk) }
-        ensures cause { HasCause (is_checkpoint_fault result)
+        ensures faults { CountsFaults (is_checkpoint_fault result) self.old.waits self.new.waits
             (D.fault_count self.old.disk) (D.fault_count self.new.disk) }
     {
         if self.journal.frames() == 0 || self.journal.generation() == u64::MAX {

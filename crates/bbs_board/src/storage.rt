@@ -5,7 +5,7 @@ ghost use Rattle.bbs_journal.specs.Frames.{IsPayload};
 ghost use Rattle.bbs_journal.specs.View.{is_waiting};
 ghost use Rattle.bbs_board.specs.Doubts.{RoseForEach};
 ghost use Rattle.bbs_board.specs.Storing.{HasStored, StoresItem, StoreTakes};
-ghost use Rattle.bbs_board.specs.View.{is_due};
+ghost use Rattle.bbs_board.specs.View.{wants_checkpoint};
 
 use crate::checkpoint::move_on;
 use crate::putting::put;
@@ -15,16 +15,16 @@ use disk_trait::Disk;
 /// With so many frames an area is full.
 const MOST_FRAMES: u64 = 4096;
 
-/// Whether the next frame goes behind a checkpoint. No disk that tells its content comes to the last
-/// generation.
-pub fn is_due<D: Disk>(journal: &Journal<D>) -> bool
-    ensures { result ≡ is_due journal.now }
+/// Whether the next frame goes behind a checkpoint. No disk that tells its content comes to the
+/// last generation.
+pub fn wants_checkpoint<D: Disk>(journal: &Journal<D>) -> bool
+    ensures { result ≡ wants_checkpoint journal.now }
 {
     MOST_FRAMES <= journal.frames() && journal.generation() < u64::MAX
 }
 
-/// Stores a payload: where a checkpoint is due behind one with this head, else behind the frames that are
-/// there. What an earlier fault left is mended first.
+/// Stores a payload: where a checkpoint is due behind one with this head, else behind the frames that
+/// are there. What an earlier fault left is mended first.
 pub fn store<D: Disk>(
     journal: &mut Journal<D>,
     head: &[u8],
@@ -33,7 +33,7 @@ pub fn store<D: Disk>(
     requires payload { IsPayload payload.now }
     requires whole { journal.old.broken ≡ false }
     requires frames { journal.old.frames < 2 ^ 48 }
-    requires few { is_due journal.old ≡ true → length head.now < 2 ^ 32 }
+    requires few { wants_checkpoint journal.old ≡ true → length head.now < 2 ^ 32 }
     ensures stores { StoresItem D.told (is_ok result) head.now payload.now (D.moment journal.new.disk)
         journal.old journal.new }
     ensures has { HasStored (is_ok result) journal.old journal.new }
@@ -44,7 +44,7 @@ pub fn store<D: Disk>(
     ensures cause { HasCause (is_err result)
         (D.fault_count journal.old.disk) (D.fault_count journal.new.disk) }
 {
-    if !is_due(journal) {
+    if !wants_checkpoint(journal) {
         return put(journal, payload);
     }
     move_on(journal, head)?;

@@ -14,7 +14,7 @@ use Rattle.bbs_board.specs.History.{Entries, with_item}
 use Rattle.bbs_board.specs.KeptIn.{StaysShort, most_after}
 use Rattle.bbs_board.specs.Room.{row_count}
 use Rattle.bbs_board.specs.Storing.{HasStored, IsHeadOf, StoreTakes}
-use Rattle.bbs_board.specs.View.{View, rows_of, is_due}
+use Rattle.bbs_board.specs.View.{View, rows_of, wants_checkpoint}
 use Rattle.bbs_board.proofs.Counting.{few_after, places_kept, calls_less}
 use Rattle.bbs_board.proofs.Filling.{takes_none}
 use Rattle.bbs_board.proofs.Held.{sound_more, sound_short, stored_short, stored_passes, stores_as, on_ok}
@@ -31,7 +31,7 @@ store-stored-requires-clause-payload g c =
 pub store-stored-requires-clause-few : goal.store-stored-requires-clause-few
 store-stored-requires-clause-few g c = λ due.
     let fine : is_err c.prepare_call.result ≡ false = search rules in
-    let head = on_ok c.prepare_call.result _ fine c.prepare_call.ensures.head (c.is_due-due.ensures ∙ due) in
+    let head = on_ok c.prepare_call.result _ fine c.prepare_call.ensures.head (c.wants_checkpoint-due.ensures ∙ due) in
     let small = head.small in
     omega (arith, small, ap length c.deref.ensures.value)
 
@@ -55,8 +55,8 @@ invariant_of-self-then-is_err-2 g c =
     let failed : is_ok c.store-stored.result ≡ false = search rules in
     let err : is_err c.store-stored.result ≡ true = search rules in
     let fine : is_err c.prepare_call.result ≡ false = search rules in
-    let ready : is_due c.self.inside.journal ≡ true → IsHeadOf c.self.inside.index.rows c.deref.result.now = λ due.
-    subst (λ (l : List ℕ). IsHeadOf c.self.inside.index.rows l) (sym c.deref.ensures.value) (on_ok c.prepare_call.result _ fine c.prepare_call.ensures.head (c.is_due-due.ensures ∙ due)) in
+    let ready : wants_checkpoint c.self.inside.journal ≡ true → IsHeadOf c.self.inside.index.rows c.deref.result.now = λ due.
+    subst (λ (l : List ℕ). IsHeadOf c.self.inside.index.rows l) (sym c.deref.ensures.value) (on_ok c.prepare_call.result _ fine c.prepare_call.ensures.head (c.wants_checkpoint-due.ensures ∙ due)) in
     let added = c.add.ensures ∙ ap (with_item c.args.by c.args.command.now c.clock-mark.result None) c.prepare_call.ensures.history in
     sound_more g.D.Disk.told g.D.Disk.fault_count c.self.inside.index.rows c.self.inside.base.value.rows c.self.inside.history.log c.self.inside.history.marks c.self.inside.history.told c.self.inside.since c.self.inside.faults c.self.inside.journal c.store-stored.new.journal c.self.invariant
     c.args.by c.args.command.now c.write_command-len.ensures.fits legal false c.prepare_call.new.index.rows c.add.new.self.log c.add.new.self.marks c.add.new.self.told c.clock-mark.result
@@ -75,8 +75,8 @@ returns-then-is_err-2-clause-does g c =
     let law : IsLegal (replay_log c.self.inside.base.value.rows c.self.inside.history.log) c.args.command.now = subst (λ (v : View g.row.D.Denot). IsLegal (rows_of v) c.args.command.now) (sym c.self.view_is) c.requires in
     let failed : is_ok c.store-stored.result ≡ false = search rules in
     let fine : is_err c.prepare_call.result ≡ false = search rules in
-    let ready : is_due c.self.inside.journal ≡ true → IsHeadOf c.self.inside.index.rows c.deref.result.now = λ due.
-    subst (λ (l : List ℕ). IsHeadOf c.self.inside.index.rows l) (sym c.deref.ensures.value) (on_ok c.prepare_call.result _ fine c.prepare_call.ensures.head (c.is_due-due.ensures ∙ due)) in
+    let ready : wants_checkpoint c.self.inside.journal ≡ true → IsHeadOf c.self.inside.index.rows c.deref.result.now = λ due.
+    subst (λ (l : List ℕ). IsHeadOf c.self.inside.index.rows l) (sym c.deref.ensures.value) (on_ok c.prepare_call.result _ fine c.prepare_call.ensures.head (c.wants_checkpoint-due.ensures ∙ due)) in
     let stores = stores_as g.D.Disk.told _ _ (is_ok c.store-stored.result) false _ c.deref.result.now _ _ failed c.write_command-len.ensures.bytes c.store-stored.ensures.stores in
     let does = stored_passes g.D.Disk.told g.D.Disk.fault_count c.self.inside.index.rows c.self.inside.base.value.rows c.self.inside.history.log c.self.inside.history.marks c.self.inside.history.told c.self.inside.since c.self.inside.faults c.self.inside.journal c.store-stored.new.journal c.self.invariant
     c.args.by c.args.command.now c.write_command-len.ensures.fits law false _ c.deref.result.now ready stores in
@@ -87,8 +87,8 @@ returns-then-is_err-2-clause-few g c =
     let law : IsLegal (replay_log c.self.inside.base.value.rows c.self.inside.history.log) c.args.command.now = subst (λ (v : View g.row.D.Denot). IsLegal (rows_of v) c.args.command.now) (sym c.self.view_is) c.requires in
     let failed : is_ok c.store-stored.result ≡ false = search rules in
     let fine : is_err c.prepare_call.result ≡ false = search rules in
-    let ready : is_due c.self.inside.journal ≡ true → IsHeadOf c.self.inside.index.rows c.deref.result.now = λ due.
-    subst (λ (l : List ℕ). IsHeadOf c.self.inside.index.rows l) (sym c.deref.ensures.value) (on_ok c.prepare_call.result _ fine c.prepare_call.ensures.head (c.is_due-due.ensures ∙ due)) in
+    let ready : wants_checkpoint c.self.inside.journal ≡ true → IsHeadOf c.self.inside.index.rows c.deref.result.now = λ due.
+    subst (λ (l : List ℕ). IsHeadOf c.self.inside.index.rows l) (sym c.deref.ensures.value) (on_ok c.prepare_call.result _ fine c.prepare_call.ensures.head (c.wants_checkpoint-due.ensures ∙ due)) in
     let stores = stores_as g.D.Disk.told _ _ (is_ok c.store-stored.result) false _ c.deref.result.now _ _ failed c.write_command-len.ensures.bytes c.store-stored.ensures.stores in
     let short = stored_short g.D.Disk.told g.D.Disk.fault_count c.self.inside.index.rows c.self.inside.base.value.rows c.self.inside.history.log c.self.inside.history.marks c.self.inside.history.told c.self.inside.since c.self.inside.faults c.self.inside.journal c.store-stored.new.journal c.self.invariant
     c.args.by c.args.command.now c.write_command-len.ensures.fits law false _ c.deref.result.now ready stores
@@ -102,8 +102,8 @@ invariant_of-self-2 g c =
     let made : is_ok c.store-stored.result ≡ true = search rules in
     let err : is_err c.store-stored.result ≡ false = search rules in
     let fine : is_err c.prepare_call.result ≡ false = search rules in
-    let ready : is_due c.self.inside.journal ≡ true → IsHeadOf c.self.inside.index.rows c.deref.result.now = λ due.
-    subst (λ (l : List ℕ). IsHeadOf c.self.inside.index.rows l) (sym c.deref.ensures.value) (on_ok c.prepare_call.result _ fine c.prepare_call.ensures.head (c.is_due-due.ensures ∙ due)) in
+    let ready : wants_checkpoint c.self.inside.journal ≡ true → IsHeadOf c.self.inside.index.rows c.deref.result.now = λ due.
+    subst (λ (l : List ℕ). IsHeadOf c.self.inside.index.rows l) (sym c.deref.ensures.value) (on_ok c.prepare_call.result _ fine c.prepare_call.ensures.head (c.wants_checkpoint-due.ensures ∙ due)) in
     let added = c.add-2.ensures ∙ ap (with_item c.args.by c.args.command.now c.clock-mark.result (Some c.apply-events.result)) c.prepare_call.ensures.history in
     let told : Some c.apply-events.result ≡ events_of c.self.inside.index.rows c.args.command.now = c.apply-events.ensures.events ∙ ap (λ (r : Rows). events_of r c.args.command.now) c.prepare_call.ensures.rows in
     sound_more g.D.Disk.told g.D.Disk.fault_count c.self.inside.index.rows c.self.inside.base.value.rows c.self.inside.history.log c.self.inside.history.marks c.self.inside.history.told c.self.inside.since c.self.inside.faults c.self.inside.journal c.store-stored.new.journal c.self.invariant
@@ -123,8 +123,8 @@ returns-clause-does g c =
     let law : IsLegal (replay_log c.self.inside.base.value.rows c.self.inside.history.log) c.args.command.now = subst (λ (v : View g.row.D.Denot). IsLegal (rows_of v) c.args.command.now) (sym c.self.view_is) c.requires in
     let made : is_ok c.store-stored.result ≡ true = search rules in
     let fine : is_err c.prepare_call.result ≡ false = search rules in
-    let ready : is_due c.self.inside.journal ≡ true → IsHeadOf c.self.inside.index.rows c.deref.result.now = λ due.
-    subst (λ (l : List ℕ). IsHeadOf c.self.inside.index.rows l) (sym c.deref.ensures.value) (on_ok c.prepare_call.result _ fine c.prepare_call.ensures.head (c.is_due-due.ensures ∙ due)) in
+    let ready : wants_checkpoint c.self.inside.journal ≡ true → IsHeadOf c.self.inside.index.rows c.deref.result.now = λ due.
+    subst (λ (l : List ℕ). IsHeadOf c.self.inside.index.rows l) (sym c.deref.ensures.value) (on_ok c.prepare_call.result _ fine c.prepare_call.ensures.head (c.wants_checkpoint-due.ensures ∙ due)) in
     let stores = stores_as g.D.Disk.told _ _ (is_ok c.store-stored.result) true _ c.deref.result.now _ _ made c.write_command-len.ensures.bytes c.store-stored.ensures.stores in
     let does = stored_passes g.D.Disk.told g.D.Disk.fault_count c.self.inside.index.rows c.self.inside.base.value.rows c.self.inside.history.log c.self.inside.history.marks c.self.inside.history.told c.self.inside.since c.self.inside.faults c.self.inside.journal c.store-stored.new.journal c.self.invariant
     c.args.by c.args.command.now c.write_command-len.ensures.fits law true _ c.deref.result.now ready stores in
@@ -135,8 +135,8 @@ returns-clause-few g c =
     let law : IsLegal (replay_log c.self.inside.base.value.rows c.self.inside.history.log) c.args.command.now = subst (λ (v : View g.row.D.Denot). IsLegal (rows_of v) c.args.command.now) (sym c.self.view_is) c.requires in
     let made : is_ok c.store-stored.result ≡ true = search rules in
     let fine : is_err c.prepare_call.result ≡ false = search rules in
-    let ready : is_due c.self.inside.journal ≡ true → IsHeadOf c.self.inside.index.rows c.deref.result.now = λ due.
-    subst (λ (l : List ℕ). IsHeadOf c.self.inside.index.rows l) (sym c.deref.ensures.value) (on_ok c.prepare_call.result _ fine c.prepare_call.ensures.head (c.is_due-due.ensures ∙ due)) in
+    let ready : wants_checkpoint c.self.inside.journal ≡ true → IsHeadOf c.self.inside.index.rows c.deref.result.now = λ due.
+    subst (λ (l : List ℕ). IsHeadOf c.self.inside.index.rows l) (sym c.deref.ensures.value) (on_ok c.prepare_call.result _ fine c.prepare_call.ensures.head (c.wants_checkpoint-due.ensures ∙ due)) in
     let stores = stores_as g.D.Disk.told _ _ (is_ok c.store-stored.result) true _ c.deref.result.now _ _ made c.write_command-len.ensures.bytes c.store-stored.ensures.stores in
     let short = stored_short g.D.Disk.told g.D.Disk.fault_count c.self.inside.index.rows c.self.inside.base.value.rows c.self.inside.history.log c.self.inside.history.marks c.self.inside.history.told c.self.inside.since c.self.inside.faults c.self.inside.journal c.store-stored.new.journal c.self.invariant
     c.args.by c.args.command.now c.write_command-len.ensures.fits law true _ c.deref.result.now ready stores
