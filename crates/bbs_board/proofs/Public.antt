@@ -2,4 +2,3 @@
 pub use Rattle.bbs_board.proofs.Loaded.{one_board, not_refused}
 pub use Rattle.bbs_board.proofs.Doubting.{no_doubts}
 pub use Rattle.bbs_board.proofs.Writing.{replay_behind, writes_nothing, writes_then, stores_writes}
-pub use Rattle.bbs_board.proofs.history.History.TheSendSync.{the_send as history_send}

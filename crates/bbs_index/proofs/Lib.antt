@@ -6,4 +6,3 @@ pub mod Boards
 pub mod Numbers
 pub mod Numbering
 pub mod Gone
-pub mod Public

@@ -7,4 +7,3 @@ pub use Rattle.bbs_journal.proofs.Peeking.{keeps_then}
 pub use Rattle.bbs_journal.proofs.Recovered.{recovered, ready}
 pub use Rattle.bbs_journal.proofs.Sides.{other_other, own_still, older_front, older_ready, unframed_ready}
 pub use Rattle.bbs_journal.proofs.Stops.{area_opens, stops_opened, acknowledged_opened}
-pub use Rattle.bbs_journal.proofs.journal.Journal.TheSendSync.{the_send as journal_send}

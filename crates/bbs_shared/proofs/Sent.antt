@@ -5,10 +5,10 @@ use denote.Struct.Declared.{shape}
 use denote.Param.Send.{IsSend, IsSync, recorded_sync, sendable, struct_sync}
 use Rattle.std.proofs.Crossing.{crosses}
 use Rattle.disk_trait.specs.declared.disk.Disk.{Ghosts}
-use Rattle.bbs_board.proofs.Public.{history_send}
+use Rattle.bbs_board.proofs.history.History.TheSendSync as history
 use Rattle.bbs_board.specs.contracts.board.Board as board
-use Rattle.bbs_index.proofs.Public.{index_send}
-use Rattle.bbs_journal.proofs.Public.{journal_send}
+use Rattle.bbs_index.proofs.index.Index.TheSendSync as index
+use Rattle.bbs_journal.proofs.journal.Journal.TheSendSync as journal
 use Rattle.ticket_desk.proofs.Public.{desk_field_sync}
 use Rattle.bbs_model.specs.contracts.item.Item as item
 use Rattle.bbs_shared.specs.contracts.at_desk.AtDesk as at_desk
@@ -17,7 +17,7 @@ use Rattle.bbs_shared.specs.contracts.origin.Origin as origin
 use Rattle.bbs_shared.specs.contracts.shared_board.SharedBoard as shared
 
 pub board_send : (D : RattleType) (g : Ghosts D.Denot) → IsSend D → IsSend (board.the_row D g)
-board_send D g s = search (sendable, crosses, history_send, journal_send, index_send) depth 40
+board_send D g s = search (sendable, crosses, history.the_send, journal.the_send, index.the_send) depth 40
 
 pub at_desk_send : (D : RattleType) (g : Ghosts D.Denot) → IsSend D → IsSend (at_desk.the_row D g)
 at_desk_send D g s = search (sendable, crosses, board_send) depth 40
