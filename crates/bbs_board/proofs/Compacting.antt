@@ -1,5 +1,5 @@
 -- A switch and the whole of a checkpoint, where the disk may tell nothing.
-use Rattle.std.proofs.Common.{◌≡◌, ℕ, ◌+◌, ◌<◌, ◌≤◌, ◌-◌, ◌^◌, Bool, true, false, List, length, Option, Some, None, refl, ap, subst, ◌∙◌, arith}
+use Rattle.std.proofs.Common.{◌≡◌, ◌⊎◌, inl, inr, ℕ, ◌+◌, ◌<◌, ◌-◌, ◌^◌, Bool, true, false, List, length, Option, Some, None, refl, sym, ap, subst, ◌∙◌, arith}
 use Rattle.std.specs.Prelude.{if◌then◌else◌}
 use Rattle.std.specs.Option.{ForSome}
 use Rattle.disk_trait.specs.Past.{Past, other}
@@ -14,7 +14,7 @@ use Rattle.bbs_journal.specs.declared.other_gate.OtherGate.{OtherGate}
 use Rattle.bbs_journal.specs.declared.other_gate.OtherGate.TheVariants.{Shut, Loose, Written}
 use Rattle.bbs_journal.specs.declared.waiting.Waiting.{Waiting}
 use Rattle.bbs_journal.specs.declared.waiting.Waiting.TheVariants.{Nothing, Frame, Header}
-use Rattle.bbs_snapshot.specs.Switches.{Switches, SwitchesAll, KnowsAfterSwitch}
+use Rattle.bbs_snapshot.specs.Switches.{Switches, SwitchesAll, StaysThere, KnowsAfterSwitch}
 use Rattle.bbs_model.specs.Replay.{replay_log, IsLawful}
 use Rattle.bbs_model.specs.Valid.{IsValid}
 use Rattle.bbs_model.specs.declared.item.Item.{Item}
@@ -26,10 +26,10 @@ use Rattle.bbs_board.proofs.Beside.{calm_nothing}
 use Rattle.bbs_board.proofs.Mending.{by_step, standing}
 use Rattle.bbs_board.proofs.Moving.{not_above, leads, calm_ready, holds_there, holds_here, compacts_not, compacts_none, compacts_by}
 
-header_only : (w : Waiting) → w ≡ (if is_waiting w then Header else Nothing) → frame_waits w ≡ false
-header_only Nothing own = refl
-header_only Frame own = absurd (cc)
-header_only Header own = refl
+header_calm : (w : Waiting) → w ≡ (if is_waiting w then Header else Nothing) → frame_waits w ≡ false
+header_calm Nothing own = refl
+header_calm Frame own = absurd (cc)
+header_calm Header own = refl
 
 module _ {D : Type 0} (told : D → Option Past) (v0 v1 : JournalView D) (base : Rows) (log : List Item) (marks : List ℕ) (since : ℕ) (calm : v0.waiting ≡ Nothing) (stands : StandsOn told base log marks since v0)
     (some : 0 < v0.frames) (fits : FitsHead (replay_log base log)) (small : length (head_spelled (replay_log base log)) < 2 ^ 32) where
@@ -71,7 +71,7 @@ module _ {D : Type 0} (told : D → Option Past) (v0 v1 : JournalView D) (base :
       let both = by_step (told v0.disk) (told v1.disk) (SwitchesAll false v0.area v0.generation v1.waiting v1.gate new) Here (Holds base log marks since v0.area v0.generation v0.end v0.frames v1.waiting v1.gate)
       (λ p q j all h.
       let s = switches_at false p q h all in
-      (s.extends, holds_here base log marks since v0.area v0.generation v0.end v0.frames v0.gate p q h new (lead_at p h) false v1.waiting v1.gate s refl (header_only v1.waiting failed.waiting)))
+      (s.extends, holds_here base log marks since v0.area v0.generation v0.end v0.frames v0.gate p q h new (lead_at p h) false v1.waiting v1.gate s refl (header_calm v1.waiting failed.waiting)))
       goes here in
       record {
         extends = both.0;
@@ -128,30 +128,42 @@ module _ {D : Type 0} (told : D → Option Past) where
 
 module _ {D : Type 0} (v0 v1 v2 : JournalView D) (whole : v0.broken ≡ false) where
   pub moved_not : Settles false v0 v1 → MovedOn false v0 v1
-  moved_not settles =
-      let frames : v1.frames ≡ v0.frames = settles.frames in
-      record { whole = settles.stays.broken ∙ whole; frames = omega (arith, frames); waits = λ never. absurd (cc (never)) }
+  moved_not settles = record {
+    whole = settles.stays.broken ∙ whole;
+    frames = settles.frames;
+    waits = λ never. absurd (cc (never));
+    frame = λ is. ap frame_waits (sym settles.waiting) ∙ is;
+    generation = λ is. settles.stays.generation;
+  }
 
-  pub moved_on : (ok : Bool) (size : ℕ) → Settles true v0 v1 → KnowsAfterSwitch ok size v1 v2 → MovedOn ok v0 v2
-  moved_on true size settles on =
+  pub moved_made : (size : ℕ) → KnowsAfterSwitch true size v1 v2 → MovedOn true v0 v2
+  moved_made size on =
       let made = on.made refl in
       record {
         whole = ap (λ (v : JournalView D). v.broken) made;
-        frames = let none : v2.frames ≡ 0 = ap (λ (v : JournalView D). v.frames) made in omega (arith, none);
+        frames = ap (λ (v : JournalView D). v.frames) made;
         waits = λ is. ap (λ (v : JournalView D). is_waiting v.waiting) made;
-      }
-  moved_on false size settles on =
-      let failed = on.failed refl in
-      record {
-        whole = failed.stays.broken ∙ settles.stays.broken ∙ whole;
-        frames = let first : v1.frames ≡ v0.frames = settles.frames in let second : v2.frames ≡ v1.frames = failed.frames in omega (arith, first, second);
-        waits = λ never. absurd (cc (never));
+        frame = λ is. absurd (let never : frame_waits v2.waiting ≡ false = ap (λ (v : JournalView D). frame_waits v.waiting) made in cc);
+        generation = λ never. absurd (cc (never));
       }
 
-pub few_close_calls : (gate : OtherGate) → close_calls gate ≤ 2
-few_close_calls Shut = omega arith
-few_close_calls Loose = omega arith
-few_close_calls (Written size) = omega arith
+  pub moved_left : Settles true v0 v1 → StaysThere v1 v2 → MovedOn false v0 v2
+  moved_left settles there = record {
+    whole = there.stays.broken ∙ settles.stays.broken ∙ whole;
+    frames = there.frames ∙ settles.frames;
+    waits = λ never. absurd (cc (never));
+    frame = λ is. absurd (let never : frame_waits v2.waiting ≡ false = header_calm v2.waiting there.waiting in cc);
+    generation = λ is. there.stays.generation ∙ settles.stays.generation;
+  }
+
+-- from a switch that failed
+pub left_knows : {D : Type 0} (size : ℕ) (v1 v2 : JournalView D) → StaysThere v1 v2 → KnowsAfterSwitch false size v1 v2
+left_knows size v1 v2 there = record { made = λ never. absurd (cc (never)); failed = λ is. there }
+
+pub few_close_calls : (gate : OtherGate) → (close_calls gate ≡ 0) ⊎ (close_calls gate ≡ 2)
+few_close_calls Shut = inl refl
+few_close_calls Loose = inr refl
+few_close_calls (Written size) = inl refl
 
 -- ---- the whole of a checkpoint
 

@@ -13,6 +13,11 @@ pub mod Doubting
 pub mod Held
 pub mod Moving
 pub mod Compacting
+pub mod Closing
+pub mod Adds
+pub mod Filling
+pub mod Short
+pub mod Counting
 pub mod Drafting
 pub mod Again
 pub mod Completing

@@ -1,5 +1,5 @@
 -- How a board stands after a switch to the other area, and what a stop leaves of it.
-use Rattle.std.proofs.Common.{◌≡◌, ◌⊎◌, inl, inr, ⊎_elim, ℕ, ◌+◌, ◌<◌, ◌≤◌, ◌-◌, ◌^◌, Bool, true, false, List, [], ◌∷◌, length, None, Result, Ok, Err, refl, sym, ap, subst, arith}
+use Rattle.std.proofs.Common.{◌≡◌, ◌⊎◌, inl, inr, ⊎_elim, ℕ, ◌+◌, ◌<◌, ◌≤◌, ◌^◌, Bool, true, false, List, [], ◌∷◌, length, None, Result, Ok, Err, refl, sym, ap, subst, arith}
 use Rattle.wire_fields.specs.Reading.{◌>>=◌}
 use Rattle.wire_fields.proofs.Public.{bind_ok}
 use Rattle.disk_trait.specs.Held.{Has, Leaves}
@@ -22,11 +22,11 @@ use Rattle.bbs_snapshot.specs.Switches.{Switches}
 use Rattle.bbs_model.specs.Replay.{replay_log}
 use Rattle.bbs_model.specs.declared.item.Item.{Item}
 use Rattle.bbs_model.specs.declared.rows.Rows.{Rows}
-use Rattle.bbs_board.specs.Checkpoint.{OpensTo, LeadsTo, headed_instead, compacted, Compacts}
+use Rattle.bbs_board.specs.Checkpoint.{Compacts}
 use Rattle.bbs_board.specs.Kept.{IsFound, Kept}
 use Rattle.bbs_board.specs.Opening.{in_area, rows_in, followed}
 use Rattle.bbs_board.specs.View.{Holds, LeadsOn}
-use Rattle.bbs_board.specs.Written.{Reading}
+use Rattle.bbs_board.specs.Written.{Reading, OpensTo, LeadsTo, headed_instead, compacted}
 use Rattle.bbs_board.proofs.Frames.{next-followed}
 use Rattle.bbs_board.proofs.Keeping.{kept_on}
 use Rattle.bbs_board.proofs.Logs.{reached_end}

@@ -1,11 +1,11 @@
 -- What a stop leaves of a board while a command is stored where nothing waits, and after it.
-use Rattle.std.proofs.Common.{◌≡◌, ⊎_elim, inl, inr, ℕ, Bool, false, List, [], ◌∷◌, ◌++◌, Option, Some, None, Ok, refl, subst, ◌∙◌, arith}
+use Rattle.std.proofs.Common.{◌≡◌, ◌⊎◌, inl, inr, ℕ, Bool, false, List, [], ◌∷◌, ◌++◌, length, Option, Some, None, Ok, refl, sym, ap, subst, ◌∙◌, arith}
 use Rattle.std.specs.Option.{ForSome}
 use Rattle.disk_trait.specs.Held.{Has, Leaves}
 use Rattle.disk_trait.specs.Past.{Past, Image, now, other, content, Images}
 use Rattle.disk_trait.specs.Steps.{Goes}
 use Rattle.disk_trait.specs.Runs.{Extends}
-use Rattle.disk_trait.proofs.Public.{extends_same, goes_same, goes_weaker, has_weaker}
+use Rattle.disk_trait.proofs.Public.{extends_same, goes_same, has_weaker}
 use Rattle.disk_trait.specs.declared.area.Area.{Area}
 use Rattle.bbs_codec.specs.Command.{spelled, FitsCommand}
 use Rattle.bbs_journal.specs.Areas.{Ready}
@@ -30,8 +30,10 @@ use Rattle.bbs_board.specs.Opening.{board_of, IsBoard}
 use Rattle.bbs_board.specs.KeptIn.{IsKeptIn}
 use Rattle.bbs_board.specs.declared.kept_in.KeptIn.{KeptIn}
 use Rattle.bbs_board.specs.Laws.{StopsLeaveBoards}
-use Rattle.bbs_board.specs.Stops.{Stores}
+use Rattle.bbs_board.specs.Stops.{IsOnTheWay, Stores}
 use Rattle.bbs_board.specs.View.{Holds}
+use Rattle.bbs_board.specs.Written.{Reading, OpensTo, ReadsAs, LeadsTo, with_room, stored_behind}
+use Rattle.bbs_board.proofs.Adds.{AddsBehind, same_reading}
 use Rattle.bbs_board.proofs.Beside.{calm_nothing, calm_yields}
 use Rattle.bbs_board.proofs.Steps.{ready_where}
 use Rattle.bbs_board.proofs.Frames.{command_more}
@@ -45,6 +47,9 @@ module _ (base : Rows) (log : List Item) (marks : List ℕ) (since : ℕ) (area 
 
   gives_way : Has (Yields known generation) (now p (other area))
   gives_way = has_weaker (Beside h.next Nothing known generation) (Yields known generation) (now p (other area)) (λ bytes beside. calm_yields h.next Nothing known generation bytes refl beside) h.beside
+
+  abbrev reading : Reading
+  reading = record { area = area; generation = generation; head = h.head; payloads = h.payloads }
 
   -- what a stop leaves of a board that stands is opened as its head and payloads
   pub holds_images : (image : Image) → Images p image → OpensAs image area generation h.head h.payloads
@@ -62,73 +67,64 @@ module _ (base : Rows) (log : List Item) (marks : List ℕ) (since : ℕ) (area 
     after_is : board_of area h.head (h.payloads ++ spelled c ∷ []) None ≡ Ok (rows_after (replay_log base log) c)
     after_is = command_more area h.head h.payloads c (replay_log base log) fits legal h.rows_are
 
-    stores : (q : Past) (ok after : Bool) → Appends area ok after front h.payloads (spelled c) end p q → Stores ok (replay_log base log) c p q
-    stores q ok after appends = record {
-      extends = appends.runs.extends;
-      area = area;
-      generation = generation;
-      head = h.head;
-      payloads = h.payloads;
-      before = h.rows_are;
-      after = after_is;
-      reads = holds_images (content p) (p.possible p.clock);
-      each = λ image since. stops_opened p q area h.gate generation h.head h.payloads (spelled c) known ok after end h.is_open h.goes_with gives_way appends image since;
-      done = λ is image leaves.
-          acknowledged_opened p q area h.gate generation h.head h.payloads (spelled c) known after end h.is_open h.goes_with gives_way
-          (subst (λ (b : Bool). Appends area b after front h.payloads (spelled c) end p q) is appends) image leaves;
-    }
+    pub adds_behind : (q : Past) (ok after : Bool) → AddsFrame area ok after (spelled c) end p q → AddsBehind ok (replay_log base log) c p q
+    adds_behind q ok after adds =
+        let appends = adds front h.payloads ready in
+        record {
+          extends = appends.runs.extends;
+          before = reading;
+          reads = holds_images (content p) (p.possible p.clock);
+          leads = h.rows_are;
+          after = after_is;
+          each = λ image since. stops_opened p q area h.gate generation h.head h.payloads (spelled c) known ok after end h.is_open h.goes_with gives_way appends image since;
+          done = λ is image leaves.
+              acknowledged_opened p q area h.gate generation h.head h.payloads (spelled c) known after end h.is_open h.goes_with gives_way
+              (subst (λ (b : Bool). Appends area b after front h.payloads (spelled c) end p q) is appends) image leaves;
+        }
 
-    stores_none : Stores false (replay_log base log) c p p
-    stores_none = record {
-      extends = record { later = omega arith; before = λ moment le. refl };
-      area = area;
-      generation = generation;
-      head = h.head;
-      payloads = h.payloads;
-      before = h.rows_are;
-      after = after_is;
-      reads = holds_images (content p) (p.possible p.clock);
-      each = λ image since.
-          let here : since.moment ≡ p.clock = let from = since.from in let to = since.to in omega (arith, from, to) in
-          inl (holds_images image (λ a. subst (λ (m : ℕ). Leaves (p.held m a) (image a)) here (since.leaves a)));
-      done = λ never. absurd (cc (never));
-    }
+  -- nothing is stored
+  stores_none : (c : Command) → Stores false (replay_log base log) c p p
+  stores_none c = record {
+    extends = extends_same p;
+    before = reading;
+    reads = holds_images (content p) (p.possible p.clock);
+    leads = h.rows_are;
+    each = λ image since.
+        let here : since.moment ≡ p.clock = let from = since.from in let to = since.to in omega (arith, from, to) in
+        inl (holds_images image (λ a. subst (λ (m : ℕ). Leaves (p.held m a) (image a)) here (since.leaves a)));
+    done = λ never. absurd (cc (never));
+  }
+
+  -- whatever is read then has as many payloads as there are frames
+  pub reads_count : (r : Reading) → ReadsAs r p → length r.payloads ≡ frames
+  reads_count r reads =
+      ap (λ (x : Reading). length x.payloads) (same_reading (content p) r reading reads (holds_images (content p) (p.possible p.clock))) ∙ sym h.count
 
 -- ---- the same, where the disk may tell nothing
 
-module _ (told : Option Past) (base : Rows) (log : List Item) (marks : List ℕ) (since : ℕ) (area : Area) (generation end frames : ℕ) (waiting : Waiting) (known : OtherGate) (holds : ForSome told (Holds base log marks since area generation end frames waiting known)) (calm : is_waiting waiting ≡ false)
-    (c : Command) (fits : FitsCommand c) (legal : IsLegal (replay_log base log) c) where
-  calmly : (p : Past) → told ≡ Some p → Holds base log marks since area generation end frames Nothing known p
-  calmly p is = subst (λ (w : Waiting). Holds base log marks since area generation end frames w known p) (calm_nothing waiting calm) (holds p is)
-
-  -- where nothing is done, nothing changes
-  pub stores_nothing : Goes told told (Stores false (replay_log base log) c)
-  stores_nothing = goes_same told (Stores false (replay_log base log) c) (λ p is. stores_none base log marks since area generation end frames known p (calmly p is) c fits legal)
-
-  pub stores_by : (later : Option Past) (ok after : Bool) → Goes told later (AddsFrame area ok after (spelled c) end) → Goes told later (Stores ok (replay_log base log) c)
-  stores_by later ok after goes =
-      goes_weaker told later (AddsFrame area ok after (spelled c) end) (Stores ok (replay_log base log) c)
-      (λ p q i j adds.
-      let h = calmly p i in
-      stores base log marks since area generation end frames known p h c fits legal q ok after
-      (adds (h.gate ∷ heading generation h.head) h.payloads (ready base log marks since area generation end frames known p h))) goes
+-- two things that a run does
+pub goes_both : (t0 t1 : Option Past) (A B : Past → Past → Type 0) → Goes t0 t1 A → Goes t0 t1 B → Goes t0 t1 (λ p q. A p q × B p q)
+goes_both None None A B a b = tt
+goes_both None (Some q) A B a b = a
+goes_both (Some p) None A B a b = a
+goes_both (Some p) (Some q) A B a b = (a, b)
 
 -- time goes on, and where nothing waits the rest is known
-passes_both : (t0 t1 : Option Past) (waits ok : Bool) (rows : Rows) (c : Command) → Goes t0 t1 Extends → (waits ≡ false → Goes t0 t1 (Stores ok rows c)) → Goes t0 t1 (Passes waits verdict.Ok ok rows c)
+pub passes_both : (t0 t1 : Option Past) (waits ok : Bool) (rows : Rows) (c : Command) → Goes t0 t1 Extends → (waits ≡ false → Goes t0 t1 (Stores ok rows c)) → Goes t0 t1 (Passes waits verdict.Ok ok rows c)
 passes_both None None waits ok rows c extends stores = tt
 passes_both None (Some q) waits ok rows c extends stores = extends
 passes_both (Some p) None waits ok rows c extends stores = extends
 passes_both (Some p) (Some q) waits ok rows c extends stores = record { extends = extends; stores = stores }
 
-module _ (told : Option Past) (base : Rows) (log : List Item) (marks : List ℕ) (since : ℕ) (area : Area) (generation end frames : ℕ) (waiting : Waiting) (known : OtherGate) (holds : ForSome told (Holds base log marks since area generation end frames waiting known))
-    (c : Command) (fits : FitsCommand c) (legal : IsLegal (replay_log base log) c) where
-  pub passes_nothing : Goes told told (Passes (is_waiting waiting) verdict.Ok false (replay_log base log) c)
-  passes_nothing = passes_both told told (is_waiting waiting) false (replay_log base log) c (goes_same told Extends (λ p is. extends_same p))
-      (λ calm. stores_nothing told base log marks since area generation end frames waiting known holds calm c fits legal)
-
-  pub passes_by : (later : Option Past) (ok after : Bool) → Goes told later Extends → (is_waiting waiting ≡ false → Goes told later (AddsFrame area ok after (spelled c) end)) → Goes told later (Passes (is_waiting waiting) verdict.Ok ok (replay_log base log) c)
-  passes_by later ok after extends adds = passes_both told later (is_waiting waiting) ok (replay_log base log) c extends
-      (λ calm. stores_by told base log marks since area generation end frames waiting known holds calm c fits legal later ok after (adds calm))
+-- where nothing is done, nothing changes
+pub passes_nothing : (told : Option Past) (base : Rows) (log : List Item) (marks : List ℕ) (since : ℕ) (area : Area) (generation end frames : ℕ) (waiting : Waiting) (known : OtherGate)
+    → ForSome told (Holds base log marks since area generation end frames waiting known) → (c : Command) → Goes told told (Passes (is_waiting waiting) verdict.Ok false (replay_log base log) c)
+passes_nothing told base log marks since area generation end frames waiting known holds c =
+    passes_both told told (is_waiting waiting) false (replay_log base log) c (goes_same told Extends (λ p is. extends_same p))
+    (λ calm.
+    goes_same told (Stores false (replay_log base log) c)
+    (λ p is.
+    stores_none base log marks since area generation end frames known p (subst (λ (w : Waiting). Holds base log marks since area generation end frames w known p) (calm_nothing waiting calm) (holds p is)) c))
 
 -- where nothing waits it is known where the board is kept
 pub kept_where : (told : Option Past) (base : Rows) (log : List Item) (marks : List ℕ) (since : ℕ) (area : Area) (generation end frames : ℕ) (waiting : Waiting) (known : OtherGate) → ForSome told (Holds base log marks since area generation end frames waiting known) → is_waiting waiting ≡ false
@@ -146,9 +142,14 @@ kept_where told base log marks since area generation end frames waiting known ho
 
 pub stops_leave_boards : (stored : Bool) (rows : Rows) (c : Command) (p q : Past) → Stores stored rows c p q → StopsLeaveBoards stored rows c p q
 stops_leave_boards stored rows c p q s = record {
-  each = λ image since. ⊎_elim (λ before. inl (board_is s.payloads rows image s.before before)) (λ later. inr (board_is (s.payloads ++ spelled c ∷ []) (rows_after rows c) image s.after later)) (s.each image since);
-  acknowledged = λ is image leaves. board_is (s.payloads ++ spelled c ∷ []) (rows_after rows c) image s.after (s.done is image leaves);
+  each = λ image since. on_the_way image (s.each image since);
+  acknowledged = λ is image leaves. let later = s.done is image leaves in board_is (stored_behind rows c s.before) (rows_after rows c) image later.leads later.opens;
 }
   where
-    board_is : (payloads : List (List ℕ)) (r : Rows) (image : Image) → board_of s.area s.head payloads None ≡ Ok r → OpensAs image s.area s.generation s.head payloads → IsBoard r image
-    board_is payloads r image is opening = record { area = s.area; generation = s.generation; head = s.head; payloads = payloads; end = _; opening = opening; rows_are = is }
+    board_is : (r : Reading) (found : Rows) (image : Image) → LeadsTo r found → OpensTo r image → IsBoard found image
+    board_is r found image leads opening = record { area = r.area; generation = r.generation; head = r.head; payloads = r.payloads; end = _; opening = opening; rows_are = leads }
+
+    on_the_way : (image : Image) → IsOnTheWay rows c s.before image → IsBoard rows image ⊎ IsBoard (rows_after rows c) image
+    on_the_way image (inl before) = inl (board_is s.before rows image s.leads before)
+    on_the_way image (inr (inl room)) = inl (board_is (with_room rows s.before) rows image room.leads room.opens)
+    on_the_way image (inr (inr later)) = inr (board_is (stored_behind rows c s.before) (rows_after rows c) image later.leads later.opens)

@@ -1,47 +1,20 @@
 -- What a checkpoint does: the rows stand as a head in the other area, in place of the frames that led to them.
-use Rattle.std.specs.Prelude.{◌≡◌, ◌⊎◌, ℕ, ◌+◌, ◌<◌, ◌≤◌, Bool, true, false, List, [], ◌∷◌, length, Option, None, Result, Ok, Err}
-use Rattle.disk_trait.specs.Past.{Past, Image, Images, ImagesSince, other}
+use Rattle.std.specs.Prelude.{◌≡◌, ◌⊎◌, ℕ, ◌+◌, ◌<◌, ◌≤◌, Bool, true, false, List, Option, Result, Ok, Err, if◌then◌else◌}
+use Rattle.disk_trait.specs.Past.{Past, Image, Images, ImagesSince}
 use Rattle.disk_trait.specs.Runs.{Extends}
 use Rattle.disk_trait.specs.Steps.{Goes}
 use Rattle.head_codec.specs.Head.{head_spelled, FitsHead}
-use Rattle.bbs_journal.specs.Stops.{OpensAs}
-use Rattle.bbs_journal.specs.View.{View as JournalView, is_waiting}
+use Rattle.bbs_journal.specs.Calls.{mend_calls}
+use Rattle.bbs_journal.specs.View.{View as JournalView, is_waiting, frame_waits}
 use Rattle.bbs_model.specs.Replay.{replay_log, IsLawful}
 use Rattle.bbs_model.specs.declared.item.Item.{Item}
 use Rattle.bbs_model.specs.declared.reply.CallFault.{CallFault}
 use Rattle.bbs_model.specs.declared.reply.CallFault.TheVariants as fault
 use Rattle.bbs_model.specs.declared.rows.Rows.{Rows}
-use Rattle.bbs_board.specs.Opening.{board_of}
 use Rattle.bbs_board.specs.Puts.{StandsWith}
-use Rattle.bbs_board.specs.View.{StandsOn}
-use Rattle.bbs_board.specs.Written.{Reading, ReadsAs}
-
--- how many rows a board has
-abbrev pub row_count : Rows → ℕ
-row_count rows = length rows.desired + length rows.actual + length rows.tasks + length rows.cells
-
--- the image is opened so
-abbrev pub OpensTo : Reading → Image → Type 0
-OpensTo r image = OpensAs image r.area r.generation r.head r.payloads
-
--- what is read leads to these rows
-abbrev pub LeadsTo : Reading → Rows → Type 0
-LeadsTo r rows = board_of r.area r.head r.payloads None ≡ Ok rows
-
--- the other area with the next generation and the head of these rows, where there are frames to make away with
-abbrev pub headed_instead : Rows → Reading → List (List ℕ) → Reading
-headed_instead rows r [] = r
-headed_instead rows r (payload ∷ payloads) =
-    record { area = other r.area; generation = r.generation + 1; head = head_spelled rows; payloads = [] }
-
--- what is read after a checkpoint of these rows
-abbrev pub compacted : Rows → Reading → Reading
-compacted rows r = headed_instead rows r r.payloads
-
--- the image is opened as what is read after a checkpoint of these rows, and that leads to them
-pub record IsCompacted (rows : Rows) (before : Reading) (image : Image) : Type 0 where
-  pub opens : OpensTo (compacted rows before) image
-  pub leads : LeadsTo (compacted rows before) rows
+use Rattle.bbs_board.specs.View.{View, StandsOn}
+use Rattle.bbs_board.specs.Stops.{OpensWith}
+use Rattle.bbs_board.specs.Written.{Reading, ReadsAs, OpensTo, LeadsTo, compacted}
 
 -- the disk read what leads to these rows: all the while a stop leaves that, or what is read after a checkpoint, and
 -- once it is made only the second
@@ -49,8 +22,8 @@ pub record Compacts (ok : Bool) (rows : Rows) (p q : Past) : Type 0 where
   pub before : Reading
   pub reads : ReadsAs before p
   pub leads : LeadsTo before rows
-  pub each : (image : Image) → ImagesSince q p.clock image → OpensTo before image ⊎ IsCompacted rows before image
-  pub done : ok ≡ true → (image : Image) → Images q image → IsCompacted rows before image
+  pub each : (image : Image) → ImagesSince q p.clock image → OpensTo before image ⊎ OpensWith rows (compacted rows before) image
+  pub done : ok ≡ true → (image : Image) → Images q image → OpensWith rows (compacted rows before) image
 
 -- time goes on, and where nothing waited to be mended it is known what a stop leaves to the byte
 pub record Checkpoints (ok waits : Bool) (rows : Rows) (p q : Past) : Type 0 where
@@ -75,8 +48,30 @@ MovesOn told ok head old new =
     → StandsWith told base log marks since old new
     × (is_waiting old.waiting ≡ false → Goes (told old.disk) (told new.disk) (Compacts ok (replay_log base log)))
 
--- what a journal knows by itself after that: it has no defect and no more frames, and where it succeeded nothing waits
+-- what a journal knows by itself after that: it has no defect; where it succeeded it has no frames, and nothing waits;
+-- where it failed it has as many of the same generation, and the gate behind them waits only where it did before
 pub record MovedOn {D : Type 0} (ok : Bool) (old new : JournalView D) : Type 0 where
   pub whole : new.broken ≡ false
-  pub frames : new.frames ≤ old.frames
+  pub frames : new.frames ≡ (if ok then 0 else old.frames)
   pub waits : ok ≡ true → is_waiting new.waiting ≡ false
+  pub frame : frame_waits new.waiting ≡ true → frame_waits old.waiting ≡ true
+  pub generation : ok ≡ false → new.generation ≡ old.generation
+
+-- the device calls of going on there, behind the two of a mend where a gate waited: six, or eight where the other gate
+-- was no synced 0; where it fails no more than those and the two that close the other gate again
+pub record SwitchTakes (ok waits : Bool) (before after : ℕ) : Type 0 where
+  pub done : ok ≡ true → (after ≡ before + mend_calls waits + 6) ⊎ (after ≡ before + mend_calls waits + 8)
+  pub most : after ≤ before + mend_calls waits + 10
+
+-- nothing has changed but its disk, whether something waits, its frames, of which there are no more, and its room, which
+-- is no less; where nothing waited and it was made, nothing waits
+pub record StaysCompacted {D : Type 0} (ok : Bool) (old new : View D) : Type 0 where
+  pub same : new ≡ record old { disk = new.disk; waits = new.waits; frames = new.frames; spare = new.spare }
+  pub frames : new.frames ≤ old.frames
+  pub room : old.spare ≤ new.spare
+  pub calm : ok ≡ true → old.waits ≡ false → new.waits ≡ false
+
+-- the device calls of a checkpoint, behind the two of a mend where a gate waited: eight, and two more where it failed
+pub record CheckpointTakes (ok waits : Bool) (before after : ℕ) : Type 0 where
+  pub done : ok ≡ true → after ≤ before + mend_calls waits + 8
+  pub most : after ≤ before + mend_calls waits + 10

@@ -1,5 +1,5 @@
--- What a board did since its load, and how many more calls there is memory for.
-use Rattle.std.specs.Prelude.{ℕ, min, ◌-◌, ◌/◌, List, [], ◌∷◌, ◌++◌, Option, Some, None}
+-- What a board did since its load.
+use Rattle.std.specs.Prelude.{ℕ, ◌-◌, List, [], ◌∷◌, ◌++◌, Option, Some, None}
 use Rattle.bbs_model.specs.declared.command.Command.{Command}
 use Rattle.bbs_model.specs.declared.event.Events.{Events}
 use Rattle.bbs_model.specs.declared.item.Item.{Item}
@@ -25,7 +25,3 @@ with_item by c mark told e = record {
   told = e.told ++ told ∷ [];
   room = e.room - 1;
 }
-
--- how many calls there is memory for: each puts two rows at most, and adds one item at most
-abbrev pub calls_for : ℕ → ℕ → ℕ
-calls_for rows items = min (rows / 2) items

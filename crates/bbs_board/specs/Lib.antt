@@ -2,11 +2,13 @@ pub mod Opening
 pub mod Kept
 pub mod Doubts
 pub mod History
-pub mod Stops
+pub mod Room
 pub mod Written
+pub mod Stops
 pub mod KeptIn
 pub mod Calls
 pub mod View
 pub mod Puts
 pub mod Checkpoint
+pub mod Storing
 pub mod Laws

@@ -1,5 +1,5 @@
 -- A board as its callers see it, and what it rests on.
-use Rattle.std.specs.Prelude.{◌≡◌, ℕ, ◌+◌, ◌<◌, ◌≤◌, Bool, false, is_some, Option, Some, None, List, [], ◌∷◌, length, Ok}
+use Rattle.std.specs.Prelude.{◌≡◌, ℕ, ◌+◌, ◌-◌, ◌^◌, ◌<◌, ◌≤◌, Bool, true, false, ◌&&◌, nat_le, nat_lt, is_some, Option, Some, None, List, [], ◌∷◌, length, Ok}
 use Rattle.std.specs.List.{slice_get}
 use Rattle.std.specs.Option.{ForSome}
 use Rattle.disk_trait.specs.Held.{Has}
@@ -28,7 +28,7 @@ use Rattle.bbs_board.specs.Opening.{board_of}
 
 -- its disk, the rows that it was opened with, the items since then with the disk's clock at the end of
 -- the call of each, the clock and the count of faults at the end of its load, whether a gate has to be
--- mended, and how many legal calls it has the memory for
+-- mended, how many frames its area has, and how many legal calls it has the memory for
 pub record View (D : Type 0) : Type 0 where
   pub disk : D
   pub base : Rows
@@ -37,6 +37,7 @@ pub record View (D : Type 0) : Type 0 where
   pub since : ℕ
   pub faults : ℕ
   pub waits : Bool
+  pub frames : ℕ
   pub spare : ℕ
 
 -- it has done nothing since its load, and nothing waits
@@ -90,9 +91,14 @@ abbrev pub StandsOn : {D : Type 0} → (D → Option Past) → Rows → List Ite
 StandsOn told base log marks since j =
     ForSome (told j.disk) (Holds base log marks since j.area j.generation j.end j.frames j.waiting j.gate)
 
+-- a checkpoint is due before the next frame: there are 4,096 or more, and there is a next generation
+abbrev pub wants_checkpoint : {D : Type 0} → JournalView D → Bool
+wants_checkpoint j = nat_le 4096 j.frames && nat_lt j.generation (2 ^ 64 - 1)
+
 -- so stands each board: it was opened with valid rows, its log is lawful and leads to its rows, which are
 -- valid, it is kept what each item told, each of its doubts has a fault for its cause, and its journal has
--- no defect and no more frames than the board has made transitions
+-- no defect and no more frames than the board has made transitions, the last of which is in doubt only where
+-- no checkpoint is due
 pub record IsSound {D : Type 0} (told : D → Option Past) (fault_count : D → ℕ) (rows base : Rows) (log : List Item)
     (marks : List ℕ) (events : List (Option Events)) (since faults : ℕ) (journal : JournalView D) : Type 0 where
   pub opened : IsValid base
@@ -102,5 +108,6 @@ pub record IsSound {D : Type 0} (told : D → Option Past) (fault_count : D → 
   pub events_are : events ≡ told_in base log
   pub whole : journal.broken ≡ false
   pub counted : journal.frames ≤ rows.next
+  pub crowded : frame_waits journal.waiting ≡ true → wants_checkpoint journal ≡ false
   pub doubted : RoseForEach (doubts_in log) faults (fault_count journal.disk)
   pub holds : StandsOn told base log marks since journal

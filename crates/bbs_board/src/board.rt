@@ -2,22 +2,22 @@
 //! whatever a stop leaves is opened as the board after a prefix of its log.
 ghost use Rattle.std.specs.Prelude.{◌≡◌, ◌<◌, ◌≤◌, false, true, length, OnOk};
 ghost use Rattle.std.specs.Option.{ForSome};
-ghost use Rattle.byte_ports.specs.Cause.{HasCause};
 ghost use Rattle.disk_trait.specs.Steps.{Goes};
 ghost use Rattle.bbs_model.specs.Calls.{Ends, added, is_done, is_disk_fault, is_starved};
 ghost use Rattle.bbs_model.specs.Replay.{IsLawful};
 ghost use Rattle.bbs_model.specs.Step.{verdict_of, IsLegal};
 ghost use Rattle.bbs_model.specs.Valid.{IsValid};
 ghost use Rattle.bbs_board.specs.Calls.{Grows, Passes};
-ghost use Rattle.bbs_board.specs.Doubts.{doubts_in, RoseForEach};
+ghost use Rattle.bbs_board.specs.Doubts.{CountsFaults, doubts_in, RoseForEach};
 ghost use Rattle.bbs_board.specs.Kept.{Kept};
-ghost use Rattle.bbs_board.specs.Puts.{PutTakes};
+ghost use Rattle.bbs_board.specs.KeptIn.{StaysShort, most_after};
+ghost use Rattle.bbs_board.specs.Storing.{StoreTakes};
 ghost use Rattle.bbs_board.specs.View.{rows_of};
 
 use crate::draft::Draft;
 use crate::history::History;
-use crate::putting::put;
-use crate::room::make_room;
+use crate::room::{make_room, prepare_call};
+use crate::storage::{store, wants_checkpoint};
 use bbs_codec::write_command;
 use bbs_index::Index;
 use bbs_journal::Journal;
@@ -45,7 +45,8 @@ pub struct Board<D: Disk> {
 
 impl<D: Disk> Model for Board<D> {
     ghost use Rattle.bbs_journal.specs.View.{is_waiting};
-    ghost use Rattle.bbs_board.specs.History.{calls_for};
+    ghost use Rattle.std.specs.Prelude.{vec_capacity};
+    ghost use Rattle.bbs_board.specs.Room.{calls_for, places_in, places_left};
     ghost use Rattle.bbs_board.specs.View.{View, IsSound};
 
     ghost Value = { View D };
@@ -58,7 +59,9 @@ impl<D: Disk> Model for Board<D> {
       since = b.since;
       faults = b.faults;
       waits = is_waiting b.journal.waiting;
-      spare = calls_for b.index.spare b.history.room;
+      frames = b.journal.frames;
+      spare = calls_for b.index.spare b.history.room (places_left
+          (places_in (vec_capacity b.draft.bytes) (vec_capacity b.draft.order)) b.index.rows);
     } };
 
     ghost invariant = { λ b. IsSound D.told D.fault_count b.index.rows b.base.value.rows
@@ -75,8 +78,9 @@ pub struct Closed<D> {
 }
 
 impl<D: Disk> Board<D> {
-    /// Makes a legal command a transition, by the four device calls of an append. Two more come first where
-    /// an earlier fault left a gate to be mended, and two last where the append failed at its own gate.
+    /// Makes a legal command a transition, by the four device calls of an append. Before them two mend
+    /// a gate that an earlier fault left, and eight at most make a checkpoint where the area is full;
+    /// behind an append that failed at its own gate two close that.
     fn transition(&mut self, by: u32, command: &Command) -> Result<Reply, CallFault>
         requires { IsLegal (rows_of self.old) command.now }
         ensures ends { Ends Verdict.Ok (length self.old.log) (rows_of self.old).next result }
@@ -84,22 +88,24 @@ impl<D: Disk> Board<D> {
             (D.moment self.new.disk) self.old self.new }
         ensures fed { 0 < self.old.spare → is_starved result ≡ false }
         ensures does { Goes (D.told self.old.disk) (D.told self.new.disk)
-            (Passes self.old.waits Verdict.Ok (is_done result) (rows_of self.old) command.entry.now) }
-        ensures closes { self.old.waits ≡ false → self.new.waits ≡ true →
-            RoseForEach 2 (D.fault_count self.old.disk) (D.fault_count self.new.disk) }
-        ensures calls { PutTakes (is_done result) self.old.waits
+            (Passes self.old.waits Verdict.Ok (is_done result) (rows_of self.old)
+            command.entry.now) }
+        ensures few { ForSome (D.told self.new.disk)
+            (StaysShort (most_after (is_done result) self.old.frames) self.new.frames) }
+        ensures calls { StoreTakes (is_done result) self.old.waits self.old.frames
             (D.moment self.old.disk) (D.moment self.new.disk) }
-        ensures cause { HasCause (is_disk_fault result)
+        ensures faults { CountsFaults (is_disk_fault result) self.old.waits self.new.waits
             (D.fault_count self.old.disk) (D.fault_count self.new.disk) }
     {
         let place = self.history.place();
         let stamp = self.index.next();
         let mut payload = [0u8; 512];
         let len = write_command(&mut payload, command);
-        if make_room(&mut self.index, &mut self.history, 1).is_err() {
+        let due = wants_checkpoint(&self.journal);
+        if prepare_call(&mut self.index, &mut self.history, &mut self.draft, due).is_err() {
             return Err(CallFault::OutOfMemory);
         }
-        let stored = put(&mut self.journal, &payload[..len]);
+        let stored = store(&mut self.journal, &self.draft.bytes, &payload[..len]);
         let mark = self.journal.clock();
         if stored.is_err() {
             self.history.add(by, command, mark, &None);
@@ -123,11 +129,11 @@ impl<D: Disk> Board<D> {
         ensures does { Goes (D.told self.old.disk) (D.told self.new.disk)
             (Passes self.old.waits (verdict_of (rows_of self.old) command) (is_done result)
             (rows_of self.old) command) }
-        ensures closes { self.old.waits ≡ false → self.new.waits ≡ true →
-            RoseForEach 2 (D.fault_count self.old.disk) (D.fault_count self.new.disk) }
-        ensures calls { PutTakes (is_done result) self.old.waits
+        ensures few { ForSome (D.told self.new.disk)
+            (StaysShort (most_after (is_done result) self.old.frames) self.new.frames) }
+        ensures calls { StoreTakes (is_done result) self.old.waits self.old.frames
             (D.moment self.old.disk) (D.moment self.new.disk) }
-        ensures cause { HasCause (is_disk_fault result)
+        ensures faults { CountsFaults (is_disk_fault result) self.old.waits self.new.waits
             (D.fault_count self.old.disk) (D.fault_count self.new.disk) }
     {
         let place = self.history.place();
@@ -145,7 +151,7 @@ impl<D: Disk> Board<D> {
         ensures room { OnOk result (n ≤ self.new.spare) }
         ensures kept { self.old.spare ≤ self.new.spare }
     {
-        make_room(&mut self.index, &mut self.history, n)
+        make_room(&mut self.index, &mut self.history, &mut self.draft, n)
     }
 
     /// Gives the disk back, with what the board did on it.

@@ -1,10 +1,10 @@
 //! Checkpoints: the rows in place of the frames that led to them, so that a load has few frames to do again.
-ghost use Rattle.std.specs.Prelude.{◌≡◌, ◌+◌, ◌-◌, ◌<◌, ◌≤◌, ◌^◌, true, false, length, is_ok, is_err};
+ghost use Rattle.std.specs.Prelude.{◌≡◌, ◌-◌, ◌<◌, ◌^◌, true, false, length, is_ok, is_err};
 ghost use Rattle.byte_ports.specs.Cause.{HasCause};
 ghost use Rattle.disk_trait.specs.Steps.{Goes};
-ghost use Rattle.bbs_journal.specs.Calls.{mend_calls};
 ghost use Rattle.bbs_journal.specs.View.{is_waiting};
-ghost use Rattle.bbs_board.specs.Checkpoint.{Checkpoints, EndsCheckpoint, MovedOn, MovesOn, is_checkpoint_fault};
+ghost use Rattle.bbs_board.specs.Checkpoint.{Checkpoints, CheckpointTakes, EndsCheckpoint, MovedOn, MovesOn, StaysCompacted, SwitchTakes, is_checkpoint_fault};
+ghost use Rattle.bbs_board.specs.Doubts.{CountsFaults, RoseForEach};
 ghost use Rattle.bbs_board.specs.View.{rows_of};
 
 use crate::Board;
@@ -14,20 +14,30 @@ use bbs_model::CallFault;
 use bbs_snapshot::switch;
 use disk_trait::Disk;
 
-/// Mends what an earlier fault left, and goes on in the other area with this head.
-fn move_on<D: Disk>(journal: &mut Journal<D>, head: &[u8]) -> Result<(), DiskFault>
+/// Mends what an earlier fault left, and goes on in the other area with this head. Where closing or
+/// opening the gate of that area fails, it is closed at once, and that is tried once, as `put` does
+/// and for the same reason.
+pub fn move_on<D: Disk>(journal: &mut Journal<D>, head: &[u8]) -> Result<(), DiskFault>
     requires whole { journal.old.broken ≡ false }
     requires generation { journal.old.generation < 2 ^ 64 - 1 }
     requires few { length head.now < 2 ^ 32 }
     ensures moves { MovesOn D.told (is_ok result) head.now journal.old journal.new }
     ensures knows { MovedOn (is_ok result) journal.old journal.new }
-    ensures calls { D.moment journal.new.disk
-        ≤ D.moment journal.old.disk + mend_calls (is_waiting journal.old.waiting) + 8 }
+    ensures closes { is_waiting journal.old.waiting ≡ false → is_waiting journal.new.waiting ≡ true →
+        RoseForEach 2 (D.fault_count journal.old.disk) (D.fault_count journal.new.disk) }
+    ensures calls { SwitchTakes (is_ok result) (is_waiting journal.old.waiting)
+        (D.moment journal.old.disk) (D.moment journal.new.disk) }
     ensures cause { HasCause (is_err result)
         (D.fault_count journal.old.disk) (D.fault_count journal.new.disk) }
 {
     journal.mend()?;
-    switch(journal, head)
+    match switch(journal, head) {
+        Ok(()) => Ok(()),
+        Err(fault) => {
+            let _closed = journal.mend();
+            Err(fault)
+        }
+    }
 }
 
 impl<D: Disk> Board<D> {
@@ -37,14 +47,13 @@ impl<D: Disk> Board<D> {
     /// those fails the board goes on in the area that it is in, and has no doubt more: a stop leaves the
     /// rows in any case.
     pub fn checkpoint(&mut self) -> Result<(), CallFault>
-        ensures stays { self.new ≡ record self.old { disk = self.new.disk; waits = self.new.waits } }
+        ensures stays { StaysCompacted (is_ok result) self.old self.new }
         ensures ends { EndsCheckpoint (length self.old.log) result }
         ensures does { Goes (D.told self.old.disk) (D.told self.new.disk)
             (Checkpoints (is_ok result) self.old.waits (rows_of self.old)) }
-        ensures calm { is_ok result ≡ true → self.old.waits ≡ false → self.new.waits ≡ false }
-        ensures calls { D.moment self.new.disk
-            ≤ D.moment self.old.disk + mend_calls self.old.waits + 8 }
-        ensures cause { HasCause (is_checkpoint_fault result)
+        ensures calls { CheckpointTakes (is_ok result) self.old.waits
+            (D.moment self.old.disk) (D.moment self.new.disk) }
+        ensures faults { CountsFaults (is_checkpoint_fault result) self.old.waits self.new.waits
             (D.fault_count self.old.disk) (D.fault_count self.new.disk) }
     {
         if self.journal.frames() == 0 || self.journal.generation() == u64::MAX {

@@ -1,10 +1,10 @@
 //! The head of a checkpoint: the rows of an index in bytes, written where room was made for them.
-ghost use Rattle.std.specs.Prelude.{◌≡◌, ◌+◌, ◌*◌, ◌≤◌, ◌<◌, ◌^◌, ◌++◌, length, vec_len, vec_capacity, OnOk};
+ghost use Rattle.std.specs.Prelude.{◌≡◌, ◌+◌, ◌*◌, ◌≤◌, ◌<◌, ◌^◌, ◌++◌, length, vec_len, vec_capacity, OnOk, IsOk};
 ghost use Rattle.std.specs.List.{flat_map, AllByRecursion};
 ghost use Rattle.head_codec.specs.Head.{counts, head_counts, head_spelled, FitsHead};
 ghost use Rattle.bbs_index.specs.Shelf.{AreNumbered};
 ghost use Rattle.bbs_model.specs.Valid.{IsValid};
-ghost use Rattle.bbs_board.specs.Checkpoint.{row_count};
+ghost use Rattle.bbs_board.specs.Room.{row_count, places_in};
 
 use bbs_index::{Index, Shelf};
 use bbs_model::RowStore;
@@ -118,9 +118,13 @@ impl Draft {
 
     /// Makes room for the head of so many rows. It fails only for want of memory.
     pub fn reserve(&mut self, rows: usize) -> Result<(), OutOfMemory>
-        requires { rows ≤ 156000 }
-        ensures bytes { OnOk result (344 * (rows + 1) ≤ vec_capacity self.new.bytes) }
-        ensures numbers { OnOk result (rows ≤ vec_capacity self.new.order) }
+        requires { rows < 2 ^ 40 }
+        ensures room { OnOk result (rows + 1
+            ≤ places_in (vec_capacity self.new.bytes) (vec_capacity self.new.order)) }
+        ensures succeeds { rows + 1
+            ≤ places_in (vec_capacity self.old.bytes) (vec_capacity self.old.order) → IsOk result }
+        ensures kept { (vec_capacity self.old.bytes ≤ vec_capacity self.new.bytes)
+            × (vec_capacity self.old.order ≤ vec_capacity self.new.order) }
     {
         self.bytes.clear();
         self.order.clear();
@@ -132,11 +136,13 @@ impl Draft {
     /// Writes the head of the rows of an index over what stands there. It takes no memory.
     pub fn write(&mut self, index: &Index)
         requires valid { IsValid index.now.rows }
-        requires bytes { 344 * (row_count index.now.rows + 1) ≤ vec_capacity self.old.bytes }
-        requires numbers { row_count index.now.rows ≤ vec_capacity self.old.order }
+        requires room { row_count index.now.rows + 1
+            ≤ places_in (vec_capacity self.old.bytes) (vec_capacity self.old.order) }
         ensures bytes { self.new.bytes.items ≡ head_spelled index.entry.now.rows }
         ensures fits { FitsHead index.entry.now.rows }
         ensures few { length self.new.bytes.items < 2 ^ 32 }
+        ensures kept { (vec_capacity self.old.bytes ≤ vec_capacity self.new.bytes)
+            × (vec_capacity self.old.order ≤ vec_capacity self.new.order) }
     {
         self.bytes.clear();
         put_front(&mut self.bytes, front_of(index));

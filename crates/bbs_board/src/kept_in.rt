@@ -18,7 +18,8 @@ impl<D: Disk> Board<D> {
     /// Where the next process finds the board. While a gate waits to be mended it may find one
     /// frame more.
     pub fn kept_in(&self) -> KeptIn
-        ensures { self.now.waits ≡ false → ForSome (D.told self.now.disk) (IsKeptIn result) }
+        ensures place { self.now.waits ≡ false → ForSome (D.told self.now.disk) (IsKeptIn result) }
+        ensures frames { result.frames ≡ self.now.frames }
     {
         KeptIn {
             area: self.journal.area(),

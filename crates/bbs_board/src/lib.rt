@@ -15,6 +15,7 @@ mod putting;
 mod reading;
 mod redoing;
 mod room;
+mod storage;
 
 pub use bbs_journal::{LoadFault, PrepareFault, prepare};
 pub use board::{Board, Closed};

@@ -1,7 +1,10 @@
 //! The memory that calls need, had before their first device call.
-ghost use Rattle.std.specs.Prelude.{◌≡◌, ◌≤◌, ◌<◌, ◌*◌, ◌^◌, OnOk, IsOk};
-ghost use Rattle.bbs_board.specs.History.{calls_for};
+ghost use Rattle.std.specs.Prelude.{◌≡◌, ◌+◌, ◌≤◌, ◌<◌, ◌*◌, ◌^◌, true, vec_capacity, OnOk, IsOk};
+ghost use Rattle.bbs_model.specs.Valid.{IsValid};
+ghost use Rattle.bbs_board.specs.Room.{calls_for, places_in, places_left};
+ghost use Rattle.bbs_board.specs.Storing.{IsHeadOf};
 
+use crate::draft::{Draft, row_count};
 use crate::history::History;
 use bbs_index::Index;
 use bbs_model::RowStore;
@@ -9,18 +12,67 @@ use diego_names::OutOfMemory;
 
 /// Makes room for `n` more calls: for an item of each, and for the two rows that each may put. More
 /// rows than a u32 can say count as want of memory.
-pub fn make_room(index: &mut Index, history: &mut History, n: u32) -> Result<(), OutOfMemory>
+fn make_item_room(index: &mut Index, history: &mut History, n: u32) -> Result<(), OutOfMemory>
     ensures rows { index.new.rows ≡ index.old.rows }
     ensures history { history.new ≡ record history.old { room = history.new.room } }
-    ensures room { OnOk result (n ≤ calls_for index.new.spare history.new.room) }
-    ensures succeeds { n < 2 ^ 31 → n ≤ calls_for index.old.spare history.old.room → IsOk result }
-    ensures kept { calls_for index.old.spare history.old.room
-        ≤ calls_for index.new.spare history.new.room }
+    ensures room { OnOk result ((2 * n ≤ index.new.spare) × (n ≤ history.new.room) × (n < 2 ^ 31)) }
+    ensures succeeds { n < 2 ^ 31 → 2 * n ≤ index.old.spare → n ≤ history.old.room → IsOk result }
+    ensures kept { (index.old.spare ≤ index.new.spare) × (history.old.room ≤ history.new.room) }
 {
     let Some(rows) = n.checked_mul(2) else {
         return Err(OutOfMemory);
     };
     index.reserve(rows)?;
     history.reserve(n as usize)?;
+    Ok(())
+}
+
+/// Makes room for `n` more calls, and for the heads that they may write.
+pub fn make_room(
+    index: &mut Index,
+    history: &mut History,
+    draft: &mut Draft,
+    n: u32,
+) -> Result<(), OutOfMemory>
+    requires valid { IsValid index.old.rows }
+    ensures rows { index.new.rows ≡ index.old.rows }
+    ensures history { history.new ≡ record history.old { room = history.new.room } }
+    ensures room { OnOk result (n ≤ calls_for index.new.spare history.new.room
+        (places_left (places_in (vec_capacity draft.new.bytes) (vec_capacity draft.new.order))
+        index.new.rows)) }
+    ensures kept { (index.old.spare ≤ index.new.spare) × (history.old.room ≤ history.new.room)
+        × (vec_capacity draft.old.bytes ≤ vec_capacity draft.new.bytes)
+        × (vec_capacity draft.old.order ≤ vec_capacity draft.new.order) }
+{
+    make_item_room(index, history, n)?;
+    draft.reserve(row_count(index) + 2 * n as usize)?;
+    Ok(())
+}
+
+/// Has the memory of one call at hand, and where a checkpoint is due its head written.
+pub fn prepare_call(
+    index: &mut Index,
+    history: &mut History,
+    draft: &mut Draft,
+    due: bool,
+) -> Result<(), OutOfMemory>
+    requires valid { IsValid index.old.rows }
+    ensures rows { index.new.rows ≡ index.old.rows }
+    ensures history { history.new ≡ record history.old { room = history.new.room } }
+    ensures room { OnOk result ((2 ≤ index.new.spare) × (1 ≤ history.new.room)) }
+    ensures succeeds { 0 < calls_for index.old.spare history.old.room
+        (places_left (places_in (vec_capacity draft.old.bytes) (vec_capacity draft.old.order))
+        index.old.rows) → IsOk result }
+    ensures kept { (index.old.spare ≤ index.new.spare) × (history.old.room ≤ history.new.room)
+        × (vec_capacity draft.old.bytes ≤ vec_capacity draft.new.bytes)
+        × (vec_capacity draft.old.order ≤ vec_capacity draft.new.order) }
+    ensures head { OnOk result (due ≡ true → IsHeadOf index.old.rows draft.new.bytes.items) }
+{
+    make_item_room(index, history, 1)?;
+    if !due {
+        return Ok(());
+    }
+    draft.reserve(row_count(index))?;
+    draft.write(index);
     Ok(())
 }

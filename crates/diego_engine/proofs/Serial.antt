@@ -8,6 +8,7 @@ use Rattle.bbs_board.specs.Doubts.{doubts_in}
 use Rattle.bbs_board.specs.Written.{WritesOn}
 use Rattle.bbs_journal.specs.Stops.{OpensAs}
 use Rattle.bbs_model.specs.declared.item.Item.{Item}
+use Rattle.bbs_model.specs.declared.rows.Rows.{Rows}
 use Rattle.program_edge.specs.Ports.{Ports, PrintsTo}
 use Rattle.program_edge.specs.declared.ending.Ending.TheVariants as ending
 use Rattle.program_run.specs.Runs.{EndsLate, RunsScript}
@@ -21,8 +22,8 @@ use Rattle.diego_engine.specs.Serial.{IsSerialRun, RunsSerially, opened_with}
 use Rattle.diego_engine.proofs.Recoveries.{opened}
 
 -- a disk that keeps its content, and then has items written behind, has them written behind
-keeps_then_writes : (items : List Item) (p q r : Past) → Secures p q → WritesOn items q r → WritesOn items p r
-keeps_then_writes items p q r secures writes reading reads =
+keeps_then_writes : (rows : Rows) (items : List Item) (p q r : Past) → Secures p q → WritesOn rows items q r → WritesOn rows items p r
+keeps_then_writes rows items p q r secures writes reading reads =
     let same : content p ≡ content q = λ i. λ area. sym (secures.keeps.same area) i in
     writes reading (subst (λ (image : Rattle.disk_trait.specs.Past.Image). OpensAs image reading.area reading.generation reading.head reading.payloads) same reads)
 
@@ -37,10 +38,10 @@ module _ {D : Type 0} (told : D → Option Past) (faults moment : D → ℕ) (la
       law script e.answers.items e.reports.items late.plays.board late.plays.left late.between.held w.held late.between.write_faults w.write_faults
       sound serial late.plays.plays
 
-  writes : Goes v.told w.told (WritesOn e.log.items)
+  writes : Goes v.told w.told (WritesOn late.rows e.log.items)
   writes =
-      goes_then v.told late.between.told w.told Secures (WritesOn e.log.items) (WritesOn e.log.items)
-      (λ p q r is_p is_q is_r secures on. keeps_then_writes e.log.items p q r secures on) late.opens.secures
+      goes_then v.told late.between.told w.told Secures (WritesOn late.rows e.log.items) (WritesOn late.rows e.log.items)
+      (λ p q r is_p is_q is_r secures on. keeps_then_writes late.rows e.log.items p q r secures on) late.opens.secures
       (late.plays.writes (ap doubts_in late.plays.log ∙ late.plays.plays.over.1))
 
   prints : (serial : IsSerialScript script) → PrintsTo true (words_alone script (opened_with late.rows)) v.held w.held v.write_faults w.write_faults

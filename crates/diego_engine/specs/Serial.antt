@@ -32,7 +32,7 @@ pub record IsSerialRun (script : Script) (rows : Rows) (e : Ended) (v w : Ports)
   pub reports_are : e.reports.items ≡ (course_on script rows).reports
   pub log_is : e.log.items ≡ (course_on script rows).board.log
   pub prints : Prints true (words_alone script (opened_with rows)) v w
-  pub writes : Goes v.told w.told (WritesOn e.log.items)
+  pub writes : Goes v.told w.told (WritesOn rows e.log.items)
 
 -- a scenario was read and a board with these rows opened; and if its phases are serial, all else follows from the two
 pub record RunsSerially (e : Ended) (left left' : Option (List ℕ)) (v w : Ports) : Type 0 where

@@ -4,13 +4,13 @@ use Rattle.std.specs.Option.{ForSome}
 use Rattle.disk_trait.specs.Past.{Past}
 use Rattle.disk_trait.specs.Runs.{Extends}
 use Rattle.disk_trait.specs.Steps.{Goes}
-use Rattle.bbs_model.specs.Replay.{IsLawful}
+use Rattle.bbs_model.specs.Replay.{replay_log, IsLawful}
 use Rattle.bbs_model.specs.Valid.{IsValid}
 use Rattle.bbs_model.specs.declared.item.Item.{Item}
 use Rattle.bbs_model.specs.declared.rows.Rows.{Rows}
 use Rattle.bbs_board.specs.Doubts.{doubts_in, RoseForEach}
 use Rattle.bbs_board.specs.Kept.{Kept}
-use Rattle.bbs_board.specs.View.{View, IsFresh}
+use Rattle.bbs_board.specs.View.{View, IsFresh, rows_of}
 use Rattle.bbs_board.specs.Written.{WritesOn}
 use Rattle.phase_runs.specs.Boards.{BoardGoesOn}
 use Rattle.program_edge.specs.Ports.{Ports}
@@ -58,13 +58,14 @@ module _ {D : Type 0} (told : D → Option Past) (faults moment : D → ℕ) (sc
     fresh_is : IsFresh board → fresh ≡ e.log.items
     fresh_is begin = sym (log ∙ goes.grows ∙ ap (λ (l : List Item). l ++ fresh) begin.log)
 
-    writes : IsFresh board → doubts_in e.log.items ≡ 0 → Goes v.told w.told (WritesOn e.log.items)
+    writes : IsFresh board → doubts_in e.log.items ≡ 0 → Goes v.told w.told (WritesOn board.base e.log.items)
     writes begin none =
         let same : fresh ≡ e.log.items = fresh_is begin in
-        subst (λ (l : List Item). Goes v.told w.told (WritesOn l)) same
-        (subst (λ (t : Option Past). Goes t w.told (WritesOn fresh)) (sym opened.told_is)
-        (subst (λ (t : Option Past). Goes (told board.disk) t (WritesOn fresh)) (sym closed.told_is)
-        (goes.writes begin.calm (ap doubts_in same ∙ none)).1))
+        let begins : rows_of board ≡ board.base = ap (replay_log board.base) begin.log in
+        subst (λ (l : List Item). Goes v.told w.told (WritesOn board.base l)) same
+        (subst (λ (t : Option Past). Goes t w.told (WritesOn board.base fresh)) (sym opened.told_is)
+        (subst (λ (t : Option Past). Goes (told board.disk) t (WritesOn board.base fresh)) (sym closed.told_is)
+        (subst (λ (x : Rows). Goes (told board.disk) (told left.disk) (WritesOn x fresh)) begins (goes.writes begin.calm (ap doubts_in same ∙ none)).1)))
 
     on : IsFresh board → Plays told script how e.answers.items e.reports.items board left v.held w.held v.write_faults w.write_faults
         → PlaysOn told faults moment script board.base how e v w

@@ -52,7 +52,7 @@ pub record PlaysOn {D : Type 0} (told : D → Option Past) (faults moment : D �
   pub log : e.log.items ≡ left.log
   pub marks : e.marks.items ≡ left.marks
   pub extends : Goes v.told w.told Extends
-  pub writes : doubts_in e.log.items ≡ 0 → Goes v.told w.told (WritesOn e.log.items)
+  pub writes : doubts_in e.log.items ≡ 0 → Goes v.told w.told (WritesOn rows e.log.items)
   pub valid : IsValid rows
   pub lawful : IsLawful rows e.log.items
   pub kept : ForSome w.told (Kept rows e.log.items e.marks.items v.clock)

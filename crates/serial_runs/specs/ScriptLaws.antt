@@ -4,7 +4,7 @@ use Rattle.byte_ports.specs.Cause.{Rose}
 use Rattle.disk_trait.specs.Past.{Past}
 use Rattle.disk_trait.specs.Steps.{Goes}
 use Rattle.bbs_board.specs.Doubts.{doubts_in}
-use Rattle.bbs_board.specs.View.{View}
+use Rattle.bbs_board.specs.View.{View, rows_of}
 use Rattle.bbs_board.specs.Written.{WritesOn}
 use Rattle.convergence.specs.declared.report.Report.{Report}
 use Rattle.program_edge.specs.Ports.{PrintsTo}
@@ -26,7 +26,7 @@ pub record IsRunAlone {D : Type 0} (told : D → Option Past) (script : Script) 
   pub prints : PrintsTo true (words_alone script (board_at v)) held held' faults faults'
   pub board : board_at w ≡ (script_alone script (board_at v)).board
   pub grows : w.log ≡ v.log ++ items_alone script (board_at v)
-  pub writes : v.waits ≡ false → (w.waits ≡ false) × Goes (told v.disk) (told w.disk) (WritesOn (items_alone script (board_at v)))
+  pub writes : v.waits ≡ false → (w.waits ≡ false) × Goes (told v.disk) (told w.disk) (WritesOn (rows_of v) (items_alone script (board_at v)))
 
 -- each run of serial phases that ends well is such
 abbrev pub RunsAreAlone : {D : Type 0} → (D → Option Past) → Type 0

@@ -57,21 +57,21 @@ was_stored (verdict.Refused why) place stamp place' stamp' rows c p q ends store
 
 module _ {D : Type 0} (told : D → Option Past) (v w : View D) (c : Command) (by moment : ℕ) where
   abbrev Writes : Result Reply CallFault → Type 0
-  Writes end = v.waits ≡ false → doubts_in (added end by c) ≡ 0 → (w.waits ≡ false) × Goes (told v.disk) (told w.disk) (WritesOn (added end by c))
+  Writes end = v.waits ≡ false → doubts_in (added end by c) ≡ 0 → (w.waits ≡ false) × Goes (told v.disk) (told w.disk) (WritesOn (rows_of v) (added end by c))
 
   -- a call that adds nothing leaves the disk as it was
-  idle_writes : (done : Bool) → Grows done [] moment v w → v.waits ≡ false → (w.waits ≡ false) × Goes (told v.disk) (told w.disk) (WritesOn [])
+  idle_writes : (done : Bool) → Grows done [] moment v w → v.waits ≡ false → (w.waits ≡ false) × Goes (told v.disk) (told w.disk) (WritesOn (rows_of v) [])
   idle_writes done grows calm =
       let same = grows.idle refl in (
         ap (λ (x : View D). x.waits) same ∙ calm,
-        subst (λ (d : D). Goes (told v.disk) (told d) (WritesOn [])) (sym (ap (λ (x : View D). x.disk) same)) (goes_same (told v.disk) (WritesOn []) (λ p is. writes_nothing p)),
+        subst (λ (d : D). Goes (told v.disk) (told d) (WritesOn (rows_of v) [])) (sym (ap (λ (x : View D). x.disk) same)) (goes_same (told v.disk) (WritesOn (rows_of v) []) (λ p is. writes_nothing (rows_of v) p)),
       )
 
   pub call_writes : (end : Result Reply CallFault) → Ends (verdict_of (rows_of v) c) (length v.log) (rows_of v).next end → Grows (is_done end) (added end by c) moment v w
       → Goes (told v.disk) (told w.disk) (Passes v.waits (verdict_of (rows_of v) c) (is_done end) (rows_of v) c) → Writes end
   call_writes (Ok (reply.Ok place stamp)) ends grows goes calm none = (
     grows.calm refl,
-    goes_weaker (told v.disk) (told w.disk) (Passes v.waits (verdict_of (rows_of v) c) true (rows_of v) c) (WritesOn (Done by c ∷ []))
+    goes_weaker (told v.disk) (told w.disk) (Passes v.waits (verdict_of (rows_of v) c) true (rows_of v) c) (WritesOn (rows_of v) (Done by c ∷ []))
         (λ p q i j passes. stores_writes by (rows_of v) c p q (was_stored (verdict_of (rows_of v) c) (length v.log) (rows_of v).next place stamp (rows_of v) c p q ends (passes.stores calm))) goes,
   )
   call_writes (Ok (reply.Same place)) ends grows goes calm none = idle_writes false grows calm

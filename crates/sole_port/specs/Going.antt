@@ -4,7 +4,7 @@ use Rattle.disk_trait.specs.Past.{Past}
 use Rattle.disk_trait.specs.Runs.{Extends}
 use Rattle.disk_trait.specs.Steps.{Goes}
 use Rattle.bbs_board.specs.Doubts.{doubts_in}
-use Rattle.bbs_board.specs.View.{View}
+use Rattle.bbs_board.specs.View.{View, rows_of}
 use Rattle.bbs_board.specs.Written.{WritesOn}
 use Rattle.bbs_model.specs.declared.item.Item.{Item}
 
@@ -16,4 +16,4 @@ pub record BoardGoesOn {D : Type 0} (told : D → Option Past) (fresh : List Ite
   pub faults : w.faults ≡ v.faults
   pub grows : w.log ≡ v.log ++ fresh
   pub disk : Goes (told v.disk) (told w.disk) Extends
-  pub writes : v.waits ≡ false → doubts_in fresh ≡ 0 → (w.waits ≡ false) × Goes (told v.disk) (told w.disk) (WritesOn fresh)
+  pub writes : v.waits ≡ false → doubts_in fresh ≡ 0 → (w.waits ≡ false) × Goes (told v.disk) (told w.disk) (WritesOn (rows_of v) fresh)

@@ -4,6 +4,7 @@ use Rattle.std.proofs.lemmas.List.{length-map}
 use Rattle.disk_trait.specs.Past.{Past}
 use Rattle.bbs_index.specs.Index.{Indexed}
 use Rattle.bbs_journal.specs.Reading.{payloads_of}
+use Rattle.bbs_journal.specs.View.{frame_waits}
 use Rattle.bbs_model.specs.Replay.{replay_log, IsLawful}
 use Rattle.bbs_model.specs.Told.{told_in}
 use Rattle.bbs_model.specs.Valid.{IsValid}
@@ -34,6 +35,7 @@ invariant_of-result g c =
       events_are = c.new.ensures.told ∙ ap (told_in c.of.result.value.rows) (sym log_is);
       whole = fresh.broken ∙ ap is_some none;
       counted = omega (arith, fresh.count, count, length-map c.in-Ok.loaded.frames.items (λ v. v.items));
+      crowded = λ is. absurd (let never = ap frame_waits fresh.mended in cc);
       doubted = subst (λ (l : List Item). RoseForEach (doubts_in l) c.faults-faults.result (g.D.Disk.fault_count c.in-Ok.loaded.journal.disk)) (sym log_is)
           (omega (arith, c.faults-faults.ensures, c.in-Ok.ensures.stood));
       holds = rw (base_is, log_is, marks_is, fresh.mended, frames_are)

@@ -6,8 +6,8 @@ use Rattle.bbs_board.specs.declared.kept_in.KeptIn.{KeptIn}
 use Rattle.bbs_board.proofs.Storing.{kept_where}
 use Rattle.bbs_board.proofs.board.Board.kept_in.Goals as goal
 
-pub returns : goal.returns
-returns g c =
+pub returns-clause-place : goal.returns-clause-place
+returns-clause-place g c =
     let b = c.self.inside in
     let place : KeptIn = record { area = c.area.result; generation = c.generation.result; frames = c.frames.result } in
     subst (λ (v : View g.row.D.Denot). v.waits ≡ false → ForSome (g.D.Disk.told v.disk) (IsKeptIn place)) c.self.view_is

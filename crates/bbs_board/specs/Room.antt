@@ -1,0 +1,20 @@
+-- How many more calls there is memory for.
+use Rattle.std.specs.Prelude.{ℕ, ◌+◌, ◌-◌, ◌/◌, min, length}
+use Rattle.bbs_model.specs.declared.rows.Rows.{Rows}
+
+-- how many rows a board has
+abbrev pub row_count : Rows → ℕ
+row_count rows = length rows.desired + length rows.actual + length rows.tasks + length rows.cells
+
+-- how many places there are for a head, which takes one for its front and one for each row: a place is 344 bytes, and
+-- each row has a number besides
+abbrev pub places_in : ℕ → ℕ → ℕ
+places_in bytes numbers = min (bytes / 344) (numbers + 1)
+
+-- how many of these the head of the rows leaves
+abbrev pub places_left : ℕ → Rows → ℕ
+places_left places rows = places - (row_count rows + 1)
+
+-- how many calls there is memory for: each puts two rows at most, adds one item at most, and may write a head
+abbrev pub calls_for : ℕ → ℕ → ℕ → ℕ
+calls_for rows items places = min (min (rows / 2) items) (places / 2)
