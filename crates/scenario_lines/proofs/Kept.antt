@@ -1,5 +1,5 @@
 -- What is kept of an object's members, one after another.
-use Rattle.std.proofs.Common.{◌≡◌, ◌≢◌, ℕ, ◌<◌, List, [], ◌∷◌, length, Bool, true, false, if◌then◌else◌, codes, Option, Some, None, option_map, String, Global, Ordering, Less, Equal, Greater, string_bytes, nat_cmp, is_eq, bytes_eq, true≢false, Bor, refl, sym, ap, ◌∙◌, arith, zero, suc, subst, unwrap_or, is_some, cond, slice_index_or}
+use Rattle.std.proofs.Common.{◌≡◌, ◌≢◌, ℕ, ◌<◌, List, [], ◌∷◌, length, Bool, true, false, if◌then◌else◌, codes, Option, Some, None, option_map, String, Global, Ordering, Less, Equal, Greater, string_bytes, nat_cmp, is_eq, nat_eq, bytes_eq, true≢false, Bor, refl, sym, ap, ◌∙◌, arith, zero, suc, subst, unwrap_or, is_some, cond, slice_index_or}
 use Rattle.std.proofs.lemmas.Map.Text.{is_eq-slice_cmp}
 use Rattle.std.proofs.lemmas.Slice.Eq.{bytes_eq-Decides}
 use Rattle.std.specs.Cmp.Lexicographic.{slice_cmp}
@@ -102,34 +102,57 @@ word_by false name w k m rest same is more e = more e
 one_word : (name w : List ℕ) (k m : Member) (rest : Option Member) → w ≡ word k → (rest ≡ Some m → name ≡ word m) → (if bytes_eq name w then Some k else rest) ≡ Some m → name ≡ word m
 one_word name w k m rest = word_by (bytes_eq name w) name w k m rest (bytes_eq-Decides name w).0
 
+-- what holds in either case holds by a test
+by_either : (b : Bool) (first rest : Option Member) (m : Member) (P : Type 0) → (first ≡ Some m → P) → (rest ≡ Some m → P) → (if b then first else rest) ≡ Some m → P
+by_either true first rest m P in_first in_rest e = in_first e
+by_either false first rest m P in_first in_rest e = in_rest e
+
 -- a member is named by its word alone
 pub word-member_named : (name : List ℕ) (m : Member) → member_named name ≡ Some m → name ≡ word m
 word-member_named name m =
+    (by_either (nat_eq (length name) 2) _ _ m (name ≡ word m)
     (one_word name (codes "at") member.At m _ refl
-    (one_word name (codes "client") member.Client m _ refl
-    (one_word name (codes "cell") member.Cell m _ refl
     (one_word name (codes "op") member.Op m _ refl
-    (one_word name (codes "lost") member.Lost m _ refl
-    (one_word name (codes "times") member.Times m _ refl
-    (one_word name (codes "process") member.Process m _ refl
-    (one_word name (codes "domain") member.Domain m _ refl
-    (one_word name (codes "instances") member.Instances m _ refl
-    (one_word name (codes "memory") member.Memory m _ refl
-    (one_word name (codes "disk") member.Disk m _ refl
+    (λ e. none-some m e)))
+    (by_either (nat_eq (length name) 3) _ _ m (name ≡ word m)
     (one_word name (codes "tag") member.Tag m _ refl
-    (one_word name (codes "route") member.Route m _ refl
+    (one_word name (codes "ttl") member.Ttl m _ refl
+    (λ e. none-some m e)))
+    (by_either (nat_eq (length name) 4) _ _ m (name ≡ word m)
+    (one_word name (codes "cell") member.Cell m _ refl
+    (one_word name (codes "lost") member.Lost m _ refl
+    (one_word name (codes "disk") member.Disk m _ refl
     (one_word name (codes "port") member.Port m _ refl
-    (one_word name (codes "index") member.Index m _ refl
     (one_word name (codes "name") member.Name m _ refl
     (one_word name (codes "zone") member.Zone m _ refl
-    (one_word name (codes "containers") member.Containers m _ refl
-    (one_word name (codes "ttl") member.Ttl m _ refl
+    (λ e. none-some m e)))))))
+    (by_either (nat_eq (length name) 5) _ _ m (name ≡ word m)
+    (one_word name (codes "times") member.Times m _ refl
+    (one_word name (codes "route") member.Route m _ refl
+    (one_word name (codes "index") member.Index m _ refl
+    (λ e. none-some m e))))
+    (by_either (nat_eq (length name) 6) _ _ m (name ≡ word m)
+    (one_word name (codes "client") member.Client m _ refl
+    (one_word name (codes "domain") member.Domain m _ refl
+    (one_word name (codes "memory") member.Memory m _ refl
     (one_word name (codes "failed") member.Failed m _ refl
+    (λ e. none-some m e)))))
+    (by_either (nat_eq (length name) 7) _ _ m (name ≡ word m)
+    (one_word name (codes "process") member.Process m _ refl
+    (λ e. none-some m e))
+    (by_either (nat_eq (length name) 8) _ _ m (name ≡ word m)
     (one_word name (codes "lose_ask") member.LoseAsk m _ refl
+    (λ e. none-some m e))
+    (by_either (nat_eq (length name) 9) _ _ m (name ≡ word m)
+    (one_word name (codes "instances") member.Instances m _ refl
     (one_word name (codes "lose_stop") member.LoseStop m _ refl
+    (λ e. none-some m e)))
+    (by_either (nat_eq (length name) 10) _ _ m (name ≡ word m)
+    (one_word name (codes "containers") member.Containers m _ refl
     (one_word name (codes "lose_start") member.LoseStart m _ refl
     (one_word name (codes "lose_reply") member.LoseReply m _ refl
-    (λ e. none-some m e)))))))))))))))))))))))))
+    (λ e. none-some m e))))
+    (λ e. none-some m e))))))))))
 
 -- the members by their places
 abbrev by_place : List Member

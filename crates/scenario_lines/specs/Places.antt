@@ -1,5 +1,5 @@
 -- Where what a line says is kept, by its members.
-use Rattle.std.specs.Prelude.{◌≡◌, ℕ, List, codes, Option, Some, None, option_map, String, string_bytes, if◌then◌else◌}
+use Rattle.std.specs.Prelude.{◌≡◌, ℕ, List, codes, Option, Some, None, option_map, String, string_bytes, if◌then◌else◌, length, nat_eq}
 use Rattle.std.specs.Borrow.{Bor}
 use Rattle.std.specs.BTreeMap.{BTreeMap, is_at}
 use Rattle.std.specs.Cmp.Lexicographic.{slice_cmp}
@@ -42,34 +42,52 @@ place member.LoseStop = 21
 place member.LoseStart = 22
 place member.LoseReply = 23
 
--- the member of this name, if there is one
+-- the member of this name, if there is one, by the name's length
 abbrev pub member_named : List ℕ → Option Member
 member_named name =
-    if bytes_eq name (codes "at") then Some member.At
-    else (if bytes_eq name (codes "client") then Some member.Client
-    else (if bytes_eq name (codes "cell") then Some member.Cell
+    if nat_eq (length name) 2 then
+    (if bytes_eq name (codes "at") then Some member.At
     else (if bytes_eq name (codes "op") then Some member.Op
+    else None))
+    else (if nat_eq (length name) 3 then
+    (if bytes_eq name (codes "tag") then Some member.Tag
+    else (if bytes_eq name (codes "ttl") then Some member.Ttl
+    else None))
+    else (if nat_eq (length name) 4 then
+    (if bytes_eq name (codes "cell") then Some member.Cell
     else (if bytes_eq name (codes "lost") then Some member.Lost
-    else (if bytes_eq name (codes "times") then Some member.Times
-    else (if bytes_eq name (codes "process") then Some member.Process
-    else (if bytes_eq name (codes "domain") then Some member.Domain
-    else (if bytes_eq name (codes "instances") then Some member.Instances
-    else (if bytes_eq name (codes "memory") then Some member.Memory
     else (if bytes_eq name (codes "disk") then Some member.Disk
-    else (if bytes_eq name (codes "tag") then Some member.Tag
-    else (if bytes_eq name (codes "route") then Some member.Route
     else (if bytes_eq name (codes "port") then Some member.Port
-    else (if bytes_eq name (codes "index") then Some member.Index
     else (if bytes_eq name (codes "name") then Some member.Name
     else (if bytes_eq name (codes "zone") then Some member.Zone
-    else (if bytes_eq name (codes "containers") then Some member.Containers
-    else (if bytes_eq name (codes "ttl") then Some member.Ttl
+    else None))))))
+    else (if nat_eq (length name) 5 then
+    (if bytes_eq name (codes "times") then Some member.Times
+    else (if bytes_eq name (codes "route") then Some member.Route
+    else (if bytes_eq name (codes "index") then Some member.Index
+    else None)))
+    else (if nat_eq (length name) 6 then
+    (if bytes_eq name (codes "client") then Some member.Client
+    else (if bytes_eq name (codes "domain") then Some member.Domain
+    else (if bytes_eq name (codes "memory") then Some member.Memory
     else (if bytes_eq name (codes "failed") then Some member.Failed
-    else (if bytes_eq name (codes "lose_ask") then Some member.LoseAsk
+    else None))))
+    else (if nat_eq (length name) 7 then
+    (if bytes_eq name (codes "process") then Some member.Process
+    else None)
+    else (if nat_eq (length name) 8 then
+    (if bytes_eq name (codes "lose_ask") then Some member.LoseAsk
+    else None)
+    else (if nat_eq (length name) 9 then
+    (if bytes_eq name (codes "instances") then Some member.Instances
     else (if bytes_eq name (codes "lose_stop") then Some member.LoseStop
+    else None))
+    else (if nat_eq (length name) 10 then
+    (if bytes_eq name (codes "containers") then Some member.Containers
     else (if bytes_eq name (codes "lose_start") then Some member.LoseStart
     else (if bytes_eq name (codes "lose_reply") then Some member.LoseReply
-    else None)))))))))))))))))))))))
+    else None)))
+    else None))))))))
 
 -- the value of this name, among entries
 abbrev pub value_named : List ℕ → List (String Global × Value) → Option Value

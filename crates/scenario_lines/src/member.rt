@@ -101,31 +101,58 @@ impl Member {
     pub(crate) fn named(name: &str) -> Option<Member>
         ensures { result ≡ member_named name.now }
     {
-        match name {
-            "at" => Some(Member::At),
-            "client" => Some(Member::Client),
-            "cell" => Some(Member::Cell),
-            "op" => Some(Member::Op),
-            "lost" => Some(Member::Lost),
-            "times" => Some(Member::Times),
-            "process" => Some(Member::Process),
-            "domain" => Some(Member::Domain),
-            "instances" => Some(Member::Instances),
-            "memory" => Some(Member::Memory),
-            "disk" => Some(Member::Disk),
-            "tag" => Some(Member::Tag),
-            "route" => Some(Member::Route),
-            "port" => Some(Member::Port),
-            "index" => Some(Member::Index),
-            "name" => Some(Member::Name),
-            "zone" => Some(Member::Zone),
-            "containers" => Some(Member::Containers),
-            "ttl" => Some(Member::Ttl),
-            "failed" => Some(Member::Failed),
-            "lose_ask" => Some(Member::LoseAsk),
-            "lose_stop" => Some(Member::LoseStop),
-            "lose_start" => Some(Member::LoseStart),
-            "lose_reply" => Some(Member::LoseReply),
+        match name.len() {
+            2 => match name {
+                "at" => Some(Member::At),
+                "op" => Some(Member::Op),
+                _ => None,
+            },
+            3 => match name {
+                "tag" => Some(Member::Tag),
+                "ttl" => Some(Member::Ttl),
+                _ => None,
+            },
+            4 => match name {
+                "cell" => Some(Member::Cell),
+                "lost" => Some(Member::Lost),
+                "disk" => Some(Member::Disk),
+                "port" => Some(Member::Port),
+                "name" => Some(Member::Name),
+                "zone" => Some(Member::Zone),
+                _ => None,
+            },
+            5 => match name {
+                "times" => Some(Member::Times),
+                "route" => Some(Member::Route),
+                "index" => Some(Member::Index),
+                _ => None,
+            },
+            6 => match name {
+                "client" => Some(Member::Client),
+                "domain" => Some(Member::Domain),
+                "memory" => Some(Member::Memory),
+                "failed" => Some(Member::Failed),
+                _ => None,
+            },
+            7 => match name {
+                "process" => Some(Member::Process),
+                _ => None,
+            },
+            8 => match name {
+                "lose_ask" => Some(Member::LoseAsk),
+                _ => None,
+            },
+            9 => match name {
+                "instances" => Some(Member::Instances),
+                "lose_stop" => Some(Member::LoseStop),
+                _ => None,
+            },
+            10 => match name {
+                "containers" => Some(Member::Containers),
+                "lose_start" => Some(Member::LoseStart),
+                "lose_reply" => Some(Member::LoseReply),
+                _ => None,
+            },
             _ => None,
         }
     }

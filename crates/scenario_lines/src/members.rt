@@ -33,7 +33,8 @@ impl<'v> Members<'v> {
 
     /// What the line says for a member.
     pub fn said_for(&self, member: Member) -> Option<&'v Value>
-        ensures { option_map (λ said. view said.now) result ≡ said_for member (object_of self.now.object.now) }
+        ensures { option_map (λ said. view said.now) result
+            ≡ said_for member (object_of self.now.object.now) }
     {
         let said = &self.said[..];
         said[member.place()]
@@ -48,7 +49,8 @@ impl<'v> Members<'v> {
 
     /// The text of a member.
     pub fn text_in(&self, member: Member) -> Option<&'v str>
-        ensures { option_map (λ text. text.now) result ≡ text_given member (object_of self.now.object.now) }
+        ensures { option_map (λ text. text.now) result
+            ≡ text_given member (object_of self.now.object.now) }
     {
         self.said_for(member)?.as_str()
     }

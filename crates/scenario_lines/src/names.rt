@@ -61,7 +61,8 @@ pub(crate) fn names_in(
     members: &Members<'_>,
     member: Member,
 ) -> Result<List<Name>, LineError>
-    ensures { GivesContent (λ names. names) result (names_in member (object_of members.now.object.now)) }
+    ensures { GivesContent (λ names. names) result
+        (names_in member (object_of members.now.object.now)) }
 {
     match members.said_for(member) {
         Some(said) => names_as(alloc, said),

@@ -12,7 +12,8 @@ use std::alloc::Global;
 
 #[tactic(auto, unfolding(crate::specs::Contents::losses_in))]
 pub(crate) fn losses_in(alloc: Global, members: &Members<'_>) -> Result<Losses, LineError>
-    ensures { GivesContent (λ losses. losses) result (losses_in (object_of members.now.object.now)) }
+    ensures { GivesContent (λ losses. losses) result
+        (losses_in (object_of members.now.object.now)) }
 {
     Ok(Losses {
         ask: names_in(alloc, members, Member::LoseAsk)?,
