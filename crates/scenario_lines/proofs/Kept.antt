@@ -1,5 +1,5 @@
 -- What is kept of an object's members, one after another.
-use Rattle.std.proofs.Common.{◌≡◌, ◌≢◌, ℕ, ◌<◌, List, [], ◌∷◌, length, Bool, true, false, if◌then◌else◌, codes, Option, Some, None, option_map, String, Global, Ordering, Less, Equal, Greater, string_bytes, nat_cmp, is_eq, nat_eq, bytes_eq, true≢false, Bor, refl, sym, ap, ◌∙◌, arith, zero, suc, subst, unwrap_or, is_some, cond, slice_index_or}
+use Rattle.std.proofs.Common.{◌≡◌, ℕ, List, [], ◌∷◌, length, Bool, true, false, if◌then◌else◌, codes, Option, Some, None, option_map, String, Global, Ordering, Less, Equal, Greater, string_bytes, nat_cmp, is_eq, nat_eq, bytes_eq, true≢false, Bor, refl, sym, ap, ◌∙◌, zero, suc, subst, unwrap_or, is_some, cond, slice_index_or}
 use Rattle.std.proofs.lemmas.Map.Text.{is_eq-slice_cmp}
 use Rattle.std.proofs.lemmas.Slice.Eq.{bytes_eq-Decides}
 use Rattle.std.specs.Cmp.Lexicographic.{slice_cmp}

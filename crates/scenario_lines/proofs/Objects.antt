@@ -1,5 +1,5 @@
 -- Values that are objects, and values that are none.
-use Rattle.std.proofs.Common.{◌≡◌, Bool, true, false, true≢false, Option, Some, None, is_some, unwrap_or, Result, Err, refl, sym, ap}
+use Rattle.std.proofs.Common.{◌≡◌, true≢false, Some, None, is_some, unwrap_or, Err, refl, sym, ap}
 use Rattle.serde_json.specs.Data.{Data, null, boolean, number, string, array, object, Members}
 use Rattle.serde_json.specs.Find.{as_object}
 use Rattle.scenario_lines.specs.Forms.{form_of}

@@ -1,5 +1,4 @@
-use Rattle.std.proofs.Common.{string_bytes, slice_set, refl, arith, ◌≡◌, ◌∷◌, ◌∙◌, sym, ap, subst, rules, Some, None, true, false, is_some, not, slice_index_or}
-use Rattle.std.specs.List.{slice_get}
+use Rattle.std.proofs.Common.{string_bytes, slice_set, refl, arith, ◌≡◌, ◌∷◌, sym, subst, rules, Some, None}
 use Rattle.std.proofs.lemmas.Option.{slice_get-get_or}
 use Rattle.scenario_lines.specs.Places.{member_named, place, KeepsAll}
 use Rattle.scenario_lines.proofs.Kept.{Entry, all_kept, empty_step, full_step, none_kept, unnamed_step, KeptSoFar}
