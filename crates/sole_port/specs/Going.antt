@@ -16,4 +16,5 @@ pub record BoardGoesOn {D : Type 0} (told : D → Option Past) (fresh : List Ite
   pub faults : w.faults ≡ v.faults
   pub grows : w.log ≡ v.log ++ fresh
   pub disk : Goes (told v.disk) (told w.disk) Extends
-  pub writes : v.waits ≡ false → doubts_in fresh ≡ 0 → (w.waits ≡ false) × Goes (told v.disk) (told w.disk) (WritesOn (rows_of v) fresh)
+  pub writes : v.waits ≡ false → doubts_in fresh ≡ 0
+      → (w.waits ≡ false) × Goes (told v.disk) (told w.disk) (WritesOn (rows_of v) fresh)
