@@ -9,7 +9,7 @@ use Rattle.bbs_board.proofs.history.History.TheSendSync as history
 use Rattle.bbs_board.specs.contracts.board.Board as board
 use Rattle.bbs_index.proofs.index.Index.TheSendSync as index
 use Rattle.bbs_journal.proofs.journal.Journal.TheSendSync as journal
-use Rattle.ticket_desk.proofs.Public.{desk_field_sync}
+use Rattle.ticket_desk.proofs.desk.Desk.TheSendSync as desk
 use Rattle.bbs_model.specs.contracts.item.Item as item
 use Rattle.bbs_shared.specs.contracts.at_desk.AtDesk as at_desk
 use Rattle.bbs_shared.specs.contracts.at_desk.AtDeskHistory.TheImpl.{ghosts, no_dict}
@@ -24,6 +24,6 @@ at_desk_send D g s = search (sendable, crosses, board_send) depth 40
 
 pub shared_sync : (D : RattleType) (g : Ghosts D.Denot) → IsSend D → IsSync (shared.the_row D g)
 shared_sync D g s =
-    let field = desk_field_sync (at_desk.the_row D g) item.the_row (origin.the_row (board.the_row D g)) (ghosts D g no_dict) (at_desk_send D g s) in
+    let field = desk.the_field_sync (at_desk.the_row D g) item.the_row (origin.the_row (board.the_row D g)) (ghosts D g no_dict) (at_desk_send D g s) in
     let fields : IsSync (Struct (shape (shared.the_type D g))) = struct_sync (shape (shared.the_type D g)) (field, tt) in
     recorded_sync _ _ _ (shared.the_type D g).to_one fields

@@ -1,5 +1,5 @@
 -- How many bytes the counts of a head take, and a row of each table.
-use Rattle.std.proofs.Common.{◌≡◌, ℕ, ◌≤◌, length, arith, length-append}
+use Rattle.std.proofs.Common.{◌≡◌, ◌≤◌, length, arith, length-append}
 use Rattle.std.specs.Prelude.{◌++◌}
 use Rattle.std.specs.Int.{w32, w64}
 use Rattle.cell_records.specs.declared.cell_row.CellRow.{CellRow}

@@ -4,7 +4,7 @@ ghost use Rattle.std.specs.BTreeSet.{contains};
 ghost use Rattle.std.specs.Option.{option_map_or};
 ghost use Rattle.std.specs.Ordering.{nat_cmp};
 ghost use Rattle.head_codec.specs.Head.{is_above, has_room, is_stamped};
-ghost use Rattle.head_codec.specs.Seen.{is_above_last, IsSeen};
+ghost use Rattle.head_codec.specs.Seen.{is_above_last};
 
 use crate::kept::HeadRow;
 use bbs_model::MOST_WANTED;

@@ -8,5 +8,7 @@ pub mod Kinds
 pub mod Laws
 pub mod Members
 pub mod Names
+pub mod Places
+pub mod Said
 pub mod Shapes
 pub mod Values

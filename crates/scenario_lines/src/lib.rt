@@ -15,6 +15,7 @@ mod kind;
 mod laws;
 mod line;
 mod member;
+mod members;
 mod names;
 mod needs;
 mod round;

@@ -1,9 +1,7 @@
 //! The members that lines have, and the word of each.
-ghost use Rattle.std.specs.Prelude.{◌≡◌, option_map};
-ghost use Rattle.serde_json.specs.View.{view};
-ghost use Rattle.scenario_lines.specs.Members.{has, said_for, text_given, word};
-
-use serde_json::Value;
+ghost use Rattle.std.specs.Prelude.{◌≡◌, ◌<◌};
+ghost use Rattle.scenario_lines.specs.Members.{word};
+ghost use Rattle.scenario_lines.specs.Places.{member_named, place};
 
 /// A member of a line. It means the same in each line that has it.
 #[derive(Clone, Copy, Debug, PartialEq, Eq)]
@@ -65,26 +63,97 @@ impl Member {
             Member::LoseReply => "lose_reply",
         }
     }
-}
 
-/// What a line says for a member.
-#[tactic(auto, unfolding(crate::specs::Members::said_for))]
-pub(crate) fn said_for(value: &Value, member: Member) -> Option<&Value>
-    ensures { option_map (λ said. view said.now) result ≡ said_for member (view value.now) }
-{
-    value.get(member.word())
-}
+    /// The place of a member among all, from 0.
+    pub(crate) fn place(self) -> usize
+        ensures is { result ≡ place self }
+        ensures within { result < 24 }
+    {
+        match self {
+            Member::At => 0,
+            Member::Client => 1,
+            Member::Cell => 2,
+            Member::Op => 3,
+            Member::Lost => 4,
+            Member::Times => 5,
+            Member::Process => 6,
+            Member::Domain => 7,
+            Member::Instances => 8,
+            Member::Memory => 9,
+            Member::Disk => 10,
+            Member::Tag => 11,
+            Member::Route => 12,
+            Member::Port => 13,
+            Member::Index => 14,
+            Member::Name => 15,
+            Member::Zone => 16,
+            Member::Containers => 17,
+            Member::Ttl => 18,
+            Member::Failed => 19,
+            Member::LoseAsk => 20,
+            Member::LoseStop => 21,
+            Member::LoseStart => 22,
+            Member::LoseReply => 23,
+        }
+    }
 
-/// Whether a line has the member.
-pub(crate) fn has(value: &Value, member: Member) -> bool
-    ensures { result ≡ has member (view value.now) }
-{
-    said_for(value, member).is_some()
-}
-
-/// The text of a member.
-pub(crate) fn text_in(value: &Value, member: Member) -> Option<&str>
-    ensures { option_map (λ text. text.now) result ≡ text_given member (view value.now) }
-{
-    said_for(value, member)?.as_str()
+    /// The member of this name.
+    pub(crate) fn named(name: &str) -> Option<Member>
+        ensures { result ≡ member_named name.now }
+    {
+        match name.len() {
+            2 => match name {
+                "at" => Some(Member::At),
+                "op" => Some(Member::Op),
+                _ => None,
+            },
+            3 => match name {
+                "tag" => Some(Member::Tag),
+                "ttl" => Some(Member::Ttl),
+                _ => None,
+            },
+            4 => match name {
+                "cell" => Some(Member::Cell),
+                "lost" => Some(Member::Lost),
+                "disk" => Some(Member::Disk),
+                "port" => Some(Member::Port),
+                "name" => Some(Member::Name),
+                "zone" => Some(Member::Zone),
+                _ => None,
+            },
+            5 => match name {
+                "times" => Some(Member::Times),
+                "route" => Some(Member::Route),
+                "index" => Some(Member::Index),
+                _ => None,
+            },
+            6 => match name {
+                "client" => Some(Member::Client),
+                "domain" => Some(Member::Domain),
+                "memory" => Some(Member::Memory),
+                "failed" => Some(Member::Failed),
+                _ => None,
+            },
+            7 => match name {
+                "process" => Some(Member::Process),
+                _ => None,
+            },
+            8 => match name {
+                "lose_ask" => Some(Member::LoseAsk),
+                _ => None,
+            },
+            9 => match name {
+                "instances" => Some(Member::Instances),
+                "lose_stop" => Some(Member::LoseStop),
+                _ => None,
+            },
+            10 => match name {
+                "containers" => Some(Member::Containers),
+                "lose_start" => Some(Member::LoseStart),
+                "lose_reply" => Some(Member::LoseReply),
+                _ => None,
+            },
+            _ => None,
+        }
+    }
 }

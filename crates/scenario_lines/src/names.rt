@@ -3,9 +3,11 @@ ghost use Rattle.std.specs.Prelude.{◌≡◌, map};
 ghost use Rattle.serde_json.specs.View.{view};
 ghost use Rattle.scenario_lines.specs.Flaws.{GivesContent};
 ghost use Rattle.scenario_lines.specs.Names.{name_as, name_given, name_said, names_as, names_in, names_said, optional_name_in};
+ghost use Rattle.scenario_lines.specs.Places.{object_of};
 
 use crate::flaw::{Flaw, LineError};
-use crate::member::{Member, has, said_for};
+use crate::member::Member;
+use crate::members::Members;
 use diego_names::{List, Name};
 use serde_json::Value;
 use std::alloc::Global;
@@ -31,10 +33,10 @@ fn name_as(value: &Value) -> Result<Name, Flaw>
 
 /// The name of a member.
 #[tactic(auto, unfolding(crate::specs::Names::name_given))]
-pub(crate) fn name_in(value: &Value, member: Member) -> Result<Name, Flaw>
-    ensures { result ≡ name_given member (view value.now) }
+pub(crate) fn name_in(members: &Members<'_>, member: Member) -> Result<Name, Flaw>
+    ensures { result ≡ name_given member (object_of members.now.object.now) }
 {
-    match said_for(value, member) {
+    match members.said_for(member) {
         Some(said) => name_as(said),
         None => Err(Flaw::BadShape),
     }
@@ -42,11 +44,11 @@ pub(crate) fn name_in(value: &Value, member: Member) -> Result<Name, Flaw>
 
 /// The name of a member, or none where it isn't there.
 #[tactic(auto, unfolding(crate::specs::Names::optional_name_in))]
-pub(crate) fn optional_name_in(value: &Value, member: Member) -> Result<Option<Name>, Flaw>
-    ensures { result ≡ optional_name_in member (view value.now) }
+pub(crate) fn optional_name_in(members: &Members<'_>, member: Member) -> Result<Option<Name>, Flaw>
+    ensures { result ≡ optional_name_in member (object_of members.now.object.now) }
 {
-    if has(value, member) {
-        Ok(Some(name_in(value, member)?))
+    if members.has(member) {
+        Ok(Some(name_in(members, member)?))
     } else {
         Ok(None)
     }
@@ -56,12 +58,13 @@ pub(crate) fn optional_name_in(value: &Value, member: Member) -> Result<Option<N
 #[tactic(auto, unfolding(crate::specs::Names::names_in))]
 pub(crate) fn names_in(
     alloc: Global,
-    value: &Value,
+    members: &Members<'_>,
     member: Member,
 ) -> Result<List<Name>, LineError>
-    ensures { GivesContent (λ names. names) result (names_in member (view value.now)) }
+    ensures { GivesContent (λ names. names) result
+        (names_in member (object_of members.now.object.now)) }
 {
-    match said_for(value, member) {
+    match members.said_for(member) {
         Some(said) => names_as(alloc, said),
         None => Ok(List::new(alloc)),
     }

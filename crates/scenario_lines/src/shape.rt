@@ -2,47 +2,45 @@
 ghost use Rattle.std.specs.Prelude.{◌≡◌, string_bytes};
 ghost use Rattle.std.specs.BTreeMap.{keys};
 ghost use Rattle.std.specs.List.{list_all};
-ghost use Rattle.serde_json.specs.View.{view};
 ghost use Rattle.scenario_lines.specs.Shapes.{has_known, has_shape, is_one_of, is_fit, is_known, is_given, shaped};
+ghost use Rattle.scenario_lines.specs.Places.{object_of};
 
 use crate::flaw::Flaw;
 use crate::form::Form;
 use crate::form_of::form_of;
-use crate::member::{Member, said_for};
+use crate::member::Member;
+use crate::members::Members;
 use serde_json::{Map, Value};
 
 /// The form of a line, where the line has its shape.
 #[tactic(auto, unfolding(crate::specs::Shapes::shaped))]
-pub(crate) fn shaped(value: &Value) -> Result<Form, Flaw>
-    ensures { result ≡ shaped (view value.now) }
+pub(crate) fn shaped(members: &Members<'_>) -> Result<Form, Flaw>
+    ensures { result ≡ shaped (object_of members.now.object.now) }
 {
-    match form_of(value) {
-        Some(form) if has_shape(form, value) => Ok(form),
+    match form_of(members) {
+        Some(form) if has_shape(form, members) => Ok(form),
         _ => Err(Flaw::BadShape),
     }
 }
 
 #[tactic(auto, unfolding(crate::specs::Shapes::has_shape))]
-fn has_shape(form: Form, value: &Value) -> bool
-    ensures { result ≡ has_shape form (view value.now) }
+fn has_shape(form: Form, members: &Members<'_>) -> bool
+    ensures { result ≡ has_shape form (object_of members.now.object.now) }
 {
-    has_known(form, value) && are_there(form.needs(), value) && are_fit(form.allows(), value)
+    has_known(form, members) && are_there(form.needs(), members) && are_fit(form.allows(), members)
 }
 
 #[tactic(auto, unfolding(crate::specs::Shapes::has_known))]
-fn has_known(form: Form, value: &Value) -> bool
-    ensures { result ≡ has_known form (view value.now) }
+fn has_known(form: Form, members: &Members<'_>) -> bool
+    ensures { result ≡ has_known form (object_of members.now.object.now) }
 {
-    match value.as_object() {
-        Some(members) => are_known(form, members),
-        None => false,
-    }
+    are_known(form, members.object)
 }
 
-fn are_known(form: Form, members: &Map<String, Value>) -> bool
-    ensures { result ≡ list_all (λ name. is_known form (string_bytes name)) (keys members.now) }
+fn are_known(form: Form, object: &Map<String, Value>) -> bool
+    ensures { result ≡ list_all (λ name. is_known form (string_bytes name)) (keys object.now) }
 {
-    members.keys().all(|name| is_known(form, name.as_str()))
+    object.keys().all(|name| is_known(form, name.as_str()))
 }
 
 fn is_known(form: Form, name: &str) -> bool
@@ -57,31 +55,31 @@ fn is_among(members: &[Member], name: &str) -> bool
     members.iter().any(|member| member.word() == name)
 }
 
-fn are_there(members: &[Member], value: &Value) -> bool
-    ensures { result ≡ list_all (is_given (view value.now)) members.now }
+fn are_there(needed: &[Member], members: &Members<'_>) -> bool
+    ensures { result ≡ list_all (is_given (object_of members.now.object.now)) needed.now }
 {
-    members.iter().all(|member| is_there(*member, value))
+    needed.iter().all(|member| is_there(*member, members))
 }
 
-fn are_fit(members: &[Member], value: &Value) -> bool
-    ensures { result ≡ list_all (is_fit (view value.now)) members.now }
+fn are_fit(allowed: &[Member], members: &Members<'_>) -> bool
+    ensures { result ≡ list_all (is_fit (object_of members.now.object.now)) allowed.now }
 {
-    members.iter().all(|member| is_fit(*member, value))
+    allowed.iter().all(|member| is_fit(*member, members))
 }
 
-fn is_there(member: Member, value: &Value) -> bool
-    ensures { result ≡ is_given (view value.now) member }
+fn is_there(member: Member, members: &Members<'_>) -> bool
+    ensures { result ≡ is_given (object_of members.now.object.now) member }
 {
-    match said_for(value, member) {
+    match members.said_for(member) {
         Some(said) => member.kind().is_of(said),
         None => false,
     }
 }
 
-fn is_fit(member: Member, value: &Value) -> bool
-    ensures { result ≡ is_fit (view value.now) member }
+fn is_fit(member: Member, members: &Members<'_>) -> bool
+    ensures { result ≡ is_fit (object_of members.now.object.now) member }
 {
-    match said_for(value, member) {
+    match members.said_for(member) {
         Some(said) => member.kind().is_of(said),
         None => true,
     }

@@ -1,17 +1,17 @@
 //! What the members of a line say that are no names.
 ghost use Rattle.std.specs.Prelude.{◌≡◌};
-ghost use Rattle.serde_json.specs.View.{view};
 ghost use Rattle.scenario_lines.specs.Flaws.{or_shape};
+ghost use Rattle.scenario_lines.specs.Places.{object_of};
 ghost use Rattle.scenario_lines.specs.Values.{failed_in, key_said, lost_in, number_given, port_in, times_in, totals_in};
 
 use crate::act::Loss;
 use crate::flaw::Flaw;
 use crate::kind::{loss_of, number_of, port_of, times_of};
-use crate::member::{Member, said_for};
+use crate::member::Member;
+use crate::members::Members;
 use crate::names::name_in;
 use cell_records::Amounts;
 use diego_names::Key;
-use serde_json::Value;
 
 /// The port of a process that names none.
 const PORT: u16 = 8080;
@@ -28,10 +28,10 @@ fn or_shape<T: Drop>(found: Option<T>) -> Result<T, Flaw>
 
 /// The number of a member.
 #[tactic(auto, unfolding(crate::specs::Values::number_given))]
-pub(crate) fn number_in(value: &Value, member: Member) -> Result<u32, Flaw>
-    ensures { result ≡ number_given member (view value.now) }
+pub(crate) fn number_in(members: &Members<'_>, member: Member) -> Result<u32, Flaw>
+    ensures { result ≡ number_given member (object_of members.now.object.now) }
 {
-    match said_for(value, member) {
+    match members.said_for(member) {
         Some(said) => or_shape(number_of(said)),
         None => Err(Flaw::BadShape),
     }
@@ -39,10 +39,10 @@ pub(crate) fn number_in(value: &Value, member: Member) -> Result<u32, Flaw>
 
 /// The port, which is 8080 where none is named.
 #[tactic(auto, unfolding(crate::specs::Values::port_in))]
-pub(crate) fn port_in(value: &Value) -> Result<u16, Flaw>
-    ensures { result ≡ port_in (view value.now) }
+pub(crate) fn port_in(members: &Members<'_>) -> Result<u16, Flaw>
+    ensures { result ≡ port_in (object_of members.now.object.now) }
 {
-    match said_for(value, Member::Port) {
+    match members.said_for(Member::Port) {
         Some(said) => or_shape(port_of(said)),
         None => Ok(PORT),
     }
@@ -50,10 +50,10 @@ pub(crate) fn port_in(value: &Value) -> Result<u16, Flaw>
 
 /// How often the line is run: once where it doesn't say.
 #[tactic(auto, unfolding(crate::specs::Values::times_in))]
-pub(crate) fn times_in(value: &Value) -> Result<u32, Flaw>
-    ensures { result ≡ times_in (view value.now) }
+pub(crate) fn times_in(members: &Members<'_>) -> Result<u32, Flaw>
+    ensures { result ≡ times_in (object_of members.now.object.now) }
 {
-    match said_for(value, Member::Times) {
+    match members.said_for(Member::Times) {
         Some(said) => or_shape(times_of(said)),
         None => Ok(1),
     }
@@ -61,10 +61,10 @@ pub(crate) fn times_in(value: &Value) -> Result<u32, Flaw>
 
 /// What is lost of the first call of the line, if anything.
 #[tactic(auto, unfolding(crate::specs::Values::lost_in))]
-pub(crate) fn lost_in(value: &Value) -> Result<Option<Loss>, Flaw>
-    ensures { result ≡ lost_in (view value.now) }
+pub(crate) fn lost_in(members: &Members<'_>) -> Result<Option<Loss>, Flaw>
+    ensures { result ≡ lost_in (object_of members.now.object.now) }
 {
-    match said_for(value, Member::Lost) {
+    match members.said_for(Member::Lost) {
         Some(said) => Ok(Some(or_shape(loss_of(said))?)),
         None => Ok(None),
     }
@@ -72,10 +72,10 @@ pub(crate) fn lost_in(value: &Value) -> Result<Option<Loss>, Flaw>
 
 /// Whether a task failed: it didn't where the line doesn't say.
 #[tactic(auto, unfolding(crate::specs::Values::failed_in))]
-pub(crate) fn failed_in(value: &Value) -> Result<bool, Flaw>
-    ensures { result ≡ failed_in (view value.now) }
+pub(crate) fn failed_in(members: &Members<'_>) -> Result<bool, Flaw>
+    ensures { result ≡ failed_in (object_of members.now.object.now) }
 {
-    match said_for(value, Member::Failed) {
+    match members.said_for(Member::Failed) {
         Some(said) => or_shape(said.as_bool()),
         None => Ok(false),
     }
@@ -83,23 +83,23 @@ pub(crate) fn failed_in(value: &Value) -> Result<bool, Flaw>
 
 /// An instance of a process.
 #[tactic(auto, unfolding(crate::specs::Values::key_said))]
-pub(crate) fn key_in(value: &Value) -> Result<Key, Flaw>
-    ensures { result ≡ key_said (view value.now) }
+pub(crate) fn key_in(members: &Members<'_>) -> Result<Key, Flaw>
+    ensures { result ≡ key_said (object_of members.now.object.now) }
 {
     Ok(Key {
-        process: name_in(value, Member::Process)?,
-        index: number_in(value, Member::Index)?,
+        process: name_in(members, Member::Process)?,
+        index: number_in(members, Member::Index)?,
     })
 }
 
 /// All that a cell has.
 #[tactic(auto, unfolding(crate::specs::Values::totals_in))]
-pub(crate) fn totals_in(value: &Value) -> Result<Amounts, Flaw>
-    ensures { result ≡ totals_in (view value.now) }
+pub(crate) fn totals_in(members: &Members<'_>) -> Result<Amounts, Flaw>
+    ensures { result ≡ totals_in (object_of members.now.object.now) }
 {
     Ok(Amounts {
-        memory: number_in(value, Member::Memory)?,
-        disk: number_in(value, Member::Disk)?,
-        containers: number_in(value, Member::Containers)?,
+        memory: number_in(members, Member::Memory)?,
+        disk: number_in(members, Member::Disk)?,
+        containers: number_in(members, Member::Containers)?,
     })
 }

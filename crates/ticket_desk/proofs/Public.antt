@@ -1,4 +1,4 @@
--- Lemmas for the crates above: what is said of all passes, place by place; and what may go to another thread.
+-- Lemmas for the crates above: what is said of all passes, place by place.
 use Rattle.std.proofs.Common.{◌≡◌, ℕ, zero, suc, ◌<◌, List, [], ◌∷◌, length, get_or, refl, sym, ◌∙◌, subst, arith}
 use Rattle.atomic_table.specs.Seated.{TableId}
 use Rattle.ticket_desk.specs.declared.pass.Pass.{Pass}
@@ -6,8 +6,6 @@ use Rattle.ticket_desk.specs.Views.{EachAt}
 use Rattle.ticket_desk.specs.Passes.{IsPass, IsSamePass, AreAll}
 use Rattle.ticket_desk.proofs.Lists.{get_within}
 use Rattle.ticket_desk.proofs.Closes.{there}
-pub use Rattle.ticket_desk.proofs.desk.Desk.TheSendSync.{the_field_sync as desk_field_sync}
-pub use Rattle.ticket_desk.proofs.pass.Pass.TheSendSync.{the_send as pass_send, the_field_send as pass_field_send}
 
 get_or_any : {A : Type 0} (l : List A) (k : ℕ) (d e : A) → k < length l → get_or l k d ≡ get_or l k e
 get_or_any [] k d e lt = absurd (omega arith)

@@ -1,19 +1,19 @@
 //! `renew`: a cell renews its lease.
 ghost use Rattle.std.specs.Prelude.{◌≡◌};
-ghost use Rattle.serde_json.specs.View.{view};
 ghost use Rattle.scenario_lines.specs.CellActs.{renew_in};
+ghost use Rattle.scenario_lines.specs.Places.{object_of};
 
 use crate::flaw::Flaw;
 use crate::member::Member;
+use crate::members::Members;
 use crate::values::number_in;
 use cell_rep::CellAct;
-use serde_json::Value;
 
 #[tactic(auto, unfolding(crate::specs::CellActs::renew_in))]
-pub(crate) fn renew_in(value: &Value) -> Result<CellAct, Flaw>
-    ensures { result ≡ renew_in (view value.now) }
+pub(crate) fn renew_in(members: &Members<'_>) -> Result<CellAct, Flaw>
+    ensures { result ≡ renew_in (object_of members.now.object.now) }
 {
     Ok(CellAct::Renew {
-        ttl: number_in(value, Member::Ttl)?,
+        ttl: number_in(members, Member::Ttl)?,
     })
 }

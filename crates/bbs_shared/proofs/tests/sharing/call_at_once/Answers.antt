@@ -1,13 +1,13 @@
 -- A pass may be sent to a thread, and the board be shared.
 use denote.Param.Send.{sendable}
 use Rattle.std.proofs.Crossing.{crosses}
-use Rattle.bbs_model.proofs.Public.{command_sync}
-use Rattle.ticket_desk.proofs.Public.{pass_send}
+use Rattle.bbs_model.proofs.command.Command.TheSendSync as command
+use Rattle.ticket_desk.proofs.pass.Pass.TheSendSync as pass
 use Rattle.bbs_shared.proofs.Public.{at_desk_send, shared_sync}
 use Rattle.bbs_shared.proofs.tests.sharing.call_at_once.Goals as goal
 
 pub for_each_mut-requires-send-T : goal.for_each_mut-requires-send-T
-for_each_mut-requires-send-T g c κs within = search (sendable, crosses, pass_send, at_desk_send) depth 40
+for_each_mut-requires-send-T g c κs within = search (sendable, crosses, pass.the_send, at_desk_send) depth 40
 
 pub for_each_mut-requires-sync-F : goal.for_each_mut-requires-sync-F
-for_each_mut-requires-sync-F g c κs within = search (sendable, crosses, shared_sync, command_sync) depth 40
+for_each_mut-requires-sync-F g c κs within = search (sendable, crosses, shared_sync, command.the_sync) depth 40
