@@ -26,7 +26,8 @@ pub record IsRunAlone {D : Type 0} (told : D → Option Past) (script : Script) 
   pub prints : PrintsTo true (words_alone script (board_at v)) held held' faults faults'
   pub board : board_at w ≡ (script_alone script (board_at v)).board
   pub grows : w.log ≡ v.log ++ items_alone script (board_at v)
-  pub writes : v.waits ≡ false → (w.waits ≡ false) × Goes (told v.disk) (told w.disk) (WritesOn (rows_of v) (items_alone script (board_at v)))
+  pub writes : v.waits ≡ false
+      → (w.waits ≡ false) × Goes (told v.disk) (told w.disk) (WritesOn (rows_of v) (items_alone script (board_at v)))
 
 -- each run of serial phases that ends well is such
 abbrev pub RunsAreAlone : {D : Type 0} → (D → Option Past) → Type 0

@@ -35,10 +35,12 @@ pub record Went {D : Type 0} (told : D → Option Past) (by by' name name' : ℕ
   pub own : by_number by more ≡ more
   pub others : (n : ℕ) → n ≢ by → by_number n more ≡ []
   pub disk : Goes (told v.disk) (told w.disk) Extends
-  pub writes : v.waits ≡ false → doubts_in more ≡ 0 → (w.waits ≡ false) × Goes (told v.disk) (told w.disk) (WritesOn (rows_of v) more)
+  pub writes : v.waits ≡ false → doubts_in more ≡ 0
+      → (w.waits ≡ false) × Goes (told v.disk) (told w.disk) (WritesOn (rows_of v) more)
 
 -- the rows that the items behind a log lead to
-pub rows_then : {D : Type 0} (v w : View D) (more : List Item) → w.base ≡ v.base → w.log ≡ v.log ++ more → rows_of w ≡ replay_log (rows_of v) more
+pub rows_then : {D : Type 0} (v w : View D) (more : List Item) → w.base ≡ v.base → w.log ≡ v.log ++ more
+    → rows_of w ≡ replay_log (rows_of v) more
 rows_then v w more base log = ap (λ (r : Rows). replay_log r w.log) base ∙ ap (replay_log v.base) log ∙ replay_behind v.base v.log more
 
 pub went_same : {D : Type 0} (told : D → Option Past) (by name : ℕ) (v : View D) → Went told by by name name v v
@@ -76,8 +78,10 @@ went_on told by by' by'' name name' name'' u v w f g = record {
       let second = g.writes first.0 (no_doubts f.more g.more none).1 in
       let there = rows_then u v f.more f.base f.grows in (
         second.0,
-        goes_then (told u.disk) (told v.disk) (told w.disk) (WritesOn (rows_of u) f.more) (WritesOn (replay_log (rows_of u) f.more) g.more) (WritesOn (rows_of u) (f.more ++ g.more))
-            (λ p q r i j k. writes_then (rows_of u) f.more g.more p q r) first.1 (subst (λ (x : Rows). Goes (told v.disk) (told w.disk) (WritesOn x g.more)) there second.1),
+        goes_then (told u.disk) (told v.disk) (told w.disk) (WritesOn (rows_of u) f.more)
+            (WritesOn (replay_log (rows_of u) f.more) g.more) (WritesOn (rows_of u) (f.more ++ g.more))
+            (λ p q r i j k. writes_then (rows_of u) f.more g.more p q r) first.1
+            (subst (λ (x : Rows). Goes (told v.disk) (told w.disk) (WritesOn x g.more)) there second.1),
       );
 }
   where
