@@ -1,20 +1,20 @@
 -- What a disk reads after many calls.
 use Rattle.std.proofs.Common.{◌≡◌, ℕ, true, List, [], ◌∷◌, ◌++◌, refl, sym, subst}
 use Rattle.disk_trait.specs.Past.{Past, content}
-use Rattle.bbs_model.specs.Replay.{replay_log}
+use Rattle.bbs_model.specs.Replay.{after_item, replay_log}
 use Rattle.bbs_model.specs.Step.{rows_after}
 use Rattle.bbs_model.specs.declared.command.Command.{Command}
 use Rattle.bbs_model.specs.declared.item.Item.{Item}
 use Rattle.bbs_model.specs.declared.item.Item.TheVariants.{Done, Doubt}
 use Rattle.bbs_model.specs.declared.rows.Rows.{Rows}
-use Rattle.bbs_laws.proofs.Public.{replay_log-append}
 use Rattle.bbs_board.specs.Stops.{Stores}
 use Rattle.bbs_board.specs.Written.{Reading, OpensTo, ReadsAs, stored_behind, written_behind, WritesOn}
 use Rattle.bbs_board.proofs.Adds.{same_reading}
 
 -- the rows that the items behind a log lead to
 pub replay_behind : (base : Rows) (log more : List Item) → replay_log base (log ++ more) ≡ replay_log (replay_log base log) more
-replay_behind base log more = replay_log-append base log more
+replay_behind base [] more = refl
+replay_behind base (item ∷ log) more = replay_behind (after_item base item) log more
 
 written_then : (rows : Rows) (r : Reading) (xs ys : List Item) → written_behind rows r (xs ++ ys) ≡ written_behind (replay_log rows xs) (written_behind rows r xs) ys
 written_then rows r [] ys = refl

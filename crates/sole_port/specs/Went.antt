@@ -23,7 +23,7 @@ seen_of by v = record { base = v.base; seen = v.log; mine = by_number by v.log }
 
 -- the caller is the same and so is the reference to the board, which was loaded in the same way; more was done,
 -- by this caller alone; the disk has gone on; and where nothing waited and nothing is in doubt it reads as it
--- did, with what was done behind it
+-- did, with each item that was done stored behind it at the rows that it came to
 pub record Went {D : Type 0} (told : D → Option Past) (by by' name name' : ℕ) (v w : View D) : Type 0 where
   pub by_is : by' ≡ by
   pub name_is : name' ≡ name
@@ -41,7 +41,8 @@ pub record Went {D : Type 0} (told : D → Option Past) (by by' name name' : ℕ
 -- the rows that the items behind a log lead to
 pub rows_then : {D : Type 0} (v w : View D) (more : List Item) → w.base ≡ v.base → w.log ≡ v.log ++ more
     → rows_of w ≡ replay_log (rows_of v) more
-rows_then v w more base log = ap (λ (r : Rows). replay_log r w.log) base ∙ ap (replay_log v.base) log ∙ replay_behind v.base v.log more
+rows_then v w more base log =
+    ap (λ (r : Rows). replay_log r w.log) base ∙ ap (replay_log v.base) log ∙ replay_behind v.base v.log more
 
 pub went_same : {D : Type 0} (told : D → Option Past) (by name : ℕ) (v : View D) → Went told by by name name v v
 went_same told by name v = record {
@@ -78,8 +79,8 @@ went_on told by by' by'' name name' name'' u v w f g = record {
       let second = g.writes first.0 (no_doubts f.more g.more none).1 in
       let there = rows_then u v f.more f.base f.grows in (
         second.0,
-        goes_then (told u.disk) (told v.disk) (told w.disk) (WritesOn (rows_of u) f.more)
-            (WritesOn (replay_log (rows_of u) f.more) g.more) (WritesOn (rows_of u) (f.more ++ g.more))
+        goes_then (told u.disk) (told v.disk) (told w.disk)
+            (WritesOn (rows_of u) f.more) (WritesOn (replay_log (rows_of u) f.more) g.more) (WritesOn (rows_of u) (f.more ++ g.more))
             (λ p q r i j k. writes_then (rows_of u) f.more g.more p q r) first.1
             (subst (λ (x : Rows). Goes (told v.disk) (told w.disk) (WritesOn x g.more)) there second.1),
       );
