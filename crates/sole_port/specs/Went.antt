@@ -15,7 +15,8 @@ use Rattle.bbs_model.specs.declared.rows.Rows.{Rows}
 use Rattle.bbs_board.specs.Doubts.{doubts_in}
 use Rattle.bbs_board.specs.View.{View, rows_of}
 use Rattle.bbs_board.specs.Written.{WritesOn}
-use Rattle.bbs_board.proofs.Public.{no_doubts, replay_behind, writes_nothing, writes_then}
+use Rattle.bbs_board.proofs.Doubting.{no_doubts}
+use Rattle.bbs_board.proofs.Writing.{replay_behind, writes_nothing, writes_then}
 
 -- what its one caller has seen of a board: all of the log
 abbrev pub seen_of : {D : Type 0} → ℕ → View D → PortView
