@@ -25,10 +25,13 @@ use crate::{TopEnd, diego_top};
 use byte_ports::{Gate, Sink, Source};
 use disk_trait::MemoryDisk;
 use std::alloc::Global;
+use std::sync::Wait;
+use std::thread::Threads;
 
 /// The same as `diego_top`, with the sharper promise for a disk that never falls silent: what is opened,
 /// refused or done follows from what the disk held when it was handed in, and nothing is asked of its end.
-pub fn diego_top_in_memory<S: Source, K: Sink, G: Gate>(
+pub fn diego_top_in_memory<R: Threads + Wait + Sync, S: Source, K: Sink, G: Gate + Sync>(
+    rt: &R,
     alloc: Global,
     words: &[String],
     source: S,
@@ -96,5 +99,5 @@ pub fn diego_top_in_memory<S: Source, K: Sink, G: Gate>(
         → (Rose (faults_of disk) (faults_of result.disk) → ⊥)
         → (result.status ≡ 0) ⊎ (result.status ≡ 7) }
 {
-    diego_top(alloc, words, source, sink, disk, gate)
+    diego_top(rt, alloc, words, source, sink, disk, gate)
 }

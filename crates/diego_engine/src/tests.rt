@@ -17,7 +17,14 @@ use disk_trait::MemoryDisk;
 use scenario_lines::Answered;
 use std::alloc::Global;
 use std::process::Abort;
+use std::sync::Wait;
 use std::test::Fail;
+use std::thread::Threads;
+
+/// What a test needs of the runtime where the program runs in it.
+trait Runtime: Abort + Threads + Wait + Sync {}
+
+impl<R: Abort + Threads + Wait + Sync> Runtime for R {}
 
 /// What a run meets. The calls that fail are listed by their numbers, from 1.
 #[derive(Clone, Copy)]
@@ -51,7 +58,8 @@ fn words(alloc: Global, texts: &[&str]) -> Result<Vec<String>, Fail> {
 }
 
 /// What the words do where this is given, and actors are held up at this gate.
-fn left_at<G: Gate>(
+fn left_at<R: Runtime, G: Gate + Sync>(
+    rt: &R,
     alloc: Global,
     texts: &[&str],
     given: &Given<'_>,
@@ -72,7 +80,7 @@ fn left_at<G: Gate>(
         marks,
         answers,
         reports,
-    } = diego_top_in_memory(alloc, &words, source, sink, disk, gate);
+    } = diego_top_in_memory(rt, alloc, &words, source, sink, disk, gate);
     Ok(Left {
         status,
         sink,
@@ -85,16 +93,21 @@ fn left_at<G: Gate>(
 }
 
 /// The same, where nobody is held up.
-fn left_by(alloc: Global, texts: &[&str], given: &Given<'_>) -> Result<Left, Fail> {
-    left_at(alloc, texts, given, &OpenGate)
+fn left_by(
+    rt: &impl Runtime,
+    alloc: Global,
+    texts: &[&str],
+    given: &Given<'_>,
+) -> Result<Left, Fail> {
+    left_at(rt, alloc, texts, given, &OpenGate)
 }
 
-fn run(alloc: Global, given: &Given<'_>) -> Result<Left, Fail> {
-    left_by(alloc, &["diego_run", "run"], given)
+fn run(rt: &impl Runtime, alloc: Global, given: &Given<'_>) -> Result<Left, Fail> {
+    left_by(rt, alloc, &["diego_run", "run"], given)
 }
 
-fn prepare(alloc: Global, given: &Given<'_>) -> Result<Left, Fail> {
-    left_by(alloc, &["diego_run", "prepare"], given)
+fn prepare(rt: &impl Runtime, alloc: Global, given: &Given<'_>) -> Result<Left, Fail> {
+    left_by(rt, alloc, &["diego_run", "prepare"], given)
 }
 
 /// Checks how a run ended, and the whole of what it printed.

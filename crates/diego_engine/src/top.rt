@@ -30,6 +30,8 @@ use program_run::{Ended, run};
 use run_laws::played_runs_are_faithful;
 use serial_runs::runs_are_alone;
 use std::alloc::Global;
+use std::sync::Wait;
+use std::thread::Threads;
 use still_words::{Asked, read_words, still_top};
 
 fn asks_for_a_run(alloc: Global, words: &[String]) -> bool
@@ -63,7 +65,8 @@ fn top_end<S, K, D>(ended: Ended, source: S, sink: K, disk: D) -> TopEnd<S, K, D
     }
 }
 
-fn whole_top<S: Source, K: Sink, D: Disk, G: Gate>(
+fn whole_top<R: Threads + Wait + Sync, S: Source, K: Sink, D: Disk + Drop + Send, G: Gate + Sync>(
+    rt: &R,
     alloc: Global,
     words: &[String],
     mut source: S,
@@ -81,7 +84,7 @@ fn whole_top<S: Source, K: Sink, D: Disk, G: Gate>(
     if !asks_for_a_run(alloc, words) {
         return still_top(alloc, words, source, sink, disk);
     }
-    let (ended, disk) = run(alloc, &mut source, &mut sink, disk, gate);
+    let (ended, disk) = run(rt, alloc, &mut source, &mut sink, disk, gate);
     top_end(ended, source, sink, disk)
 }
 
@@ -89,14 +92,13 @@ fn whole_top<S: Source, K: Sink, D: Disk, G: Gate>(
 /// and done to the disk is told by `ends`, and the other clauses say of each status where it comes from.
 /// The clauses on content speak of a disk that tells its past; one that falls silent on the way has
 /// only its causes and its safety.
-pub fn diego_top<S: Source, K: Sink, D: Disk, G: Gate>(
-    alloc: Global,
-    words: &[String],
-    source: S,
-    sink: K,
-    disk: D,
-    gate: &G,
-) -> TopEnd<S, K, D>
+pub fn diego_top<
+    R: Threads + Wait + Sync,
+    S: Source,
+    K: Sink,
+    D: Disk + Drop + Send,
+    G: Gate + Sync,
+>(rt: &R, alloc: Global, words: &[String], source: S, sink: K, disk: D, gate: &G) -> TopEnd<S, K, D>
     // What was acknowledged, a stop leaves; nothing else shows but a doubt; and each doubt has a fault of
     // the disk for its cause.
     ensures headline { asked_of (map (λ w. string_bytes w) words.now) ≡ Some wanted.Run
@@ -184,5 +186,5 @@ pub fn diego_top<S: Source, K: Sink, D: Disk, G: Gate>(
 {
     played_runs_are_faithful::<D>();
     runs_are_alone::<D>();
-    whole_top(alloc, words, source, sink, disk, gate)
+    whole_top(rt, alloc, words, source, sink, disk, gate)
 }

@@ -18,6 +18,8 @@ use std::io::{Input, Print};
 use std::marker::Brand;
 use std::process::ExitCode;
 use std::rt::Files;
+use std::sync::Wait;
+use std::thread::Threads;
 use streams::Streams;
 
 /// The status where there is no memory for the words or the names of the files. No file is touched.
@@ -37,7 +39,7 @@ fn file_names(alloc: Global) -> Result<(String, String), AllocError>
 }
 
 /// Standard output has no buffer, so nothing is left to be flushed at the end.
-fn status<R: Env + Input + Print + Files<File = File> + AllocGlobal>(
+fn status<R: Env + Input + Print + Files<File = File> + AllocGlobal + Threads + Wait + Sync>(
     rt: &R,
 ) -> Result<u8, AllocError> {
     let words = words::words(rt)?;
@@ -54,7 +56,7 @@ fn status<R: Env + Input + Print + Files<File = File> + AllocGlobal>(
         marks: _,
         answers: _,
         reports: _,
-    } = diego_top(rt.alloc(), &words, source, sink, disk, &OpenGate);
+    } = diego_top(rt, rt.alloc(), &words, source, sink, disk, &OpenGate);
     Ok(status)
 }
 

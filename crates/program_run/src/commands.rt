@@ -18,12 +18,15 @@ use program_edge::{ended_before, open};
 use scenario_lines::Script;
 use scenario_runs::{Played, play};
 use std::alloc::Global;
+use std::sync::Wait;
+use std::thread::Threads;
 
 /// Plays a scenario on a board that was just loaded, closes it, and gives the disk back.
-fn play_on<K: Sink, D: Disk, G: Gate>(
+fn play_on<R: Threads + Wait + Sync, K: Sink, D: Disk + Drop + Send, G: Gate + Sync>(
+    rt: &R,
     alloc: Global,
     script: &Script,
-    mut board: Board<D>,
+    board: Board<D>,
     sink: &mut K,
     gate: &G,
 ) -> (Ended, D)
@@ -38,11 +41,12 @@ fn play_on<K: Sink, D: Disk, G: Gate>(
         (ports_of (K.held sink.new) (K.faults sink.new)
         (D.told result.1) (D.fault_count result.1) (D.moment result.1)) }
 {
+    let (board, played) = play(rt, alloc, script, board, sink, gate);
     let Played {
         ending,
         answers,
         reports,
-    } = play(alloc, script, &mut board, sink, gate);
+    } = played;
     let Closed { disk, log, marks } = board.close();
     let ended = Ended {
         ending,
@@ -55,7 +59,8 @@ fn play_on<K: Sink, D: Disk, G: Gate>(
 }
 
 /// Plays a scenario on the board that the disk holds, and gives the disk back.
-fn run_script<K: Sink, D: Disk, G: Gate>(
+fn run_script<R: Threads + Wait + Sync, K: Sink, D: Disk + Drop + Send, G: Gate + Sync>(
+    rt: &R,
     alloc: Global,
     script: &Script,
     sink: &mut K,
@@ -70,14 +75,15 @@ fn run_script<K: Sink, D: Disk, G: Gate>(
         (D.told result.1) (D.fault_count result.1) (D.moment result.1)) }
 {
     match open(alloc, sink, disk) {
-        Ok(board) => play_on(alloc, script, board, sink, gate),
+        Ok(board) => play_on(rt, alloc, script, board, sink, gate),
         Err((ending, disk)) => (idle(alloc, ending), disk),
     }
 }
 
 /// Reads a scenario, and plays it on the board that the disk holds. The source is read whole before the
 /// disk is looked at.
-pub fn run<S: Source, K: Sink, D: Disk, G: Gate>(
+pub fn run<R: Threads + Wait + Sync, S: Source, K: Sink, D: Disk + Drop + Send, G: Gate + Sync>(
+    rt: &R,
     alloc: Global,
     source: &mut S,
     sink: &mut K,
@@ -94,7 +100,7 @@ pub fn run<S: Source, K: Sink, D: Disk, G: Gate>(
     ensures unopened { is_before_board (status_of result.0.ending) ≡ true → result.1 ≡ disk }
 {
     match read(alloc, source) {
-        Ok(script) => run_script(alloc, &script, sink, disk, gate),
+        Ok(script) => run_script(rt, alloc, &script, sink, disk, gate),
         Err(ending) => (idle(alloc, ended_before(alloc, sink, ending)), disk),
     }
 }

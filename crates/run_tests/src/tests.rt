@@ -1,6 +1,7 @@
 //! Scenarios over a disk in memory, by the top call. Texts and bytes were worked out from the rules. Long ones stand
 //! above their test: the scenario (`_LINES`), what it prints (`_TEXT`), and the rows behind it (`_ROWS`).
 mod answers;
+mod at_once;
 mod boards;
 mod cell_answers;
 mod cell_states;

@@ -46,7 +46,7 @@ module _ (script : Script) (is_script : IsScript script) (actors : List ActorSta
   pub as_many : length actors ≡ length script.actors
   as_many = same.length_is ∙ length-map script.actors (λ (a : Actor). new_actor a.cell a.name)
 
-  pub few_actors : length actors < 2 ^ 32
+  pub few_actors : length actors < 4096
   few_actors = omega (arith, as_many, is_script.few)
 
   module _ (phase : Phase) (among : Contains script.phases phase) where

@@ -21,11 +21,13 @@ use byte_ports::{Gate, Sink};
 use convergence::Report;
 use diego_names::OutOfMemory;
 use disk_trait::Disk;
-use phase_runs::run_phase;
+use phase_threads::run_phase;
 use program_edge::{Ending, written};
 use record_print::summary_text;
 use scenario_lines::{Answered, Phase, Script};
 use std::alloc::Global;
+use std::sync::Wait;
+use std::thread::Threads;
 
 /// What came of a scenario.
 #[derive(Drop)]
@@ -41,38 +43,40 @@ pub struct Played {
 
 /// Runs a phase behind phases in which the disk never failed, and makes its text. In `Err` memory ran
 /// out, and what is kept is as before.
-fn run_and_tell<D: Disk, G: Gate>(
+fn run_and_tell<R: Threads + Wait + Sync, D: Disk + Drop + Send, G: Gate + Sync>(
+    rt: &R,
     alloc: Global,
     script: &Script,
-    board: &mut Board<D>,
+    board: Board<D>,
     gate: &G,
     actors: &mut [ActorState],
     phase: &Phase,
     kept: &mut Kept,
-) -> Result<Vec<u8>, OutOfMemory>
+) -> (Board<D>, Result<Vec<u8>, OutOfMemory>)
     requires script { IsScript script.now }
     requires among { Contains script.now.phases phase.now }
     requires same { AreSameActors (starting_actors script.now.actors) actors.old }
-    requires calm { doubts_in board.old.log ≡ 0 }
+    requires calm { doubts_in board.log ≡ 0 }
     requires few { kept.old.phases + 1 < 2 ^ 64 }
-    ensures told { IfOk result (λ text. IsPhaseTold D.told script.now phase.now actors.old actors.new
-        board.old board.new kept.old kept.new text.items) }
-    ensures counted { OnOk result (kept.new.phases ≡ kept.old.phases + 1) }
-    ensures untold { OnErr result ((kept.new ≡ kept.old)
-        × IsUntold D.told phase.now actors.old board.old board.new) }
+    ensures told { IfOk result.1 (λ text. IsPhaseTold D.told script.now phase.now
+        actors.old actors.new board result.0 kept.old kept.new text.items) }
+    ensures counted { OnOk result.1 (kept.new.phases ≡ kept.old.phases + 1) }
+    ensures untold { OnErr result.1 ((kept.new ≡ kept.old)
+        × IsUntold D.told phase.now actors.old board result.0) }
 {
     let from = board.place();
-    let ran = match run_phase(alloc, board, gate, actors, phase) {
+    let (board, end) = run_phase(rt, alloc, board, gate, actors, phase);
+    let ran = match end {
         Ok(ran) => ran,
-        Err(want) => return Err(want),
+        Err(want) => return (board, Err(want)),
     };
-    let told = match tell(alloc, script, phase, board, from, &ran) {
+    let told = match tell(alloc, script, phase, &board, from, &ran) {
         Ok(told) => told,
-        Err(want) => return Err(want),
+        Err(want) => return (board, Err(want)),
     };
     match kept.add(told.answers, ran.report) {
-        Ok(()) => Ok(told.text),
-        Err(want) => Err(want),
+        Ok(()) => (board, Ok(told.text)),
+        Err(want) => (board, Err(want)),
     }
 }
 
@@ -89,62 +93,68 @@ fn ending_by(doubts: u64) -> Ending
 
 /// Runs a phase behind phases in which the disk never failed, and prints its text. `Done` says that the
 /// next one may run.
-fn play_phase<K: Sink, D: Disk, G: Gate>(
+fn play_phase<R: Threads + Wait + Sync, K: Sink, D: Disk + Drop + Send, G: Gate + Sync>(
+    rt: &R,
     alloc: Global,
     script: &Script,
-    board: &mut Board<D>,
+    board: Board<D>,
     sink: &mut K,
     gate: &G,
     actors: &mut [ActorState],
     phase: &Phase,
     kept: &mut Kept,
-) -> Ending
+) -> (Board<D>, Ending)
     requires script { IsScript script.now }
     requires among { Contains script.now.phases phase.now }
     requires same { AreSameActors (starting_actors script.now.actors) actors.old }
-    requires calm { doubts_in board.old.log ≡ 0 }
+    requires calm { doubts_in board.log ≡ 0 }
     requires few { kept.old.phases + 1 < 2 ^ 64 }
-    ensures ends { PhaseEnds D.told script.now phase.now result actors.old actors.new
-        board.old board.new kept.old kept.new
+    ensures ends { PhaseEnds D.told script.now phase.now result.1 actors.old actors.new
+        board result.0 kept.old kept.new
         (K.held sink.old) (K.held sink.new) (K.faults sink.old) (K.faults sink.new) }
 {
     let from = board.place() as usize;
-    let text = match run_and_tell(alloc, script, board, gate, actors, phase, kept) {
+    let (board, told) = run_and_tell(rt, alloc, script, board, gate, actors, phase, kept);
+    let text = match told {
         Ok(text) => text,
-        Err(_) => return Ending::OutOfMemory,
+        Err(_) => return (board, Ending::OutOfMemory),
     };
     if !written(sink, &text) {
-        return Ending::Unwritten;
+        return (board, Ending::Unwritten);
     }
-    ending_by(doubts_in(&board.log()[from..]))
+    let ending = ending_by(doubts_in(&board.log()[from..]));
+    (board, ending)
 }
 
 /// Runs the phases up to the end of the script or the first in which the disk fails, and prints the
 /// text of each when it has ended.
-fn play_phases<K: Sink, D: Disk, G: Gate>(
+fn play_phases<R: Threads + Wait + Sync, K: Sink, D: Disk + Drop + Send, G: Gate + Sync>(
+    rt: &R,
     alloc: Global,
     script: &Script,
-    board: &mut Board<D>,
+    mut board: Board<D>,
     sink: &mut K,
     gate: &G,
     actors: &mut [ActorState],
     kept: &mut Kept,
-) -> Ending
+) -> (Board<D>, Ending)
     requires script { IsScript script.now }
     requires begin { actors.old ≡ starting_actors script.now.actors }
     requires kept { kept.old ≡ nothing_kept }
-    requires fresh { board.old.log ≡ [] }
-    ensures ends { PhasesEnd D.told script.now result board.old board.new kept.new
+    requires fresh { board.log ≡ [] }
+    ensures ends { PhasesEnd D.told script.now result.1 board result.0 kept.new
         (K.held sink.old) (K.held sink.new) (K.faults sink.old) (K.faults sink.new) }
 {
     let phases = script.phases.items();
     for phase in phases {
-        match play_phase(alloc, script, board, sink, gate, actors, phase, kept) {
+        let (left, ending) = play_phase(rt, alloc, script, board, sink, gate, actors, phase, kept);
+        board = left;
+        match ending {
             Ending::Done => {}
-            other => return other,
+            other => return (board, other),
         }
     }
-    Ending::Done
+    (board, Ending::Done)
 }
 
 /// Prints the summary, behind a text that was printed whole and ended so.
@@ -186,34 +196,56 @@ fn finish<K: Sink, D: Disk>(
     }
 }
 
+/// Plays the phases with the actors as they begin, and prints the summary.
+fn play_all<R: Threads + Wait + Sync, K: Sink, D: Disk + Drop + Send, G: Gate + Sync>(
+    rt: &R,
+    alloc: Global,
+    script: &Script,
+    board: Board<D>,
+    sink: &mut K,
+    gate: &G,
+    kept: &mut Kept,
+) -> (Board<D>, Ending)
+    requires script { IsScript script.now }
+    requires kept { kept.old ≡ nothing_kept }
+    requires fresh { board.log ≡ [] }
+    ensures plays { Plays D.told script.now result.1 kept.new.answers kept.new.reports
+        board result.0
+        (K.held sink.old) (K.held sink.new) (K.faults sink.old) (K.faults sink.new) }
+{
+    let mut actors = match actors_of(alloc, script.actors.items()) {
+        Ok(actors) => actors,
+        Err(_) => return (board, Ending::OutOfMemory),
+    };
+    let (board, ending) = play_phases(rt, alloc, script, board, sink, gate, &mut actors, kept);
+    let ending = finish(alloc, &board, sink, ending, kept.phases());
+    (board, ending)
+}
+
 /// Plays a scenario on a board that was just loaded: its phases one after another, and the text of
 /// each when it has ended. A phase in which the disk fails is the last one that runs; behind it, or
 /// behind the last phase, the summary is printed.
-pub fn play<K: Sink, D: Disk, G: Gate>(
+pub fn play<R: Threads + Wait + Sync, K: Sink, D: Disk + Drop + Send, G: Gate + Sync>(
+    rt: &R,
     alloc: Global,
     script: &Script,
-    board: &mut Board<D>,
+    board: Board<D>,
     sink: &mut K,
     gate: &G,
-) -> Played
+) -> (Board<D>, Played)
     requires script { IsScript script.now }
-    requires fresh { board.old.log ≡ [] }
-    ensures plays { Plays D.told script.now result.ending result.answers.items result.reports.items
-        board.old board.new
+    requires fresh { board.log ≡ [] }
+    ensures plays { Plays D.told script.now result.1.ending
+        result.1.answers.items result.1.reports.items board result.0
         (K.held sink.old) (K.held sink.new) (K.faults sink.old) (K.faults sink.new) }
 {
     let mut kept = Kept::new(alloc);
-    let ending = match actors_of(alloc, script.actors.items()) {
-        Ok(mut actors) => {
-            let ending = play_phases(alloc, script, board, sink, gate, &mut actors, &mut kept);
-            finish(alloc, board, sink, ending, kept.phases())
-        }
-        Err(_) => Ending::OutOfMemory,
-    };
+    let (board, ending) = play_all(rt, alloc, script, board, sink, gate, &mut kept);
     let (answers, reports) = kept.into_lists();
-    Played {
+    let played = Played {
         ending,
         answers,
         reports,
-    }
+    };
+    (board, played)
 }

@@ -9,7 +9,9 @@ use program_edge::Ending;
 use scenario_reader::read_script;
 use std::alloc::Global;
 use std::process::Abort;
+use std::sync::Wait;
 use std::test::Fail;
+use std::thread::Threads;
 
 /// A scenario on an empty board, what fails in it, and what comes of it.
 #[derive(Clone, Copy)]
@@ -47,9 +49,10 @@ const HAS_JOINED: &str = r#"{"actor":"c1","answer":"ok","call":"join","line":2,"
 "#;
 
 const NOT_JOINED: &str = r#"{"actor":"c1","answer":"disk","call":"join","line":2,"subject":"c1"}
+{"actor":"c1","answer":"ok","call":"join","line":3,"subject":"c1"}
 "#;
 
-const DESIRED: &str = r#"{"actor":"cli","answer":"ok","call":"desire","line":3,"subject":"web"}
+const DESIRED: &str = r#"{"actor":"cli","answer":"ok","call":"desire","line":4,"subject":"web"}
 {"event":"created","row":{"disk":128,"domain":"apps","instances":1,"memory":64,"port":8080,"process":"web","route":null,"tag":null},"table":"desired"}
 "#;
 
@@ -57,29 +60,29 @@ const CELL: &str =
     r#"{"event":"created","row":{"cell":"c1","containers":10,"disk":4096,"epoch":0,"evacuating":false,"memory":1024,"tag":null,"until":600,"zone":"z1"},"table":"cell"}
 "#;
 
-const HAS_LEFT: &str = r#"{"actor":"cli","answer":"ok","call":"undesire","line":5,"subject":"web"}
-{"actor":"c1","answer":"none","call":"settle","line":6,"subject":"c1"}
+const HAS_LEFT: &str = r#"{"actor":"cli","answer":"ok","call":"undesire","line":6,"subject":"web"}
+{"actor":"c1","answer":"none","call":"settle","line":7,"subject":"c1"}
 {"event":"removed","row":{"disk":128,"domain":"apps","instances":1,"memory":64,"port":8080,"process":"web","route":null,"tag":null},"table":"desired"}
 "#;
 
 const PLACED: &str =
-    r#"{"asked":1,"complete":true,"foreign":0,"line":5,"lost":0,"op":"round","own":2,"refused":0,"stopped":0,"unplaced":[]}
+    r#"{"asked":1,"complete":true,"foreign":0,"line":6,"lost":0,"op":"round","own":2,"refused":0,"stopped":0,"unplaced":[]}
 {"event":"created","row":{"cell":null,"count":0,"error":false,"index":0,"instance":null,"presence":"ordinary","process":"web","since":1,"state":"unclaimed"},"table":"actual"}
 {"event":"changed","row":{"cell":"c1","count":0,"error":false,"index":0,"instance":"0.1","presence":"ordinary","process":"web","since":1,"state":"claimed"},"table":"actual"}
 "#;
 
-/// Two phases, in which nothing fails.
-const TWO: Case<'static> = Case {
-    script: &[AT, JOIN, DESIRE, LEAVE],
+/// Three phases, in which nothing fails. In the last one two actors have a line, and one of them a call.
+const THREE: Case<'static> = Case {
+    script: &[AT, JOIN, AT, DESIRE, LEAVE],
     calls: &[],
     puts: &[],
     ending: Ending::Done,
     text: &[
         HAS_JOINED,
-        DESIRED,
         CELL,
+        DESIRED,
         HAS_LEFT,
-        "{\"done\":3,\"doubts\":0,\"next\":3,\"phases\":2}\n",
+        "{\"done\":3,\"doubts\":0,\"next\":3,\"phases\":3}\n",
     ],
     answers: 4,
     reports: 0,
@@ -112,15 +115,15 @@ fn begin(alloc: Global, case: &Case<'_>) -> Result<Board<MemoryDisk>, Fail>
     }
 }
 
-fn run(alloc: Global, case: &Case<'_>) -> Result<Left, Fail> {
+fn run<R: Threads + Wait + Sync>(rt: &R, alloc: Global, case: &Case<'_>) -> Result<Left, Fail> {
     let text = text_of(alloc, case.script)?;
     if text.len() > 10_000 {
         Err("the scenario is short")?;
     }
     let script = read_script(alloc, &text)?;
     let mut sink = MemorySink::new(alloc, case.puts.to_vec(alloc)?);
-    let mut board = begin(alloc, case)?;
-    let played = play(alloc, &script, &mut board, &mut sink, &OpenGate);
+    let board = begin(alloc, case)?;
+    let (board, played) = play(rt, alloc, &script, board, &mut sink, &OpenGate);
     let Closed {
         disk: _,
         log: _,
@@ -129,8 +132,12 @@ fn run(alloc: Global, case: &Case<'_>) -> Result<Left, Fail> {
     Ok(Left { played, sink })
 }
 
-fn ends(rt: &impl Abort, alloc: Global, case: &Case<'_>) -> Result<(), Fail> {
-    let left = run(alloc, case)?;
+fn ends<R: Abort + Threads + Wait + Sync>(
+    rt: &R,
+    alloc: Global,
+    case: &Case<'_>,
+) -> Result<(), Fail> {
+    let left = run(rt, alloc, case)?;
     let text = text_of(alloc, case.text)?;
     assert_eq!(rt; left.sink.bytes(), text.as_slice());
     assert_eq!(rt; left.played.ending, case.ending);
@@ -145,28 +152,28 @@ fn each_phase_is_told_and_then_the_summary(rt: HostRuntime) -> Result<(), Fail> 
         script: &[],
         text: &["{\"done\":0,\"doubts\":0,\"next\":0,\"phases\":0}\n"],
         answers: 0,
-        ..TWO
+        ..THREE
     };
     let empty = Case {
         script: &[AT, AT],
         text: &["{\"done\":0,\"doubts\":0,\"next\":0,\"phases\":2}\n"],
         answers: 0,
-        ..TWO
+        ..THREE
     };
     let round = Case {
-        script: &[AT, JOIN, DESIRE, ROUND],
+        script: &[AT, JOIN, AT, DESIRE, ROUND],
         text: &[
             HAS_JOINED,
-            DESIRED,
             CELL,
+            DESIRED,
             PLACED,
-            "{\"done\":4,\"doubts\":0,\"next\":4,\"phases\":2}\n",
+            "{\"done\":4,\"doubts\":0,\"next\":4,\"phases\":3}\n",
         ],
         answers: 2,
         reports: 1,
-        ..TWO
+        ..THREE
     };
-    for case in [TWO, none, empty, round] {
+    for case in [THREE, none, empty, round] {
         ends(&rt, rt.alloc(), &case)?;
     }
     Ok(())
@@ -175,34 +182,36 @@ fn each_phase_is_told_and_then_the_summary(rt: HostRuntime) -> Result<(), Fail> 
 #[test]
 fn no_phase_runs_behind_a_fault(rt: HostRuntime) -> Result<(), Fail> {
     let doubt = Case {
+        script: &[AT, JOIN, JOIN, LEAVE],
         calls: &[13],
         ending: Ending::Doubt,
         text: &[
             NOT_JOINED,
-            DESIRED,
+            CELL,
             "{\"done\":1,\"doubts\":1,\"next\":1,\"phases\":1}\n",
         ],
         answers: 2,
-        ..TWO
+        ..THREE
     };
     let first = Case {
         puts: &[1],
         ending: Ending::Unwritten,
         text: &[],
-        answers: 2,
-        ..TWO
+        answers: 1,
+        ..THREE
     };
     let second = Case {
         puts: &[2],
         ending: Ending::Unwritten,
-        text: &[HAS_JOINED, DESIRED, CELL],
-        ..TWO
+        text: &[HAS_JOINED, CELL],
+        answers: 2,
+        ..THREE
     };
     let last = Case {
-        puts: &[3],
+        puts: &[4],
         ending: Ending::Unwritten,
-        text: &[HAS_JOINED, DESIRED, CELL, HAS_LEFT],
-        ..TWO
+        text: &[HAS_JOINED, CELL, DESIRED, HAS_LEFT],
+        ..THREE
     };
     for case in [doubt, first, second, last] {
         ends(&rt, rt.alloc(), &case)?;

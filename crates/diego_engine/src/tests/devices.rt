@@ -22,7 +22,7 @@ fn a_disk_that_fails_at_the_opening_or_a_preparing_ends_it(rt: HostRuntime) -> R
             calls: &[call],
             ..first_run()
         };
-        let left = run(rt.alloc(), &given)?;
+        let left = run(&rt, rt.alloc(), &given)?;
         ends(&rt, &left, 5, DISK);
         tells_nothing(&rt, &left);
         assert_eq!(rt; left.disk.clock(), call);
@@ -34,7 +34,7 @@ fn a_disk_that_fails_at_the_opening_or_a_preparing_ends_it(rt: HostRuntime) -> R
             a: &[],
             ..first_run()
         };
-        let left = prepare(rt.alloc(), &given)?;
+        let left = prepare(&rt, rt.alloc(), &given)?;
         ends(&rt, &left, 5, DISK);
         tells_nothing(&rt, &left);
         assert_eq!(rt; left.disk.clock(), call);
@@ -50,7 +50,7 @@ fn a_disk_that_fails_in_the_call_leaves_a_doubt(rt: HostRuntime) -> Result<(), F
             calls: &[call],
             ..first_run()
         };
-        let left = run(rt.alloc(), &given)?;
+        let left = run(&rt, rt.alloc(), &given)?;
         ends(&rt, &left, 5, DOUBT);
         let item = Item::Doubt(1, command()?);
         assert_eq!(rt; left.log.as_slice(), [item].as_slice());
@@ -70,13 +70,13 @@ fn a_sink_that_fails_ends_a_run_and_leaves_other_endings(rt: HostRuntime) -> Res
         puts: &[1],
         ..first_run()
     };
-    let left = run(rt.alloc(), &given)?;
+    let left = run(&rt, rt.alloc(), &given)?;
     ends(&rt, &left, 4, "");
     assert_eq!(rt; left.log.len(), 1);
     assert_eq!(rt; left.disk.bytes(Area::A), STORED.as_slice());
-    let left = left_by(rt.alloc(), &["diego_run", "help"], &given)?;
+    let left = left_by(&rt, rt.alloc(), &["diego_run", "help"], &given)?;
     ends(&rt, &left, 1, "");
-    let left = run(rt.alloc(), &Given { a: &[], ..given })?;
+    let left = run(&rt, rt.alloc(), &Given { a: &[], ..given })?;
     ends(&rt, &left, 6, "");
     Ok(())
 }
@@ -130,7 +130,7 @@ fn a_sink_that_fails_in_mid_text_holds_its_front(rt: HostRuntime) -> Result<(), 
             marks: _,
             answers: _,
             reports: _,
-        } = diego_top(alloc, &words, source, sink, disk, &OpenGate);
+        } = diego_top(&rt, alloc, &words, source, sink, disk, &OpenGate);
         assert_eq!(rt; ended, status);
         assert_eq!(rt; Some(narrow.bytes.as_slice()), TEXT.as_bytes().get(..space));
     }

@@ -1,9 +1,8 @@
 //! Runs that end before the board is opened, and runs of what is no board.
 use super::bytes::{PREPARED, STORED, first_run};
-use super::{Given, ends, left_by, run, tells_nothing};
+use super::{Given, Runtime, ends, left_by, run, tells_nothing};
 use disk_trait::{Area, Disk};
 use std::alloc::Global;
-use std::process::Abort;
 use std::test::Fail;
 
 const NO_BOARD: &str = "{\"area\":\"a\",\"at\":0,\"fault\":\"not a board\"}\n";
@@ -29,7 +28,7 @@ fn words_that_are_not_in_the_grammar_are_told_how_it_is_used(rt: HostRuntime) ->
         &["diego_run", "generate", "4294967296"],
     ];
     for words in cases {
-        let left = left_by(rt.alloc(), words, &first_run())?;
+        let left = left_by(&rt, rt.alloc(), words, &first_run())?;
         ends(&rt, &left, 1, "{\"fault\":\"usage\"}\n");
         tells_nothing(&rt, &left);
         assert_eq!(rt; left.disk.clock(), 0);
@@ -54,7 +53,7 @@ fn a_source_that_fails_or_is_no_script_touches_no_disk(rt: HostRuntime) -> Resul
             takes,
             ..first_run()
         };
-        let left = run(rt.alloc(), &given)?;
+        let left = run(&rt, rt.alloc(), &given)?;
         ends(&rt, &left, status, text);
         tells_nothing(&rt, &left);
         assert_eq!(rt; left.disk.clock(), 0);
@@ -77,13 +76,19 @@ fn stored_twice(alloc: Global) -> Result<Vec<u8>, Fail> {
     Ok(twice)
 }
 
-fn is_refused(rt: &impl Abort, alloc: Global, a: &[u8], b: &[u8], line: &str) -> Result<(), Fail> {
+fn is_refused(
+    rt: &impl Runtime,
+    alloc: Global,
+    a: &[u8],
+    b: &[u8],
+    line: &str,
+) -> Result<(), Fail> {
     let given = Given {
         a,
         b,
         ..first_run()
     };
-    let left = run(alloc, &given)?;
+    let left = run(rt, alloc, &given)?;
     ends(rt, &left, 6, line);
     tells_nothing(rt, &left);
     assert_eq!(rt; left.disk.bytes(Area::A), a);

@@ -3,20 +3,20 @@
 use super::bytes::first_run;
 use super::{Given, left_at};
 use byte_ports::Gate;
-use std::cell::Cell;
+use std::sync::atomic::{AtomicU32, Ordering};
 use std::test::Fail;
 
 // It counts how often it was passed, and keeps who passed last.
 #[derive(Drop)]
 struct Counting {
-    passes: Cell<u32>,
-    last: Cell<u32>,
+    passes: AtomicU32,
+    last: AtomicU32,
 }
 
 impl Gate for Counting {
     fn pass(&self, actor: u32) {
-        self.passes.set(self.passes.get().saturating_add(1));
-        self.last.set(actor);
+        self.passes.fetch_add(1, Ordering::SeqCst);
+        self.last.store(actor, Ordering::SeqCst);
     }
 }
 
@@ -38,13 +38,13 @@ fn a_run_passes_its_gate_before_its_call_and_behind_its_answer(
     ];
     for (word, given, status, passes, last) in cases {
         let gate = Counting {
-            passes: Cell::new(0),
-            last: Cell::new(0),
+            passes: AtomicU32::new(0),
+            last: AtomicU32::new(0),
         };
-        let left = left_at(rt.alloc(), &["diego_run", word], &given, &gate)?;
+        let left = left_at(&rt, rt.alloc(), &["diego_run", word], &given, &gate)?;
         assert_eq!(rt; left.status, status);
-        assert_eq!(rt; gate.passes.get(), passes);
-        assert_eq!(rt; gate.last.get(), last);
+        assert_eq!(rt; gate.passes.load(Ordering::SeqCst), passes);
+        assert_eq!(rt; gate.last.load(Ordering::SeqCst), last);
     }
     Ok(())
 }

@@ -14,7 +14,7 @@ fn a_source_of_a_byte_too_much_is_too_long(rt: HostRuntime) -> Result<(), Fail> 
         source: &source,
         ..first_run()
     };
-    let left = run(rt.alloc(), &given)?;
+    let left = run(&rt, rt.alloc(), &given)?;
     ends(&rt, &left, 8, "{\"fault\":\"too long\"}\n");
     tells_nothing(&rt, &left);
     assert_eq!(rt; left.disk.clock(), 0);
@@ -32,7 +32,7 @@ fn a_scenario_of_a_run_too_much_is_refused(rt: HostRuntime) -> Result<(), Fail> 
         source: &source,
         ..first_run()
     };
-    let left = run(rt.alloc(), &given)?;
+    let left = run(&rt, rt.alloc(), &given)?;
     ends(&rt, &left, 2, "{\"fault\":\"too much\",\"line\":202}\n");
     tells_nothing(&rt, &left);
     Ok(())
@@ -47,7 +47,7 @@ fn a_process_of_too_many_instances_is_refused(rt: HostRuntime) -> Result<(), Fai
         source,
         ..first_run()
     };
-    let left = run(rt.alloc(), &given)?;
+    let left = run(&rt, rt.alloc(), &given)?;
     ends(
         &rt,
         &left,

@@ -1,6 +1,6 @@
 //! A scenario with cells, a client and a round, and what is shown of the board that it leaves.
 use super::bytes::first_run;
-use super::{Given, Left, ends, left_by, run};
+use super::{Given, Left, Runtime, ends, left_by, run};
 use disk_trait::{Area, Disk};
 use std::alloc::Global;
 use std::test::Fail;
@@ -45,7 +45,7 @@ const ROWS: &str =
 "#;
 
 /// What a word shows of the board that a run left.
-fn shown(alloc: Global, left: &Left, word: &str) -> Result<Left, Fail> {
+fn shown(rt: &impl Runtime, alloc: Global, left: &Left, word: &str) -> Result<Left, Fail> {
     let a = left.disk.bytes(Area::A).to_vec(alloc)?;
     let b = left.disk.bytes(Area::B).to_vec(alloc)?;
     let given = Given {
@@ -53,7 +53,7 @@ fn shown(alloc: Global, left: &Left, word: &str) -> Result<Left, Fail> {
         b: &b,
         ..first_run()
     };
-    left_by(alloc, &["diego_run", word], &given)
+    left_by(rt, alloc, &["diego_run", word], &given)
 }
 
 #[test]
@@ -62,14 +62,14 @@ fn a_round_places_what_is_wanted_on_two_cells(rt: HostRuntime) -> Result<(), Fai
         source: PLACES.as_bytes(),
         ..first_run()
     };
-    let left = run(rt.alloc(), &given)?;
+    let left = run(&rt, rt.alloc(), &given)?;
     ends(&rt, &left, 0, PLACED);
     assert_eq!(rt; left.log.len(), 9);
     assert_eq!(rt; left.answers.len(), 3);
     assert_eq!(rt; left.reports.len(), 1);
-    let check = shown(rt.alloc(), &left, "check")?;
+    let check = shown(&rt, rt.alloc(), &left, "check")?;
     ends(&rt, &check, 0, KEPT);
-    let rows = shown(rt.alloc(), &left, "records")?;
+    let rows = shown(&rt, rt.alloc(), &left, "records")?;
     ends(&rt, &rows, 0, ROWS);
     Ok(())
 }

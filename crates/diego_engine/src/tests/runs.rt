@@ -15,7 +15,7 @@ const EXISTS: &str = "{\"fault\":\"exists\"}\n";
 
 #[test]
 fn the_first_run_stores_a_process_and_tells_it(rt: HostRuntime) -> Result<(), Fail> {
-    let left = run(rt.alloc(), &first_run())?;
+    let left = run(&rt, rt.alloc(), &first_run())?;
     ends(&rt, &left, 0, TEXT);
     assert_eq!(rt; left.disk.bytes(Area::A), STORED.as_slice());
     assert!(rt; left.disk.bytes(Area::B).is_empty());
@@ -33,7 +33,7 @@ fn the_same_run_once_more_is_refused_and_writes_nothing(rt: HostRuntime) -> Resu
         a: STORED,
         ..first_run()
     };
-    let left = run(rt.alloc(), &given)?;
+    let left = run(&rt, rt.alloc(), &given)?;
     ends(&rt, &left, 0, REFUSED);
     assert_eq!(rt; left.disk.bytes(Area::A), STORED.as_slice());
     assert!(rt; left.disk.bytes(Area::B).is_empty());
@@ -60,7 +60,7 @@ fn only_empty_areas_are_prepared(rt: HostRuntime) -> Result<(), Fail> {
             b,
             ..first_run()
         };
-        let left = prepare(rt.alloc(), &given)?;
+        let left = prepare(&rt, rt.alloc(), &given)?;
         ends(&rt, &left, status, text);
         tells_nothing(&rt, &left);
         assert_eq!(rt; left.disk.bytes(Area::A), after);

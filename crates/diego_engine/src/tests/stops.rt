@@ -8,7 +8,7 @@ use std::test::Fail;
 fn a_stop_within_an_append_leaves_the_gate_closed_or_a_whole_frame(
     rt: HostRuntime,
 ) -> Result<(), Fail> {
-    let left = run(rt.alloc(), &first_run())?;
+    let left = run(&rt, rt.alloc(), &first_run())?;
     // The body, its sync, the gate, its sync. A byte of 7 is an open gate, too.
     let cases = [
         (8, Torn::Old, 0u8),

@@ -1,7 +1,6 @@
 //! Each call that a line can make, whose frame can't be stored the first time.
 use super::*;
 use std::alloc::Global;
-use std::process::Abort;
 
 /// A board of 500 transitions with a process, whose instance crashed for the fourth time at second 0.
 pub const CRASHED: &[u8] =
@@ -11,7 +10,14 @@ pub const CRASHED: &[u8] =
 \x00\x00\x04\x00\x00\x00\x00\x00\x00";
 
 // These device calls fail in a run on this board, and its text is this.
-fn fails(rt: &impl Abort, alloc: Global, board: &[u8], calls: &[u64], scenario: &str, text: &str) {
+fn fails(
+    rt: &impl Runtime,
+    alloc: Global,
+    board: &[u8],
+    calls: &[u64],
+    scenario: &str,
+    text: &str,
+) {
     let disk = disk_of(rt, alloc, board, calls);
     let left = left_by(rt, alloc, "run", scenario.as_bytes(), &[], disk);
     ends(rt, &left, 5, text);

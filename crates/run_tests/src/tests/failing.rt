@@ -4,7 +4,6 @@ ghost use Rattle.std.specs.Prelude.{◌<◌};
 use super::*;
 use disk_trait::MemoryDisk;
 use std::alloc::Global;
-use std::process::Abort;
 
 // The device calls of an opening, and of an append.
 const OPENING: u64 = 7;
@@ -47,7 +46,7 @@ const REPEATS: &str = r#"{"at":0}
 "#;
 
 /// The board of a disk opens, and has made so many transitions.
-pub fn opens(rt: &impl Abort, alloc: Global, disk: MemoryDisk, next: u64) {
+pub fn opens(rt: &impl Runtime, alloc: Global, disk: MemoryDisk, next: u64) {
     let left = left_by(rt, alloc, "run", b"", &[], disk);
     let text = format!(in alloc;
         "{{\"done\":0,\"doubts\":0,\"next\":{next},\"phases\":0}}\n"
@@ -56,7 +55,7 @@ pub fn opens(rt: &impl Abort, alloc: Global, disk: MemoryDisk, next: u64) {
 }
 
 // The device call of this number fails in the scenario, which is told by this text and leaves so many transitions.
-fn fails_at(rt: &impl Abort, alloc: Global, scenario: &str, call: u64, text: &str, next: u64) {
+fn fails_at(rt: &impl Runtime, alloc: Global, scenario: &str, call: u64, text: &str, next: u64) {
     let disk = disk_of(rt, alloc, EMPTY, &[call]);
     let left = left_by(rt, alloc, "run", scenario.as_bytes(), &[], disk);
     ends(rt, &left, 5, text);
@@ -64,7 +63,7 @@ fn fails_at(rt: &impl Abort, alloc: Global, scenario: &str, call: u64, text: &st
 }
 
 /// The same for each device call of the append of the item at this place.
-pub fn fails_in(rt: &impl Abort, alloc: Global, scenario: &str, place: u64, text: &str, next: u64)
+pub fn fails_in(rt: &impl Runtime, alloc: Global, scenario: &str, place: u64, text: &str, next: u64)
     requires { place < 1000 }
 {
     for call in 1..APPEND + 1 {

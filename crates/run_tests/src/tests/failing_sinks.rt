@@ -2,10 +2,9 @@
 use super::failing::{PLACES, opens};
 use super::*;
 use std::alloc::Global;
-use std::process::Abort;
 
 // The sink fails at the call of this number, and has this text.
-fn is_unwritten(rt: &impl Abort, alloc: Global, put: u64, text: &str, done: usize) {
+fn is_unwritten(rt: &impl Runtime, alloc: Global, put: u64, text: &str, done: usize) {
     let disk = disk_of(rt, alloc, EMPTY, &[]);
     let left = left_by(rt, alloc, "run", PLACES.as_bytes(), &[put], disk);
     ends(rt, &left, 4, text);

@@ -18,7 +18,7 @@ const BAD_NAME: &str = "{\"fault\":\"bad name\",\"line\":3}\n";
 const BAD_ORDER: &str = "{\"fault\":\"bad order\",\"line\":3}\n";
 
 // The scenario ends with this fault, and the disk is untouched.
-fn is_refused(rt: &impl Abort, alloc: Global, scenario: &[u8], text: &str) {
+fn is_refused(rt: &impl Runtime, alloc: Global, scenario: &[u8], text: &str) {
     let left = left_by(
         rt,
         alloc,
@@ -42,7 +42,7 @@ fn with_line(rt: &impl Abort, alloc: Global, line: &[u8]) -> Vec<u8> {
 }
 
 /// Each of these lines ends a scenario with this fault.
-pub fn are_refused(rt: &impl Abort, alloc: Global, text: &str, lines: &[&[u8]]) {
+pub fn are_refused(rt: &impl Runtime, alloc: Global, text: &str, lines: &[&[u8]]) {
     for line in lines {
         is_refused(rt, alloc, &with_line(rt, alloc, *line), text);
     }

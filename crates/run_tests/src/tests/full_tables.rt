@@ -109,7 +109,7 @@ fn board(rt: &impl Abort, alloc: Global, full: Full, rows: u32) -> Vec<u8>
 }
 
 // A scenario on such a board, and its text.
-fn plays_full(rt: &impl Abort, alloc: Global, full: Full, rows: u32, scenario: &str, text: &str)
+fn plays_full(rt: &impl Runtime, alloc: Global, full: Full, rows: u32, scenario: &str, text: &str)
     requires { rows ≤ 50000 }
 {
     let board = board(rt, alloc, full, rows);

@@ -1,59 +1,37 @@
 //! Who passes the gate, and when: each caller before each of its calls of the board, an actor once more behind the last
 //! line that it has in a phase, and nobody else.
 use super::*;
-use byte_ports::{Gate, MemorySink, MemorySource};
-use diego_engine::{TopEnd, diego_top_in_memory};
+use byte_ports::Gate;
 use std::alloc::Global;
-use std::cell::Cell;
-use std::process::Abort;
+use std::sync::atomic::{AtomicU32, AtomicU64, Ordering};
 
-// It keeps who passed, as the digits of a number.
+// It keeps who passed, one after another, as the digits of a number.
 #[derive(Drop)]
 struct Digits {
-    number: Cell<u64>,
-    count: Cell<u32>,
+    number: AtomicU64,
+    count: AtomicU32,
 }
 
 impl Gate for Digits {
     fn pass(&self, actor: u32) {
-        let number = self.number.get().wrapping_mul(10);
-        self.number.set(number.wrapping_add(u64::from(actor)));
-        self.count.set(self.count.get().wrapping_add(1));
+        let number = self.number.load(Ordering::SeqCst).wrapping_mul(10);
+        let number = number.wrapping_add(u64::from(actor));
+        self.number.store(number, Ordering::SeqCst);
+        self.count.fetch_add(1, Ordering::SeqCst);
     }
 }
 
-// A run of the scenario at this gate, which ends well.
-fn runs_at(rt: &impl Abort, alloc: Global, scenario: &str, gate: &Digits) {
-    let mut words = Vec::new(alloc);
-    for word in ["diego", "run"] {
-        let word = String::from_str(alloc, word).expect(rt, "memory");
-        words.push(word).expect(rt, "memory");
-    }
-    let source = MemorySource::new(bytes_of(rt, alloc, scenario.as_bytes()), Vec::new(alloc));
-    let sink = MemorySink::new(alloc, Vec::new(alloc));
-    let disk = disk_of(rt, alloc, EMPTY, &[]);
-    let TopEnd {
-        status,
-        source: _,
-        sink: _,
-        disk: _,
-        log: _,
-        marks: _,
-        answers: _,
-        reports: _,
-    } = diego_top_in_memory(alloc, &words, source, sink, disk, gate);
-    assert_eq!(rt; status, 0);
-}
-
-// These pass the gate in a run of the scenario, one after another.
-fn pass(rt: &impl Abort, alloc: Global, scenario: &str, count: u32, number: u64) {
+// These pass the gate in a run of the scenario, one after another. Each of its phases has one actor.
+fn pass(rt: &impl Runtime, alloc: Global, scenario: &str, count: u32, number: u64) {
     let gate = Digits {
-        number: Cell::new(0),
-        count: Cell::new(0),
+        number: AtomicU64::new(0),
+        count: AtomicU32::new(0),
     };
-    runs_at(rt, alloc, scenario, &gate);
-    assert_eq!(rt; gate.count.get(), count);
-    assert_eq!(rt; gate.number.get(), number);
+    let disk = disk_of(rt, alloc, EMPTY, &[]);
+    let left = left_at(rt, alloc, "run", scenario.as_bytes(), &[], disk, &gate);
+    assert_eq!(rt; left.status, 0);
+    assert_eq!(rt; gate.count.load(Ordering::SeqCst), count);
+    assert_eq!(rt; gate.number.load(Ordering::SeqCst), number);
 }
 
 // Two cells join, a client desires, each in a phase of its own, and a round makes three rows and claims them.

@@ -5,7 +5,7 @@ use std::alloc::Global;
 use std::process::Abort;
 
 // The scenario ends with this fault, and the disk is untouched.
-fn has_fault(rt: &impl Abort, alloc: Global, scenario: &str, text: &str) {
+fn has_fault(rt: &impl Runtime, alloc: Global, scenario: &str, text: &str) {
     let disk = disk_of(rt, alloc, EMPTY, &[]);
     let left = left_by(rt, alloc, "run", scenario.as_bytes(), &[], disk);
     ends(rt, &left, 2, text);
@@ -13,7 +13,7 @@ fn has_fault(rt: &impl Abort, alloc: Global, scenario: &str, text: &str) {
 }
 
 // This line ends a phase in which a cell acts.
-fn ends_phase(rt: &impl Abort, alloc: Global, line: &str, fault: &str) {
+fn ends_phase(rt: &impl Runtime, alloc: Global, line: &str, fault: &str) {
     let scenario = format!(in alloc;
         "{{\"at\":5}}\n{{\"cell\":\"c\",\"op\":\"die\"}}\n{line}\n"
     ).expect(rt, "memory");
@@ -36,7 +36,7 @@ fn all_runs(rt: &impl Abort, alloc: Global) -> String {
 }
 
 // This line stands behind as many runs as there may be.
-fn is_behind_all(rt: &impl Abort, alloc: Global, line: &str, fault: &str) {
+fn is_behind_all(rt: &impl Runtime, alloc: Global, line: &str, fault: &str) {
     let mut scenario = all_runs(rt, alloc);
     scenario.push_str(line).expect(rt, "memory");
     let text = format!(in alloc; "{{\"fault\":\"{fault}\",\"line\":202}}\n").expect(rt, "memory");
@@ -105,7 +105,7 @@ const DESIRE: &str =
     r#"{"client":"cli","op":"desire","process":"web","domain":"apps","instances":3,"memory":64,"disk":128}"#;
 
 // A phase with that process, and a line behind it that has this fault.
-fn spoils(rt: &impl Abort, alloc: Global, line: &str, fault: &str) {
+fn spoils(rt: &impl Runtime, alloc: Global, line: &str, fault: &str) {
     let scenario = format!(in alloc; "{{\"at\":0}}\n{DESIRE}\n{line}\n").expect(rt, "memory");
     let text = format!(in alloc; "{{\"fault\":\"{fault}\",\"line\":3}}\n").expect(rt, "memory");
     has_fault(rt, alloc, scenario.as_str(), text.as_str());

@@ -2,12 +2,21 @@
 //! literals, and holds nothing that has to be dropped.
 use super::EMPTY;
 use bbs_model::Item;
-use byte_ports::{MemorySink, MemorySource, OpenGate};
+use byte_ports::{Gate, MemorySink, MemorySource, OpenGate};
+use convergence::Report;
 use diego_engine::{TopEnd, diego_top_in_memory};
 use disk_trait::{Area, MemoryDisk};
+use scenario_lines::Answered;
 use std::alloc::Global;
 use std::panic::Expect;
 use std::process::Abort;
+use std::sync::Wait;
+use std::thread::Threads;
+
+/// What a test needs of the runtime where the program runs in it.
+pub trait Runtime: Abort + Threads + Wait + Sync {}
+
+impl<R: Abort + Threads + Wait + Sync> Runtime for R {}
 
 /// What a run left.
 #[derive(Drop)]
@@ -17,8 +26,8 @@ pub struct Left {
     pub disk: MemoryDisk,
     pub log: Vec<Item>,
     pub marks: Vec<u64>,
-    /// How many answers and reports there were.
-    pub told: (usize, usize),
+    pub answers: Vec<Answered>,
+    pub reports: Vec<Report>,
 }
 
 fn text_of(rt: &impl Abort, alloc: Global, text: &str) -> String {
@@ -54,14 +63,19 @@ pub fn disk_of(rt: &impl Abort, alloc: Global, board: &[u8], failing: &[u64]) ->
     MemoryDisk::new(alloc, board, Vec::new(alloc), failing)
 }
 
-// What the program leaves of what it is handed.
-fn left_of(
+/// What the word leaves of a disk, where the sink fails at these calls, and the gate holds up whoever passes it.
+pub fn left_at<R: Runtime, G: Gate + Sync>(
+    rt: &R,
     alloc: Global,
-    words: &[String],
-    source: MemorySource,
-    sink: MemorySink,
+    word: &str,
+    source: &[u8],
+    puts: &[u64],
     disk: MemoryDisk,
+    gate: &G,
 ) -> Left {
+    let words = words_of(rt, alloc, word);
+    let source = source_of(rt, alloc, source);
+    let sink = MemorySink::new(alloc, numbers_of(rt, alloc, puts));
     let TopEnd {
         status,
         source: _,
@@ -71,30 +85,28 @@ fn left_of(
         marks,
         answers,
         reports,
-    } = diego_top_in_memory(alloc, words, source, sink, disk, &OpenGate);
+    } = diego_top_in_memory(rt, alloc, &words, source, sink, disk, gate);
     Left {
         status,
         sink,
         disk,
         log,
         marks,
-        told: (answers.len(), reports.len()),
+        answers,
+        reports,
     }
 }
 
-/// What the word leaves of a disk, where the sink fails at these calls.
+/// The same, where nobody is held up.
 pub fn left_by(
-    rt: &impl Abort,
+    rt: &impl Runtime,
     alloc: Global,
     word: &str,
     source: &[u8],
     puts: &[u64],
     disk: MemoryDisk,
 ) -> Left {
-    let words = words_of(rt, alloc, word);
-    let source = source_of(rt, alloc, source);
-    let sink = MemorySink::new(alloc, numbers_of(rt, alloc, puts));
-    left_of(alloc, &words, source, sink, disk)
+    left_at(rt, alloc, word, source, puts, disk, &OpenGate)
 }
 
 /// How a run must have ended, and what it must have printed.
@@ -105,7 +117,7 @@ pub fn ends(rt: &impl Abort, left: &Left, status: u8, text: &str) {
 
 // A run on a disk, and how it must end. The disk is handed on.
 fn take(
-    rt: &impl Abort,
+    rt: &impl Runtime,
     alloc: Global,
     disk: MemoryDisk,
     scenario: &str,
@@ -117,7 +129,7 @@ fn take(
 }
 
 /// What a word that runs no scenario must say of a disk.
-pub fn says_of(rt: &impl Abort, alloc: Global, word: &str, disk: MemoryDisk, text: &str) {
+pub fn says_of(rt: &impl Runtime, alloc: Global, word: &str, disk: MemoryDisk, text: &str) {
     let left = left_by(rt, alloc, word, b"", &[], disk);
     ends(rt, &left, 0, text);
 }
@@ -129,18 +141,18 @@ pub fn holds(rt: &impl Abort, disk: &MemoryDisk, a: &[u8]) {
 }
 
 /// A scenario that ends with status 0 on this board, and the whole text of it.
-pub fn plays_on(rt: &impl Abort, alloc: Global, board: &[u8], scenario: &str, text: &str) {
+pub fn plays_on(rt: &impl Runtime, alloc: Global, board: &[u8], scenario: &str, text: &str) {
     take(rt, alloc, disk_of(rt, alloc, board, &[]), scenario, text);
 }
 
 /// The same on a board without rows.
-pub fn plays(rt: &impl Abort, alloc: Global, scenario: &str, text: &str) {
+pub fn plays(rt: &impl Runtime, alloc: Global, scenario: &str, text: &str) {
     plays_on(rt, alloc, EMPTY, scenario, text);
 }
 
 /// The same, and another run on the board that the first one leaves.
 pub fn plays_twice(
-    rt: &impl Abort,
+    rt: &impl Runtime,
     alloc: Global,
     scenario: &str,
     text: &str,
@@ -153,7 +165,7 @@ pub fn plays_twice(
 
 /// A scenario on this board, the whole text of it, and the bytes that area A holds then. Area B holds none.
 pub fn leaves(
-    rt: &impl Abort,
+    rt: &impl Runtime,
     alloc: Global,
     board: &[u8],
     scenario: &str,
@@ -166,7 +178,7 @@ pub fn leaves(
 
 /// A scenario on this board, the whole text of it, and the rows behind it.
 pub fn plays_and_shows(
-    rt: &impl Abort,
+    rt: &impl Runtime,
     alloc: Global,
     board: &[u8],
     scenario: &str,
@@ -178,7 +190,7 @@ pub fn plays_and_shows(
 }
 
 /// A scenario on this board, and the rows behind it, whatever its text.
-pub fn shows(rt: &impl Abort, alloc: Global, board: &[u8], scenario: &str, rows: &str) {
+pub fn shows(rt: &impl Runtime, alloc: Global, board: &[u8], scenario: &str, rows: &str) {
     let disk = disk_of(rt, alloc, board, &[]);
     let left = left_by(rt, alloc, "run", scenario.as_bytes(), &[], disk);
     says_of(rt, alloc, "records", left.disk, rows);
@@ -186,7 +198,7 @@ pub fn shows(rt: &impl Abort, alloc: Global, board: &[u8], scenario: &str, rows:
 
 /// A word on this board, the status and the text of it, and the bytes that area A holds then.
 pub fn says(
-    rt: &impl Abort,
+    rt: &impl Runtime,
     alloc: Global,
     word: &str,
     board: &[u8],

@@ -6,13 +6,13 @@ use disk_trait::{Disk, MemoryDisk, Torn};
 use std::alloc::Global;
 use std::process::Abort;
 
-fn run(rt: &impl Abort, alloc: Global, scenario: &str, failing: &[u64]) -> Left {
+fn run(rt: &impl Runtime, alloc: Global, scenario: &str, failing: &[u64]) -> Left {
     let disk = disk_of(rt, alloc, EMPTY, failing);
     left_by(rt, alloc, "run", scenario.as_bytes(), &[], disk)
 }
 
-// Who did it.
-fn number_of(item: &Item) -> u32 {
+/// Who did it.
+pub fn number_of(item: &Item) -> u32 {
     match item {
         Item::Done(by, _) | Item::Doubt(by, _) => *by,
     }
@@ -55,7 +55,7 @@ fn actors_are_numbered_by_their_first_lines_and_a_round_is_0(rt: HostRuntime) {
 // The marks of a run that had three answers and a report.
 fn marks_are(rt: &impl Abort, left: &Left, marks: &[u64]) {
     assert_eq!(rt; left.marks.as_slice(), marks);
-    assert!(rt; left.told == (3, 1));
+    assert!(rt; left.answers.len() == 3 && left.reports.len() == 1);
 }
 
 // Two clients and a round in one phase.
@@ -82,6 +82,34 @@ fn begins(rt: &impl Abort, left: &Left, text: &str) {
     assert!(rt; left.sink.bytes().starts_with(text.as_bytes()));
 }
 
+// How the text of its report goes on where others did so many items within the round, and the round so many.
+fn report_text(
+    rt: &impl Abort,
+    alloc: Global,
+    complete: bool,
+    others: usize,
+    own: usize,
+) -> String {
+    format!(in alloc;
+        "{BOTH}\"complete\":{complete},\"foreign\":{others},\"line\":4,\"lost\":0,\"op\":\"round\",\"own\":{own},"
+    ).expect(rt, "memory")
+}
+
+// The text tells of the round what the log says: how many items of others stand between its begin and its end.
+fn tells_the_order(rt: &impl Abort, alloc: Global, left: &Left) {
+    assert!(rt; left.reports.len() == 1);
+    let (start, end) = (left.reports[0].start as usize, left.reports[0].end as usize);
+    assert!(rt; start <= end && end <= left.log.len());
+    let within = &left.log[start..end];
+    let own = done_by(within, 0);
+    let others = done_by(within, 1).saturating_add(done_by(within, 2));
+    assert_eq!(rt; own, done_by(&left.log, 0));
+    let whole = report_text(rt, alloc, true, others, own);
+    let part = report_text(rt, alloc, false, others, own);
+    let text = left.sink.bytes();
+    assert!(rt; text.starts_with(whole.as_bytes()) || text.starts_with(part.as_bytes()));
+}
+
 // Each client did one item, and the round all others.
 fn each_did_one(rt: &impl Abort, left: &Left) {
     assert!(rt; left.sink.bytes().ends_with(b",\"phases\":1}\n"));
@@ -95,6 +123,7 @@ fn what_clients_do_beside_a_round_is_done_whoever_comes_first(rt: HostRuntime) {
     let left = run(&rt, rt.alloc(), BESIDE, &[]);
     begins(&rt, &left, BOTH);
     each_did_one(&rt, &left);
+    tells_the_order(&rt, rt.alloc(), &left);
     let shown = left_by(&rt, rt.alloc(), "records", b"", &[], left.disk);
     begins(&rt, &shown, ROWS);
 }
@@ -124,7 +153,7 @@ fn is_no_doubt(rt: &impl Abort, shown: &Left) {
     }
 }
 
-fn shows_no_doubt(rt: &impl Abort, alloc: Global, disk: &MemoryDisk, call: u64, torn: Torn) {
+fn shows_no_doubt(rt: &impl Runtime, alloc: Global, disk: &MemoryDisk, call: u64, torn: Torn) {
     let image = image_of(rt, alloc, disk, call, torn);
     let shown = left_by(
         rt,
@@ -138,7 +167,7 @@ fn shows_no_doubt(rt: &impl Abort, alloc: Global, disk: &MemoryDisk, call: u64, 
 }
 
 // The same at a stop within each of the device calls that stored the second.
-fn never_shows_a_doubt(rt: &impl Abort, alloc: Global, disk: &MemoryDisk) {
+fn never_shows_a_doubt(rt: &impl Runtime, alloc: Global, disk: &MemoryDisk) {
     let last = disk.clock();
     for behind in 0..4u64 {
         for torn in [Torn::Old, Torn::New, Torn::Byte(0), Torn::Byte(7)] {
@@ -177,7 +206,7 @@ fn is_marked(rt: &impl Abort, left: &Left) {
 }
 
 // A device call of the first append fails, so that its item is a doubt.
-fn doubts_and_does(rt: &impl Abort, alloc: Global, failing: u64) {
+fn doubts_and_does(rt: &impl Runtime, alloc: Global, failing: u64) {
     let left = run(rt, alloc, DESIRES, &[failing]);
     is_doubt_and_done(rt, &left.log);
     is_marked(rt, &left);

@@ -1,23 +1,28 @@
+use Rattle.std.proofs.Common.{rules}
+use Rattle.scenario_runs.specs.Tellings.{IsPhaseTold}
 use Rattle.scenario_runs.proofs.PhaseTold.{phase_doubts, phase_ends, prints_by}
 use Rattle.scenario_runs.proofs.playing.play_phase.Goals as goal
 
 pub returns : goal.returns
 returns g c =
-    let p = c.run_and_tell.new in
+    let p = c.run_and_tell-board.new in
+    let left = c.run_and_tell-board.result.0 in
     let script = c.args.script.now in
     let phase = c.args.phase.now in
+    let text = c.in-Ok.text.items in
+    let told : IsPhaseTold g.D.Disk.told script phase c.args.actors.now p.actors c.args.board left c.args.kept.now p.kept text = search rules in
     record {
-      ends = phase_ends g.D.Disk.told script phase c.args.actors.now p.actors c.args.board.now p.board c.args.kept.now p.kept
+      ends = phase_ends g.D.Disk.told script phase c.args.actors.now p.actors c.args.board left c.args.kept.now p.kept
           (g.K.Sink.held c.args.sink.now) (g.K.Sink.held c.written.new.sink) (g.K.Sink.faults c.args.sink.now) (g.K.Sink.faults c.written.new.sink)
-          c.doubts_in.result c.ending_by.result
-          (phase_doubts g.D.Disk.told script phase c.args.actors.now p.actors c.args.board.now p.board c.args.kept.now p.kept c.in-Ok.text.items
-          c.in-Ok.ensures.told c.place-from.result c.log.result.now c.place-from.ensures c.log.ensures c.doubts_in.result c.doubts_in.ensures)
-          c.ending_by.ensures
+          c.doubts_in.result c.ending_by-ending.result
+          (phase_doubts g.D.Disk.told script phase c.args.actors.now p.actors c.args.board left c.args.kept.now p.kept text
+          told c.place-from.result c.log.result.now c.place-from.ensures c.log.ensures c.doubts_in.result c.doubts_in.ensures)
+          c.ending_by-ending.ensures
           (record {
-            text = c.in-Ok.text.items;
-            is_told = c.in-Ok.ensures.told;
-            counted = c.in-Ok.ensures.counted;
-            prints = prints_by c.written.result _ c.deref.result.now c.in-Ok.text.items _ _ _ _ c.written.ensures.cause
+            text = text;
+            is_told = told;
+            counted = search rules;
+            prints = prints_by c.written.result _ c.deref.result.now text _ _ _ _ c.written.ensures.cause
                 c.written.ensures.front c.written.ensures.all c.if-not-written.false c.deref.ensures.value;
           });
     }
