@@ -1,12 +1,12 @@
 -- One phase, told and printed.
-use Rattle.std.proofs.Common.{◌≡◌, ◌⊎◌, inl, inr, ℕ, ◌+◌, ◌-◌, ◌<◌, Bool, true, List}
+use Rattle.std.proofs.Common.{◌≡◌, ◌⊎◌, inl, inr, ℕ, ◌+◌, ◌-◌, ◌<◌, ◌≤◌, Bool, true, List}
 use Rattle.std.proofs.Common.{[], ◌++◌, length, take, drop, Option, sym, ap, subst, ◌∙◌, arith}
 use Rattle.std.specs.Prelude.{not}
 use Rattle.std.specs.List.Sorted.{IsPermutation}
 use Rattle.std.specs.Option.{option_to_list}
 use Rattle.std.specs.Io.KnownBytes.{Appends}
 use Rattle.std.proofs.lemmas.List.Sorted.{All-permutation}
-use Rattle.std.proofs.lemmas.List.{length-drop, take_all}
+use Rattle.std.proofs.lemmas.List.{length-append, length-drop, take_all}
 use Rattle.byte_ports.specs.Cause.{HasCause}
 use Rattle.byte_ports.specs.Content.{HoldsFront}
 use Rattle.disk_trait.specs.Past.{Past}
@@ -74,6 +74,14 @@ phase_doubts told script phase olds news v w kept kept' text is_told from log be
     is ∙ ap doubts_in (take_all (length log - from) (drop from log) (omega (arith, length-drop from log)))
     ∙ ap (λ (n : ℕ). doubts_in (drop n log)) begin ∙ ap (λ (xs : List Item). doubts_in (drop (length v.log) xs)) same
     ∙ doubts_since v.log w.log (is_told []).ran.fresh (is_told []).calm (is_told []).ran.goes.grows
+
+-- a phase that was told only added to the log, so the place at which it began stands in it
+pub place_within : {D : Type 0} (told : D → Option Past) (script : Script) (phase : Phase) (olds news : List ActorState) (v w : View D)
+    (kept kept' : KeptSoFar) (text : List ℕ) → IsPhaseTold told script phase olds news v w kept kept' text
+    → (from : ℕ) (log : List Item) → from ≡ length v.log → log ≡ w.log → from ≤ length log
+place_within told script phase olds news v w kept kept' text is_told from log begin same =
+    let ran = (is_told []).ran in
+    omega (arith, begin, ap length same, ap length ran.goes.grows, length-append v.log ran.fresh)
 
 -- what was written, whole or not
 pub prints_by : (whole is : Bool) (shown text : List ℕ) (held held' : Option (List ℕ)) (faults faults' : ℕ)

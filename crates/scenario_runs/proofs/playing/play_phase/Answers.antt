@@ -1,7 +1,37 @@
 use Rattle.std.proofs.Common.{rules}
 use Rattle.scenario_runs.specs.Tellings.{IsPhaseTold}
-use Rattle.scenario_runs.proofs.PhaseTold.{phase_doubts, phase_ends, prints_by}
+use Rattle.scenario_runs.proofs.PhaseTold.{phase_doubts, phase_ends, place_within, prints_by}
 use Rattle.scenario_runs.proofs.playing.play_phase.Goals as goal
+
+pub returns-then-not-written : goal.returns-then-not-written
+returns-then-not-written g c =
+    let told : IsPhaseTold g.D.Disk.told c.args.script.now c.args.phase.now c.args.actors.now c.run_and_tell-board.new.actors c.args.board
+    c.run_and_tell-board.result.0 c.args.kept.now c.run_and_tell-board.new.kept c.in-Ok.text.items = search rules in
+    record {
+      ends = record {
+        text = c.in-Ok.text.items;
+        is_told = told;
+        counted = search rules;
+        prints = prints_by c.written.result _ c.deref.result.now c.in-Ok.text.items _ _ _ _ c.written.ensures.cause
+            c.written.ensures.front c.written.ensures.all c.if-not-written.true c.deref.ensures.value;
+      };
+    }
+
+pub slice_bounds-doubts_in-count : goal.slice_bounds-doubts_in-count
+slice_bounds-doubts_in-count g c =
+    let told : IsPhaseTold g.D.Disk.told c.args.script.now c.args.phase.now c.args.actors.now c.run_and_tell-board.new.actors c.args.board
+    c.run_and_tell-board.result.0 c.args.kept.now c.run_and_tell-board.new.kept c.in-Ok.text.items = search rules in
+    place_within g.D.Disk.told c.args.script.now c.args.phase.now c.args.actors.now c.run_and_tell-board.new.actors c.args.board
+    c.run_and_tell-board.result.0 c.args.kept.now c.run_and_tell-board.new.kept c.in-Ok.text.items told c.place-from.result c.log.result.now
+    c.place-from.ensures c.log.ensures
+
+pub slice_bounds-doubts_in-start : goal.slice_bounds-doubts_in-start
+slice_bounds-doubts_in-start g c =
+    let told : IsPhaseTold g.D.Disk.told c.args.script.now c.args.phase.now c.args.actors.now c.run_and_tell-board.new.actors c.args.board
+    c.run_and_tell-board.result.0 c.args.kept.now c.run_and_tell-board.new.kept c.in-Ok.text.items = search rules in
+    place_within g.D.Disk.told c.args.script.now c.args.phase.now c.args.actors.now c.run_and_tell-board.new.actors c.args.board
+    c.run_and_tell-board.result.0 c.args.kept.now c.run_and_tell-board.new.kept c.in-Ok.text.items told c.place-from.result c.log.result.now
+    c.place-from.ensures c.log.ensures
 
 pub returns : goal.returns
 returns g c =

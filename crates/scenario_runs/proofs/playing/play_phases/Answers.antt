@@ -1,4 +1,7 @@
 use Rattle.std.proofs.Common.{◌≤◌, ◌<◌, length, get_or, ap, subst, ◌∙◌, arith}
+use Rattle.program_edge.specs.declared.ending.Ending.{Ending}
+use Rattle.program_edge.specs.declared.ending.Ending.TheVariants as ending
+use Rattle.scenario_runs.specs.Tellings.{PhaseEnds}
 use Rattle.scenario_runs.proofs.SoFar.{all_ran, none_so_far, phases_end, so_far_more}
 use Rattle.scenario_runs.proofs.playing.play_phases.Goals as goal
 
@@ -27,11 +30,15 @@ loop-phase-preserved g c =
     let p = c.play_phase-left.new in
     let left = c.play_phase-left.result.0 in
     let phase = c.phase-item.result in
+    let ends : PhaseEnds g.D.Disk.told c.args.script.now phase ending.Done l.actors p.actors l.board left l.kept p.kept (g.K.Sink.held l.sink)
+    (g.K.Sink.held p.sink) (g.K.Sink.faults l.sink) (g.K.Sink.faults p.sink) =
+    subst (λ (how : Ending). PhaseEnds g.D.Disk.told c.args.script.now phase how l.actors p.actors l.board left l.kept p.kept
+    (g.K.Sink.held l.sink) (g.K.Sink.held p.sink) (g.K.Sink.faults l.sink) (g.K.Sink.faults p.sink)) c.in-Done.is c.play_phase-left.ensures.ends in
     so_far_more g.D.Disk.told c.args.script.now c.args.board (g.K.Sink.held c.args.sink.now) (g.K.Sink.faults c.args.sink.now)
     l.phase-index l.actors l.board l.kept (g.K.Sink.held l.sink) (g.K.Sink.faults l.sink) l.invariant phase
     (subst (λ xs. l.phase-index < length xs) c.items-phases.ensures c.loop-phase-test.true)
     (c.phase-item.is ∙ ap (λ xs. get_or xs l.phase-index phase) c.items-phases.ensures)
-    p.actors left p.kept (g.K.Sink.held p.sink) (g.K.Sink.faults p.sink) c.in-Done.ensures.ends
+    p.actors left p.kept (g.K.Sink.held p.sink) (g.K.Sink.faults p.sink) ends
 
 pub returns : goal.returns
 returns g c =

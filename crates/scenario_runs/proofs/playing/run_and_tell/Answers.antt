@@ -5,11 +5,11 @@ use Rattle.scenario_runs.proofs.Answering.{answers_of}
 use Rattle.scenario_runs.proofs.playing.run_and_tell.Goals as goal
 
 pub run_phase-board-requires-clause-can : goal.run_phase-board-requires-clause-can
-run_phase-board-requires-clause-can g c =
+run_phase-board-requires-clause-can g c κs within =
     can_all c.args.script.now c.requires.script c.args.actors.now c.requires.same c.args.phase.now c.requires.among
 
 pub run_phase-board-requires-clause-few : goal.run_phase-board-requires-clause-few
-run_phase-board-requires-clause-few g c = few_actors c.args.script.now c.requires.script c.args.actors.now c.requires.same
+run_phase-board-requires-clause-few g c κs within = few_actors c.args.script.now c.requires.script c.args.actors.now c.requires.same
 
 pub tell-requires-clause-answers : goal.tell-requires-clause-answers
 tell-requires-clause-answers g c =
