@@ -12,14 +12,9 @@ use diego_engine::{TopEnd, diego_top};
 use real_files::{FileDisk, RealCalls};
 use std::alloc::{AllocError, Global};
 use std::env::Env;
-use std::fs::File;
 use std::io;
-use std::io::{Input, Print};
 use std::marker::Brand;
 use std::process::ExitCode;
-use std::rt::Files;
-use std::sync::Wait;
-use std::thread::Threads;
 use streams::Streams;
 
 /// The status where there is no memory for the words or the names of the files. No file is touched.
@@ -38,15 +33,25 @@ fn file_names(alloc: Global) -> Result<(String, String), AllocError>
     Ok((a, b))
 }
 
-/// Standard output has no buffer, so nothing is left to be flushed at the end.
-fn status<R: Env + Input + Print + Files<File = File> + AllocGlobal + Threads + Wait + Sync>(
-    rt: &R,
-) -> Result<u8, AllocError> {
+/// The words, and the names of the files.
+fn asked<R: Env + AllocGlobal>(rt: &R) -> Result<(Vec<String>, String, String), AllocError> {
     let words = words::words(rt)?;
     let (a, b) = file_names(rt.alloc())?;
-    let disk = FileDisk::new(RealCalls::<&R, Brand>::new(rt, a, b));
+    Ok((words, a, b))
+}
+
+/// Standard output has no buffer, so nothing is left to be flushed at the end. Threads are had here alone,
+/// and what goes to one is known of the runtime itself.
+fn main(rt: HostRuntime) -> ExitCode {
+    let Ok(_streams) = Streams::hold(&rt) else {
+        return ExitCode::from(NO_STREAM);
+    };
+    let Ok((words, a, b)) = asked(&rt) else {
+        return ExitCode::from(OUT_OF_MEMORY);
+    };
+    let disk = FileDisk::new(RealCalls::<&HostRuntime, Brand>::new(&rt, a, b));
     let source = StdSource::new(rt.reader());
-    let sink = StdSink::new(io::writer(rt));
+    let sink = StdSink::new(io::writer(&rt));
     let TopEnd {
         status,
         source: _,
@@ -56,13 +61,6 @@ fn status<R: Env + Input + Print + Files<File = File> + AllocGlobal + Threads + 
         marks: _,
         answers: _,
         reports: _,
-    } = diego_top(rt, rt.alloc(), &words, source, sink, disk, &OpenGate);
-    Ok(status)
-}
-
-fn main(rt: HostRuntime) -> ExitCode {
-    match Streams::hold(&rt) {
-        Ok(_streams) => ExitCode::from(status(&rt).unwrap_or(OUT_OF_MEMORY)),
-        Err(_) => ExitCode::from(NO_STREAM),
-    }
+    } = diego_top(&rt, rt.alloc(), &words, source, sink, disk, &OpenGate);
+    ExitCode::from(status)
 }
