@@ -2,3 +2,5 @@ mod Pairs
 mod Outs
 mod Closing
 mod Ports
+mod Away
+mod Together

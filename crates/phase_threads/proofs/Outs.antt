@@ -91,7 +91,7 @@ module _ {V S D P : Type 0} (pass_of : P → Pass V Item (Origin S)) (board : Vi
 
   module _ (after : List (Acting P)) (out : AtEach (IsOut pass_of board z many now lines) olds after)
       (first : Pass V Item (Origin S)) (news : List ActorState) (news_are : news ≡ map (λ (x : Acting P). x.actor) after)
-      (passes : List (Pass V Item (Origin S))) (own : IsOwn board z many 0 first) (passes_are : passes ≡ first ∷ map (λ (x : Acting P). pass_of x.port) after) where
+      (passes : List (Pass V Item (Origin S))) (own : IsPass z many 0 first) (passes_are : passes ≡ first ∷ map (λ (x : Acting P). pass_of x.port) after) where
     inside : (k : ℕ) (a : ActorState) → slice_get olds k ≡ Some a → k < length after
     inside k a is = omega (arith, slice_get_within olds k a is, out.length_is)
 
@@ -151,15 +151,15 @@ module _ {V S D P : Type 0} (pass_of : P → Pass V Item (Origin S)) (board : Vi
     }
 
     -- the round's pass is as it was
-    pub unused : IsUnused board passes
-    unused p is = subst (λ (q : Pass V Item (Origin S)). seen_by q ≡ whole_view board)
-        (one_of (Some first) first p refl (sym (ap (λ l. slice_get l 0) passes_are) ∙ is)) own.seen
+    pub unused : seen_by first ≡ whole_view board → IsUnused board passes
+    unused seen p is = subst (λ (q : Pass V Item (Origin S)). seen_by q ≡ whole_view board)
+        (one_of (Some first) first p refl (sym (ap (λ l. slice_get l 0) passes_are) ∙ is)) seen
 
     count : length passes ≡ suc (length olds)
     count = ap length passes_are ∙ ap suc (length-map after (λ (x : Acting P). pass_of x.port) ∙ out.length_is)
 
     at_place : (k : ℕ) (p : Pass V Item (Origin S)) → slice_get (first ∷ map (λ (x : Acting P). pass_of x.port) after) k ≡ Some p → IsPass z many k p
-    at_place zero p is = subst (IsPass z many zero) (one_of (Some first) first p refl is) own.pass
+    at_place zero p is = subst (IsPass z many zero) (one_of (Some first) first p refl is) own
     at_place (suc k) p is =
         let within : k < length after =
         omega (arith, slice_get_within (map (λ (x : Acting P). pass_of x.port) after) k p is, length-map after (λ (x : Acting P). pass_of x.port)) in

@@ -85,6 +85,12 @@ module _ {A B : Type 0} where
   image_at (z ∷ zs) f zero x y is is' = ap f (sym (one_of (Some z) z x refl is)) ∙ one_of (Some (f z)) (f z) y refl is'
   image_at (z ∷ zs) f (suc k) x y is is' = image_at zs f k x y is is'
 
+  -- what stands at a place has its image there
+  pub image_of : (xs : List A) (f : A → B) (k : ℕ) (x : A) → slice_get xs k ≡ Some x → slice_get (map f xs) k ≡ Some (f x)
+  image_of [] f k x is = cc (is)
+  image_of (y ∷ ys) f zero x is = ap (λ z. Some (f z)) (one_of (Some y) y x refl is)
+  image_of (y ∷ ys) f (suc k) x is = image_of ys f k x is
+
   -- one more of both
   pub each_more : (R : ℕ → A → B → Type 0) (xs : List A) (ys : List B) (i : ℕ) (d : A) (y : B) → i < length xs → AtEach R (take i xs) ys
       → R i (get_or xs i d) y → AtEach R (take (i + 1) xs) (ys ++ y ∷ [])

@@ -12,8 +12,26 @@ use std::alloc::Global;
 use std::mem;
 use std::sync::Wait;
 
-/// The way of an actor to the shared board: by its pass, and past the gate.
-pub(crate) type ActorPort<'a, R, D, G> = GatedPort<'a, SharedPort<'a, R, D>, G>;
+/// The way of an actor or of the round to the shared board: by its pass, and past the gate.
+pub(crate) type Way<'a, R, D, G> = GatedPort<'a, SharedPort<'a, R, D>, G>;
+
+/// The way to the board by that pass.
+pub(crate) fn way_by<'a, R: Wait, D: Disk, G: Gate>(
+    rt: &'a R,
+    shared: &'a SharedBoard<D>,
+    gate: &'a G,
+    pass: BoardPass<D>,
+) -> Way<'a, R, D, G>
+    requires { pass.place.table_id ≡ shared.now.desk.table.shared.table_id }
+    ensures { result.port.pass ≡ pass }
+{
+    let actor = pass.number();
+    GatedPort {
+        port: shared.port(rt, pass),
+        gate,
+        actor,
+    }
+}
 
 // Takes an actor out. One that has done nothing stands for it meanwhile.
 fn take_actor(actor: &mut ActorState) -> ActorState
@@ -33,20 +51,15 @@ fn set_out<'a, R: Wait, D: Disk, G: Gate>(
     gate: &'a G,
     actor: &mut ActorState,
     pass: BoardPass<D>,
-) -> Acting<ActorPort<'a, R, D, G>>
+) -> Acting<Way<'a, R, D, G>>
     requires board { pass.place.table_id ≡ shared.now.desk.table.shared.table_id }
     ensures by { result.by ≡ pass.number }
     ensures pass { result.port.port.pass ≡ pass }
     ensures actor { (result.actor ≡ actor.old) × (result.part.items ≡ []) }
 {
-    let by = pass.number();
     Acting {
-        by,
-        port: GatedPort {
-            port: shared.port(rt, pass),
-            gate,
-            actor: by,
-        },
+        by: pass.number(),
+        port: way_by(rt, shared, gate, pass),
         actor: take_actor(actor),
         part: Vec::new(alloc),
         starved: false,
@@ -62,8 +75,8 @@ pub(crate) fn deal<'a, R: Wait, D: Disk, G: Gate>(
     gate: &'a G,
     actors: &mut [ActorState],
     passes: Vec<BoardPass<D>>,
-    mut all: Vec<Acting<ActorPort<'a, R, D, G>>>,
-) -> Vec<Acting<ActorPort<'a, R, D, G>>>
+    mut all: Vec<Acting<Way<'a, R, D, G>>>,
+) -> Vec<Acting<Way<'a, R, D, G>>>
     requires room { (all.items ≡ []) × (length actors.old ≤ vec_capacity all) }
     requires passes { AreOwn shared.now.desk.table.shared.key.value.start
         shared.now.desk.table.shared.table_id (length actors.old) passes.items }

@@ -3,7 +3,7 @@ ghost use Rattle.std.specs.Prelude.{◌≡◌, ◌+◌, ◌++◌, ◌≤◌, ◌
 ghost use Rattle.std.specs.List.{list_any};
 
 use crate::acting::Acting;
-use crate::dealing::ActorPort;
+use crate::dealing::Way;
 use actor_runs::{ActorState, GatedPort};
 use bbs_shared::BoardPass;
 use byte_ports::Gate;
@@ -19,7 +19,7 @@ pub(crate) fn is_any_starved<P>(all: &[Acting<P>]) -> bool
 }
 
 fn gather_one<'a, R: Wait, D: Disk, G: Gate>(
-    acting: Acting<ActorPort<'a, R, D, G>>,
+    acting: Acting<Way<'a, R, D, G>>,
     slot: &mut ActorState,
     passes: &mut Vec<BoardPass<D>>,
     parts: &mut Vec<List<Answered>>,
@@ -54,7 +54,7 @@ fn gather_one<'a, R: Wait, D: Disk, G: Gate>(
 /// Puts the actors back into their list, their passes behind the others and their answers into
 /// `parts`, all in the order of the actors.
 pub(crate) fn gather<'a, R: Wait, D: Disk, G: Gate>(
-    all: Vec<Acting<ActorPort<'a, R, D, G>>>,
+    all: Vec<Acting<Way<'a, R, D, G>>>,
     actors: &mut [ActorState],
     passes: &mut Vec<BoardPass<D>>,
     parts: &mut Vec<List<Answered>>,

@@ -4,9 +4,15 @@
 mod acting;
 mod actors;
 mod at_once;
+mod beside;
 mod dealing;
 mod gathering;
+mod holding;
 mod phases;
 mod rooms;
+mod with_round;
 
 pub use phases::run_phase;
+
+#[cfg(test)]
+mod tests;

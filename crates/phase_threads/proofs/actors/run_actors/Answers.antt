@@ -42,7 +42,7 @@ returns-then-starved-clause-back g c =
     let passes_are = first_then c.in-Ok.rooms.1.items c.push_reserved.new.self.items c.gather.new.passes.items (map (λ x. x.port.port.pass) after) first
     c.in-Ok.ensures.1.none c.push_reserved.ensures.items c.gather.ensures.passes in
     all_back (λ p. p.port.pass) board z (length olds + 1) c.args.now c.args.lines.now olds after out first c.gather.new.actors c.gather.ensures.actors
-    c.gather.new.passes.items own passes_are (omega arith)
+    c.gather.new.passes.items own.pass passes_are (omega arith)
 
 pub returns-then-starved-clause-round : goal.returns-then-starved-clause-round
 returns-then-starved-clause-round g c =
@@ -56,7 +56,7 @@ returns-then-starved-clause-round g c =
     let passes_are = first_then c.in-Ok.rooms.1.items c.push_reserved.new.self.items c.gather.new.passes.items (map (λ x. x.port.port.pass) after) first
     c.in-Ok.ensures.1.none c.push_reserved.ensures.items c.gather.ensures.passes in
     unused (λ p. p.port.pass) board z (length olds + 1) c.args.now c.args.lines.now olds after out first c.gather.new.actors c.gather.ensures.actors
-    c.gather.new.passes.items own passes_are
+    c.gather.new.passes.items own.pass passes_are own.seen
 
 pub returns-then-starved-clause-cut : goal.returns-then-starved-clause-cut
 returns-then-starved-clause-cut g c =
@@ -70,7 +70,7 @@ returns-then-starved-clause-cut g c =
     let passes_are = first_then c.in-Ok.rooms.1.items c.push_reserved.new.self.items c.gather.new.passes.items (map (λ x. x.port.port.pass) after) first
     c.in-Ok.ensures.1.none c.push_reserved.ensures.items c.gather.ensures.passes in
     were_cut (λ p. p.port.pass) board z (length olds + 1) c.args.now c.args.lines.now olds after out first c.gather.new.actors c.gather.ensures.actors
-    c.gather.new.passes.items own passes_are
+    c.gather.new.passes.items own.pass passes_are
 
 pub returns-else-starved-clause-back : goal.returns-else-starved-clause-back
 returns-else-starved-clause-back g c =
@@ -84,7 +84,7 @@ returns-else-starved-clause-back g c =
     let passes_are = first_then c.in-Ok.rooms.1.items c.push_reserved.new.self.items c.gather.new.passes.items (map (λ x. x.port.port.pass) after) first
     c.in-Ok.ensures.1.none c.push_reserved.ensures.items c.gather.ensures.passes in
     all_back (λ p. p.port.pass) board z (length olds + 1) c.args.now c.args.lines.now olds after out first c.gather.new.actors c.gather.ensures.actors
-    c.gather.new.passes.items own passes_are (omega arith)
+    c.gather.new.passes.items own.pass passes_are (omega arith)
 
 pub returns-else-starved-clause-round : goal.returns-else-starved-clause-round
 returns-else-starved-clause-round g c =
@@ -98,7 +98,7 @@ returns-else-starved-clause-round g c =
     let passes_are = first_then c.in-Ok.rooms.1.items c.push_reserved.new.self.items c.gather.new.passes.items (map (λ x. x.port.port.pass) after) first
     c.in-Ok.ensures.1.none c.push_reserved.ensures.items c.gather.ensures.passes in
     unused (λ p. p.port.pass) board z (length olds + 1) c.args.now c.args.lines.now olds after out first c.gather.new.actors c.gather.ensures.actors
-    c.gather.new.passes.items own passes_are
+    c.gather.new.passes.items own.pass passes_are own.seen
 
 pub returns-else-starved-clause-ran : goal.returns-else-starved-clause-ran
 returns-else-starved-clause-ran g c =
@@ -112,6 +112,6 @@ returns-else-starved-clause-ran g c =
     let passes_are = first_then c.in-Ok.rooms.1.items c.push_reserved.new.self.items c.gather.new.passes.items (map (λ x. x.port.port.pass) after) first
     c.in-Ok.ensures.1.none c.push_reserved.ensures.items c.gather.ensures.passes in
     have_run (λ p. p.port.pass) board z (length olds + 1) c.args.now c.args.lines.now olds after out first c.gather.new.actors c.gather.ensures.actors
-    c.gather.new.passes.items own passes_are
+    c.gather.new.passes.items own.pass passes_are
     (sym (ap (λ l. list_any (λ x. x.starved) l) c.deref.ensures.value) ∙ (sym c.is_any_starved-starved.ensures ∙ c.if-starved.false)) c.from.result
     (c.from.ensures ∙ c.gather.ensures.parts ∙ ap (λ l. l ++ map (λ x. x.part.items) after) c.in-Ok.ensures.2.none)
