@@ -37,9 +37,9 @@ pub(crate) fn act_beside_round<'a, R: Threads + Sync, P: Port + Drop + Send, G: 
         → ActsOut (λ p. P.view p.port) (λ p q. P.keeps p.port q.port) now lines.now
         (slice_index_or all.entry.items k d) (slice_index_or result.1.items k d) }
 {
-    thread::join(
-        rt,
-        move || hold_round(alloc, port, cells, line, now),
-        move || act_at_once(rt, alloc, all, lines, now),
-    )
+    let round = move || hold_round(alloc, port, cells, line, now);
+    let actors = move ||
+        requires { All (IsReady (λ p. P.number p.port) lines.now) all.items }
+    { act_at_once(rt, alloc, all, lines, now) };
+    thread::join(rt, round, actors)
 }
