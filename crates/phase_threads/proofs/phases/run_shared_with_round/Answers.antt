@@ -32,8 +32,8 @@ returns-in-Err-start-clause-cut g c =
     subst (λ w. PhaseCut g.D.Disk.told c.args.phase.now c.args.actors.now c.args.board w) (sym c.in-Err-start.ensures.err)
     (nothing_done g.D.Disk.told c.args.phase.now c.args.actors.now c.args.board)
 
-pub run_with_round-requires-clause-can : goal.run_with_round-requires-clause-can
-run_with_round-requires-clause-can g c =
+pub run_with_round-passes-requires-clause-can : goal.run_with_round-passes-requires-clause-can
+run_with_round-passes-requires-clause-can g c =
     subst (λ (lines : List Line). CanAllDo lines c.take_reps.new.actors) (sym c.items.ensures)
     (subst (CanAllDo c.args.phase.now.lines) (sym c.in-Ok.ensures.taken.1) (all_can_bare c.args.phase.now.lines c.args.actors.now c.requires.can))
 
@@ -41,8 +41,8 @@ pub returns-clause-ran : goal.returns-clause-ran
 returns-clause-ran g c =
     let shared = c.in-Ok-start.begun.0 in let start = shared.desk.table.shared.key.value.start in let z = shared.desk.table.shared.table_id in
     let olds = c.args.actors.now in let bared = c.take_reps.new.actors in let taken = c.in-Ok.ensures.taken in let phase = c.args.phase.now in
-    let done = c.run_with_round in let passes = done.result.passes.items in let news = done.new.actors in let reps = done.result.cells.items in
-    let finals = c.put_reps.new.actors in let line = c.args.line.now in
+    let done = c.run_with_round-passes in let passes = done.result.passes.items in let news = done.new.actors in let reps = done.result.cells.items in
+    let finals = c.put_reps-2.new.actors in let line = c.args.line.now in
     let back = subst (λ n. AreBack z n passes) (as_long olds bared taken.1) done.ensures.back in
     both_ok done.result.end (λ ran. HaveRun start phase.at c.items.result.now bared news ran.parts passes)
     (λ ran. WasHeld start phase.at line c.in-Ok.cells.items reps ran.report passes)
@@ -53,14 +53,14 @@ returns-clause-ran g c =
     (subst (λ (lines : List Line). HaveRun start phase.at lines (map bare olds) news ran.parts passes) c.items.ensures
     (subst (λ (l : List ActorState). HaveRun start phase.at c.items.result.now l news ran.parts passes) taken.1 run))
     (subst (λ (l : List CellRep). WasHeld start phase.at line l reps ran.report passes) taken.0 held)
-    c.put_reps.ensures))
+    c.put_reps-2.ensures))
     done.ensures.ran done.ensures.held
 
 pub returns-clause-cut : goal.returns-clause-cut
 returns-clause-cut g c =
     let shared = c.in-Ok-start.begun.0 in let start = shared.desk.table.shared.key.value.start in let z = shared.desk.table.shared.table_id in
     let olds = c.args.actors.now in let bared = c.take_reps.new.actors in let taken = c.in-Ok.ensures.taken in let phase = c.args.phase.now in
-    let done = c.run_with_round in let passes = done.result.passes.items in let line = c.args.line.now in
+    let done = c.run_with_round-passes in let passes = done.result.passes.items in let line = c.args.line.now in
     let back = subst (λ n. AreBack z n passes) (as_long olds bared taken.1) done.ensures.back in
     then_err done.result.end (WereCut start phase.at c.items.result.now bared passes)
     (PhaseCut g.D.Disk.told phase olds c.args.board c.close.result)

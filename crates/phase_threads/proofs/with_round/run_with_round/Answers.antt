@@ -43,19 +43,19 @@ deal-all-requires-clause-passes g c =
     rest_own c.args.shared.now.desk.table.shared.key.value.start c.args.shared.now.desk.table.shared.table_id (length c.args.actors.now)
     c.args.passes.items c.requires.handed rest first split
 
-pub act_beside_round-held-all-requires-send-P : goal.act_beside_round-held-all-requires-send-P
-act_beside_round-held-all-requires-send-P g c κs within = search (sendable, port_send) depth 20
+pub act_beside_round-held-requires-send-P : goal.act_beside_round-held-requires-send-P
+act_beside_round-held-requires-send-P g c κs within = search (sendable, port_send) depth 20
 
-pub act_beside_round-held-all-requires-clause-number : goal.act_beside_round-held-all-requires-clause-number
-act_beside_round-held-all-requires-clause-number g c κs within =
+pub act_beside_round-held-requires-clause-number : goal.act_beside_round-held-requires-clause-number
+act_beside_round-held-requires-clause-number g c κs within =
     let first = c.remove.result in let rest = c.remove.new.self.items in
     let split = first_and_rest c.args.passes.items rest first (omega (arith, c.requires.handed.0)) c.remove.ensures.value c.remove.ensures.items in
     ap (λ p. p.number) c.way_by-way.ensures
     ∙ (first_own c.args.shared.now.desk.table.shared.key.value.start c.args.shared.now.desk.table.shared.table_id (length c.args.actors.now)
     c.args.passes.items c.requires.handed rest first split).pass.number
 
-pub act_beside_round-held-all-requires-clause-ready : goal.act_beside_round-held-all-requires-clause-ready
-act_beside_round-held-all-requires-clause-ready g c κs within k d lt =
+pub act_beside_round-held-requires-clause-ready : goal.act_beside_round-held-requires-clause-ready
+act_beside_round-held-requires-clause-ready g c κs within k d lt =
     each_ready (λ p. p.port.pass) c.args.shared.now.desk.table.shared.key.value.start c.args.shared.now.desk.table.shared.table_id
     (length c.args.actors.now + 1) c.args.now c.args.lines.now c.args.actors.now c.deal-all.result.items c.deal-all.ensures c.requires.can k d lt
 
@@ -65,7 +65,7 @@ returns g c =
     let olds = c.args.actors.now in let many = length olds + 1 in let first = c.remove.result in let rest = c.remove.new.self.items in
     let split = first_and_rest c.args.passes.items rest first (omega (arith, c.requires.handed.0)) c.remove.ensures.value c.remove.ensures.items in
     let own = first_own board z (length olds) c.args.passes.items c.requires.handed rest first split in
-    let way = c.way_by-way.result in let done = c.act_beside_round-held-all in
+    let way = c.way_by-way.result in let done = c.act_beside_round-held in
     let x = done.result.0 in let after = done.result.1.items in
     let out = each_out (λ p. p.port.pass) board z many c.args.now c.args.lines.now olds c.deal-all.result.items c.deal-all.ensures
     after done.ensures.count done.ensures.acts in
