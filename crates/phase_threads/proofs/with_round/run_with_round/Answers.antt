@@ -83,14 +83,14 @@ returns g c =
           passes is_pass passes_are (omega arith);
       ran = on_ok c.ended.result (λ ran. (c.is_any_starved-starved.result ≡ false) × (ran.parts ≡ c.from.result) × (x.end ≡ Ok ran.report))
           (λ ran. HaveRun board c.args.now c.args.lines.now olds news ran.parts passes)
-          (λ ran e. subst (λ parts. HaveRun board c.args.now c.args.lines.now olds news parts passes) (sym e.1.0)
+          (λ ran e. subst (λ parts. HaveRun board c.args.now c.args.lines.now olds news parts passes) (sym e.1)
           (have_run (λ p. p.port.pass) board z many c.args.now c.args.lines.now olds after out x.port.port.pass news c.gather.ensures.actors
           passes is_pass passes_are (fed ∙ e.0) c.from.result parts_are))
           c.ended.ensures;
       held = on_ok c.ended.result (λ ran. (c.is_any_starved-starved.result ≡ false) × (ran.parts ≡ c.from.result) × (x.end ≡ Ok ran.report))
           (λ ran. WasHeld board c.args.now c.args.line.now c.args.cells.items x.cells.items ran.report passes)
           (λ ran e. was_held (λ p. p.port.pass) board c.args.now c.args.line.now way c.args.cells.items x seen done.ensures.held passes others passes_are
-          ran.report e.1.1)
+          ran.report e.2)
           c.ended.ensures;
       cut = on_err c.ended.result (WereCut board c.args.now c.args.lines.now olds passes)
           (were_cut (λ p. p.port.pass) board z many c.args.now c.args.lines.now olds after out x.port.port.pass news c.gather.ensures.actors
