@@ -33,7 +33,7 @@ returns-in-Err-start-clause-cut g c =
     (nothing_done g.D.Disk.told c.args.phase.now c.args.actors.now c.args.board)
 
 pub run_with_round-passes-requires-clause-can : goal.run_with_round-passes-requires-clause-can
-run_with_round-passes-requires-clause-can g c =
+run_with_round-passes-requires-clause-can g c κs within =
     subst (λ (lines : List Line). CanAllDo lines c.take_reps.new.actors) (sym c.items.ensures)
     (subst (CanAllDo c.args.phase.now.lines) (sym c.in-Ok.ensures.taken.1) (all_can_bare c.args.phase.now.lines c.args.actors.now c.requires.can))
 

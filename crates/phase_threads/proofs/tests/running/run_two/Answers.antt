@@ -32,6 +32,6 @@ both_can lines n m clients (suc zero) a is l inside =
     subst (IsActOf l.act) (one_of (Some (Client m)) (Client m) a refl is) (client_can l.act m (of_client lines clients 2 l inside))
 both_can lines n m clients (suc (suc k)) a is l inside = cc (is)
 
-pub run_phase-requires-clause-can : goal.run_phase-requires-clause-can
-run_phase-requires-clause-can g c =
+pub run_phase-board-requires-clause-can : goal.run_phase-board-requires-clause-can
+run_phase-board-requires-clause-can g c κs within =
     both_can c.args.phase.now.lines c.in_ok-name.name c.in_ok-name.name (sym c.are_of_clients.ensures ∙ c.if-are_of_clients.true)
