@@ -1,13 +1,12 @@
 //! The head that a checkpoint writes, to the byte.
-use super::{disk_in, disk_of, loaded};
-use bbs_board::Board;
-use disk_trait::{Area, Disk};
-use std::process::Abort;
+use super::{checkpointed, disk_of, loaded};
+use disk_trait::Area;
 use std::test::Fail;
 
-// An area of generation 1 whose head has a row of each table, and of two actual rows, and behind it the
-// frame by which the EVACUATING one is dropped.
-const BEFORE: [u8; 235] = *b"\x01DIEGOBBS\x00\x01\x00\x00\x00\x00\x00\x00\x00\x01\x00\x00\x00\xb7\
+/// An area of generation 1 whose head has a row of each table, and of two actual rows, and behind it the
+/// frame by which the EVACUATING one is dropped.
+pub const BEFORE: [u8; 235] =
+    *b"\x01DIEGOBBS\x00\x01\x00\x00\x00\x00\x00\x00\x00\x01\x00\x00\x00\xb7\
 \x00\x00\x00\x00\x00\x00\x00\x09\
 \x00\x00\x00\x01\x00\x00\x00\x02\x00\x00\x00\x01\x00\x00\x00\x01\
 \x03web\x04apps\x00\x00\x00\x03\x00\x00\x00\x40\x00\x00\x00\x80\x00\x00\x1f\x90\
@@ -33,11 +32,6 @@ const AFTER: [u8; 173] = *b"\x01DIEGOBBS\x00\x01\x00\x00\x00\x00\x00\x00\x00\x02
 \x00\x00\x00\x40\x03ssd\
 \x02c1\x02z1\x00\x00\x00\x04\x00\x00\x00\x08\x00\x00\x00\x00\x32\
 \x00\x00\x00\x00\x00\x00\x00\x03\x00\x00\x00\x00\x00\x00\x00\x64\x01\x00";
-
-fn checkpointed<D: Disk + Drop>(rt: &impl Abort, mut board: Board<D>) -> D {
-    assert_eq!(rt; board.checkpoint(), Ok(()));
-    disk_in(board)
-}
 
 #[test]
 fn a_head_has_the_rows_of_all_tables(rt: HostRuntime) -> Result<(), Fail> {

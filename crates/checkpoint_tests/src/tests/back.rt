@@ -1,0 +1,89 @@
+//! Checkpoints by turns between the areas, and one that has nothing to do.
+use super::life::{Life, area_with, live, make_life};
+use super::{CALLS, EMPTY, are_named, desire, disk_in, disk_of, does, found, kept, loaded};
+use bbs_board::Board;
+use bbs_model::Command;
+use disk_trait::{Area, Disk};
+use std::alloc::Global;
+use std::process::Abort;
+use std::test::Fail;
+
+fn does_nothing<D: Disk + Drop>(rt: &impl Abort, mut board: Board<D>) -> D {
+    assert_eq!(rt; board.checkpoint(), Ok(()));
+    assert_eq!(rt; board.clock(), CALLS);
+    assert_eq!(rt; board.kept_in(), kept(Area::A, 1, 0));
+    disk_in(board)
+}
+
+#[test]
+fn a_checkpoint_of_an_area_without_frames_does_nothing(rt: HostRuntime) -> Result<(), Fail> {
+    let alloc = rt.alloc();
+    let board = loaded(alloc, disk_of(alloc, &EMPTY, b"", &[])?)?;
+    let disk = does_nothing(&rt, board);
+    assert_eq!(rt; disk.bytes(Area::A), EMPTY.as_slice());
+    assert!(rt; disk.bytes(Area::B).is_empty());
+    Ok(())
+}
+
+// The area of generation 3 after eleven transitions.
+const BACK: [u8; 68] = *b"\x01DIEGOBBS\x00\x01\x00\x00\x00\x00\x00\x00\x00\x03\x00\x00\x00\x2c\
+\x00\x00\x00\x00\x00\x00\x00\x0b\
+\x00\x00\x00\x01\x00\x00\x00\x00\x00\x00\x00\x00\x00\x00\x00\x00\
+\x01w\x01w\x00\x00\x00\x01\x00\x00\x00\x40\x00\x00\x00\x80\x00\x00\x1f\x90\x00";
+
+// A checkpoint, a transition, and a checkpoint back into the area that was left.
+fn there_and_back<D: Disk + Drop>(rt: &impl Abort, mut board: Board<D>, life: &Life) -> D {
+    assert_eq!(rt; board.checkpoint(), Ok(()));
+    assert_eq!(rt; board.kept_in(), kept(Area::B, 2, 0));
+    live(rt, &mut board, life, 11);
+    assert_eq!(rt; board.kept_in(), kept(Area::B, 2, 1));
+    assert_eq!(rt; board.checkpoint(), Ok(()));
+    assert_eq!(rt; board.kept_in(), kept(Area::A, 3, 0));
+    disk_in(board)
+}
+
+fn goes_on<D: Disk + Drop>(rt: &impl Abort, mut board: Board<D>, command: Command) -> D {
+    assert_eq!(rt; board.kept_in(), kept(Area::A, 3, 0));
+    assert!(rt; does(&mut board, command));
+    disk_in(board)
+}
+
+// The board of these areas has one frame, and both processes.
+fn has_gone_on(rt: &impl Abort, alloc: Global, a: &[u8], b: &[u8]) -> Result<(), Fail> {
+    let board = found(alloc, disk_of(alloc, a, b, &[])?)?;
+    assert_eq!(rt; board.kept, kept(Area::A, 3, 1));
+    assert_eq!(rt; board.rows.next, 12);
+    are_named(rt, alloc, &board.rows, b"mw")
+}
+
+// Whatever stands behind the closed gate, the board goes on over it.
+fn is_free(rt: &impl Abort, alloc: Global, area: &[u8], other: &[u8]) -> Result<(), Fail> {
+    let command = desire(b'm')?;
+    let board = loaded(alloc, disk_of(alloc, area, other, &[])?)?;
+    let disk = goes_on(rt, board, command);
+    has_gone_on(rt, alloc, disk.bytes(Area::A), disk.bytes(Area::B))
+}
+
+// The area that was gone back to, with what the longer one held behind it, with nothing, and with open gates.
+fn is_back(rt: &impl Abort, alloc: Global, old: &[u8], a: &[u8], b: &[u8]) -> Result<(), Fail> {
+    // A head without rows, a frame of 28 bytes and nine of 17, and a gate.
+    assert_eq!(rt; old.len(), 229);
+    assert_eq!(rt; a.len(), 229);
+    assert_eq!(rt; &a[..68], BACK.as_slice());
+    assert_eq!(rt; &a[68..], &old[68..]);
+    is_free(rt, alloc, a, b)?;
+    is_free(rt, alloc, &BACK, b)?;
+    let mut open = BACK.to_vec(alloc)?;
+    open.extend_from_slice(&[255; 40])?;
+    is_free(rt, alloc, &open, b)
+}
+
+#[test]
+fn what_a_longer_area_held_stays_behind_a_closed_gate(rt: HostRuntime) -> Result<(), Fail> {
+    let alloc = rt.alloc();
+    let life = make_life()?;
+    let old = area_with(&rt, alloc, 10)?;
+    let board = loaded(alloc, disk_of(alloc, &old, b"", &[])?)?;
+    let disk = there_and_back(&rt, board, &life);
+    is_back(&rt, alloc, &old, disk.bytes(Area::A), disk.bytes(Area::B))
+}

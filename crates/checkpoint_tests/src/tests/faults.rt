@@ -1,0 +1,119 @@
+//! A checkpoint in which the disk fails, and the board that goes on.
+use super::heads::BEFORE;
+use super::life::area_with;
+use super::{CALLS, are_named, desire, disk_in, disk_of, does, found, loaded};
+use bbs_board::Board;
+use bbs_model::{CallFault, Command};
+use disk_trait::{Area, Disk, MemoryDisk, Torn};
+use std::alloc::Global;
+use std::process::Abort;
+use std::test::Fail;
+
+// The first of these processes that could be made known, by its letter.
+fn offer<D: Disk>(board: &mut Board<D>, offers: &[(u8, Command)]) -> u8 {
+    for (letter, command) in offers {
+        if does(board, *command) {
+            return *letter;
+        }
+    }
+    b'?'
+}
+
+// The checkpoint fails and adds no doubt, and what is called then is done in the end.
+fn goes_on<D: Disk + Drop>(
+    rt: &impl Abort,
+    mut board: Board<D>,
+    offers: &[(u8, Command)],
+) -> (D, u8) {
+    assert_eq!(rt; board.checkpoint(), Err(CallFault::Disk { place: 0 }));
+    assert!(rt; board.log().is_empty());
+    let done = offer(&mut board, offers);
+    (disk_in(board), done)
+}
+
+// The call fails and is a doubt, and what is called then is done in the end.
+fn doubts<D: Disk + Drop>(
+    rt: &impl Abort,
+    mut board: Board<D>,
+    doubt: Command,
+    offers: &[(u8, Command)],
+) -> (D, u8) {
+    assert_eq!(rt; board.call(1, doubt), Err(CallFault::Disk { place: 0 }));
+    let done = offer(&mut board, offers);
+    (disk_in(board), done)
+}
+
+fn offers() -> Result<[(u8, Command); 3], Fail> {
+    Ok([
+        (b'n', desire(b'n')?),
+        (b'o', desire(b'o')?),
+        (b'p', desire(b'p')?),
+    ])
+}
+
+// Each stop behind these calls leaves a board there, with the process that was done before the others.
+fn leaves(
+    rt: &impl Abort,
+    alloc: Global,
+    disk: &mut MemoryDisk,
+    area: Area,
+    done: u8,
+    others: &[u8],
+) -> Result<(), Fail> {
+    let mut names = [done].to_vec(alloc)?;
+    names.extend_from_slice(others)?;
+    let end = disk.clock();
+    // A stop within the next call is one after the last.
+    assert!(rt; disk.sync(Area::B).is_ok());
+    for torn in [Torn::Old, Torn::New, Torn::Byte(7)] {
+        assert!(rt; end < disk.clock());
+        let (a, b) = disk.image(alloc, end + 1, torn)?;
+        let left = found(alloc, disk_of(alloc, &a, &b, &[])?)?;
+        assert_eq!(rt; left.kept.area, area);
+        are_named(rt, alloc, &left.rows, &names)?;
+    }
+    Ok(())
+}
+
+fn fails(rt: &impl Abort, alloc: Global, failing: &[u64]) -> Result<(), Fail> {
+    let offers = offers()?;
+    let board = loaded(alloc, disk_of(alloc, &BEFORE, b"", failing)?)?;
+    let (mut disk, done) = goes_on(rt, board, &offers);
+    leaves(rt, alloc, &mut disk, Area::A, done, b"web")
+}
+
+#[test]
+fn a_checkpoint_that_failed_leaves_no_doubt(rt: HostRuntime) -> Result<(), Fail> {
+    let alloc = rt.alloc();
+    for call in CALLS + 1..CALLS + 9 {
+        fails(&rt, alloc, &[call])?;
+        fails(&rt, alloc, &[call, call + 1])?;
+    }
+    Ok(())
+}
+
+fn fails_in_a_call(
+    rt: &impl Abort,
+    alloc: Global,
+    area: &[u8],
+    failing: &[u64],
+) -> Result<(), Fail> {
+    let doubt = desire(b'm')?;
+    let offers = offers()?;
+    let board = loaded(alloc, disk_of(alloc, area, b"", failing)?)?;
+    let (mut disk, done) = doubts(rt, board, doubt, &offers);
+    leaves(rt, alloc, &mut disk, Area::B, done, b"w")
+}
+
+#[test]
+fn a_call_whose_checkpoint_failed_is_a_doubt_that_is_gone(rt: HostRuntime) -> Result<(), Fail> {
+    let alloc = rt.alloc();
+    let area = area_with(&rt, alloc, 4096)?;
+    // The other gate is closed in calls 9 and 10, what stands behind it is written in 11 to 14, and it is
+    // opened in 15 and 16. The frame is written in 17, and its gate in 19.
+    fails_in_a_call(&rt, alloc, &area, &[10, 11])?;
+    fails_in_a_call(&rt, alloc, &area, &[14])?;
+    fails_in_a_call(&rt, alloc, &area, &[15, 17])?;
+    fails_in_a_call(&rt, alloc, &area, &[16, 17])?;
+    fails_in_a_call(&rt, alloc, &area, &[17])
+}

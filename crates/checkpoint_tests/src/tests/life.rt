@@ -1,0 +1,124 @@
+//! A life that fills area after area: of one process, wanted with two instances and with one by turns.
+use super::{EMPTY, desire, disk_in, disk_of, does, found, kept, loaded};
+use bbs_board::{Board, KeptIn};
+use bbs_model::{Command, Op};
+use crash_backoff::Moment;
+use diego_names::Name;
+use disk_trait::{Area, Disk};
+use std::alloc::Global;
+use std::process::Abort;
+use std::test::Fail;
+
+/// Its first transition, and those that follow it by turns.
+#[derive(Clone, Copy)]
+pub struct Life {
+    first: Command,
+    two: Command,
+    one: Command,
+}
+
+pub fn make_life() -> Result<Life, Fail> {
+    Ok(Life {
+        first: desire(b'w')?,
+        two: update(2)?,
+        one: update(1)?,
+    })
+}
+
+fn update(instances: u32) -> Result<Command, Fail> {
+    Ok(Command {
+        now: Moment(0),
+        op: Op::Update {
+            process: Name::read(b"w")?,
+            instances,
+            route: None,
+            port: 8080,
+        },
+    })
+}
+
+fn transition(life: &Life, number: u64) -> Command {
+    if number == 0 {
+        life.first
+    } else if number % 2 == 1 {
+        life.two
+    } else {
+        life.one
+    }
+}
+
+/// Goes on until there were so many transitions.
+pub fn live<D: Disk>(rt: &impl Abort, board: &mut Board<D>, life: &Life, next: u64) {
+    for number in board.next()..next {
+        assert!(rt; does(board, transition(life, number)));
+    }
+}
+
+/// After so many transitions the board is kept there.
+pub fn passes<D: Disk + Drop>(
+    rt: &impl Abort,
+    mut board: Board<D>,
+    life: &Life,
+    stations: &[(u64, KeptIn)],
+) -> D {
+    for (next, kept) in stations {
+        live(rt, &mut board, life, *next);
+        assert_eq!(rt; board.next(), *next);
+        assert_eq!(rt; board.kept_in(), *kept);
+    }
+    disk_in(board)
+}
+
+/// How many device calls the load of a full area makes: its 69,691 bytes are read in two pieces.
+pub const FULL_CALLS: u64 = 8;
+
+/// An area of generation 1 with so many frames.
+pub fn area_with(rt: &impl Abort, alloc: Global, frames: u64) -> Result<Vec<u8>, Fail> {
+    let life = make_life()?;
+    let stations = [(frames, kept(Area::A, 1, frames))];
+    let board = loaded(alloc, disk_of(alloc, &EMPTY, b"", &[])?)?;
+    let disk = passes(rt, board, &life, &stations);
+    Ok(disk.bytes(Area::A).to_vec(alloc)?)
+}
+
+// Where the board of these areas is found, after how many transitions, and with how many instances.
+fn is_found(
+    rt: &impl Abort,
+    alloc: Global,
+    (a, b): (&[u8], &[u8]),
+    kept: KeptIn,
+    next: u64,
+    instances: u32,
+) -> Result<(), Fail> {
+    let board = found(alloc, disk_of(alloc, a, b, &[])?)?;
+    assert_eq!(rt; board.kept, kept);
+    assert_eq!(rt; board.rows.next, next);
+    let wanted = board.rows.desired.items();
+    assert_eq!(rt; wanted.len(), 1);
+    assert_eq!(rt; wanted[0].instances, instances);
+    Ok(())
+}
+
+// The last area, and the one that was left, which is as it was.
+fn are_found(rt: &impl Abort, alloc: Global, a: &[u8], b: &[u8]) -> Result<(), Fail> {
+    is_found(rt, alloc, (a, b), kept(Area::B, 4, 1), 12289, 1)?;
+    is_found(rt, alloc, (a, b""), kept(Area::A, 3, 4096), 12288, 2)
+}
+
+#[test]
+fn a_board_whose_area_is_full_goes_on_in_the_other_one(rt: HostRuntime) -> Result<(), Fail> {
+    let alloc = rt.alloc();
+    let life = make_life()?;
+    let stations = [
+        (4095, kept(Area::A, 1, 4095)),
+        (4096, kept(Area::A, 1, 4096)),
+        (4097, kept(Area::B, 2, 1)),
+        (8192, kept(Area::B, 2, 4096)),
+        (8193, kept(Area::A, 3, 1)),
+        (12288, kept(Area::A, 3, 4096)),
+        (12289, kept(Area::B, 4, 1)),
+    ];
+    let board = loaded(alloc, disk_of(alloc, &EMPTY, b"", &[])?)?;
+    let disk = passes(&rt, board, &life, &stations);
+    are_found(&rt, alloc, disk.bytes(Area::A), disk.bytes(Area::B))
+}
