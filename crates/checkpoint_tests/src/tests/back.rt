@@ -64,7 +64,8 @@ fn is_free(rt: &impl Abort, alloc: Global, area: &[u8], other: &[u8]) -> Result<
     has_gone_on(rt, alloc, disk.bytes(Area::A), disk.bytes(Area::B))
 }
 
-// The area that was gone back to, with what the longer one held behind it, with nothing, and with open gates.
+// The area that was gone back to, with what the longer one held behind it, with nothing, and with
+// open gates.
 fn is_back(rt: &impl Abort, alloc: Global, old: &[u8], a: &[u8], b: &[u8]) -> Result<(), Fail> {
     // A head without rows, a frame of 28 bytes and nine of 17, and a gate.
     assert_eq!(rt; old.len(), 229);

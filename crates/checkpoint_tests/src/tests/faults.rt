@@ -51,7 +51,7 @@ fn offers() -> Result<[(u8, Command); 3], Fail> {
     ])
 }
 
-// Each stop behind these calls leaves a board there, with the process that was done before the others.
+// Each stop behind these calls leaves a board there, with the process that was done and the others.
 fn leaves(
     rt: &impl Abort,
     alloc: Global,
@@ -109,8 +109,8 @@ fn fails_in_a_call(
 fn a_call_whose_checkpoint_failed_is_a_doubt_that_is_gone(rt: HostRuntime) -> Result<(), Fail> {
     let alloc = rt.alloc();
     let area = area_with(&rt, alloc, 4096)?;
-    // The other gate is closed in calls 9 and 10, what stands behind it is written in 11 to 14, and it is
-    // opened in 15 and 16. The frame is written in 17, and its gate in 19.
+    // The other gate is closed in calls 9 and 10, what stands behind it is written in 11 to 14, and
+    // it is opened in 15 and 16. The frame is written in 17, and its gate in 19.
     fails_in_a_call(&rt, alloc, &area, &[10, 11])?;
     fails_in_a_call(&rt, alloc, &area, &[14])?;
     fails_in_a_call(&rt, alloc, &area, &[15, 17])?;

@@ -1,4 +1,4 @@
-//! A life that fills area after area: of one process, wanted with two instances and with one by turns.
+//! A life that fills area after area: of one process, wanted with two instances and one by turns.
 use super::{EMPTY, desire, disk_in, disk_of, does, found, kept, loaded};
 use bbs_board::{Board, KeptIn};
 use bbs_model::{Command, Op};

@@ -54,8 +54,8 @@ fn a_stop_in_a_checkpoint_leaves_the_rows_in_one_area(rt: HostRuntime) -> Result
     leaves(&rt, alloc, &disk, &before.rows)
 }
 
-// The checkpoint is made in calls 9 to 16, of which the last two open the new area, and the frame is
-// stored in calls 17 to 20.
+// The checkpoint is made in calls 9 to 16, of which the last two open the new area, and the frame
+// is stored in calls 17 to 20.
 fn leaves_one(rt: &impl Abort, alloc: Global, disk: &MemoryDisk) -> Result<(), Fail> {
     let table = [
         (14, Torn::New, Area::A, 4096),
