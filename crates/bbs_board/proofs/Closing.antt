@@ -12,7 +12,7 @@ use Rattle.bbs_journal.specs.Grammar.{heading, GoesWith}
 use Rattle.bbs_journal.specs.Other.{IsLoose}
 use Rattle.bbs_journal.specs.Stops.{OpensAs}
 use Rattle.bbs_journal.specs.Switching.{ClosesHeader}
-use Rattle.bbs_journal.specs.View.{View as JournalView, is_waiting}
+use Rattle.bbs_journal.specs.View.{JournalView, is_waiting}
 use Rattle.bbs_journal.specs.declared.other_gate.OtherGate.{OtherGate}
 use Rattle.bbs_journal.specs.declared.other_gate.OtherGate.TheVariants.{Loose}
 use Rattle.bbs_journal.specs.declared.waiting.Waiting.{Waiting}

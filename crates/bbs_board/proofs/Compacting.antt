@@ -9,7 +9,7 @@ use Rattle.disk_trait.proofs.Public.{goes_then, goes_weaker, goes_same, extends_
 use Rattle.head_codec.specs.Head.{head_spelled, FitsHead}
 use Rattle.bbs_journal.specs.Calls.{Settles}
 use Rattle.bbs_journal.specs.Switching.{close_calls}
-use Rattle.bbs_journal.specs.View.{View as JournalView, is_waiting, frame_waits}
+use Rattle.bbs_journal.specs.View.{JournalView, is_waiting, frame_waits}
 use Rattle.bbs_journal.specs.declared.other_gate.OtherGate.{OtherGate}
 use Rattle.bbs_journal.specs.declared.other_gate.OtherGate.TheVariants.{Shut, Loose, Written}
 use Rattle.bbs_journal.specs.declared.waiting.Waiting.{Waiting}

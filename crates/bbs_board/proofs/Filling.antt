@@ -8,7 +8,7 @@ use Rattle.disk_trait.specs.declared.area.Area.{Area}
 use Rattle.disk_trait.proofs.Public.{goes_then, goes_weaker, extends_then}
 use Rattle.bbs_codec.specs.Command.{spelled}
 use Rattle.bbs_journal.specs.Calls.{AddsFrame, mend_calls}
-use Rattle.bbs_journal.specs.View.{View as JournalView, is_waiting, frame_waits}
+use Rattle.bbs_journal.specs.View.{JournalView, is_waiting, frame_waits}
 use Rattle.bbs_journal.specs.declared.other_gate.OtherGate.{OtherGate}
 use Rattle.bbs_journal.specs.declared.waiting.Waiting.{Waiting}
 use Rattle.bbs_journal.specs.declared.waiting.Waiting.TheVariants.{Nothing}

@@ -8,7 +8,7 @@ use Rattle.disk_trait.specs.Steps.{Goes}
 use Rattle.disk_trait.proofs.Public.{goes_back}
 use Rattle.byte_ports.specs.Cause.{HasCause}
 use Rattle.bbs_codec.specs.Command.{spelled, FitsCommand}
-use Rattle.bbs_journal.specs.View.{View as JournalView, is_waiting, frame_waits}
+use Rattle.bbs_journal.specs.View.{JournalView, is_waiting, frame_waits}
 use Rattle.bbs_model.specs.Replay.{replay_log, IsLawful, after_item, command_in}
 use Rattle.bbs_model.specs.Step.{IsLegal}
 use Rattle.bbs_model.specs.Told.{told_by, told_in}

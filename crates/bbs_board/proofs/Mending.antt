@@ -12,7 +12,7 @@ use Rattle.bbs_codec.specs.Command.{spelled}
 use Rattle.bbs_journal.specs.Areas.{BeforeOrAfter, Stands}
 use Rattle.bbs_journal.specs.Calls.{Appended, AddsFrame, Closes, GrowsBy, Settles, gate_mended, left_of}
 use Rattle.bbs_journal.specs.Switching.{ClosesHeader}
-use Rattle.bbs_journal.specs.View.{View as JournalView, is_waiting}
+use Rattle.bbs_journal.specs.View.{JournalView, is_waiting}
 use Rattle.bbs_journal.specs.declared.other_gate.OtherGate.{OtherGate}
 use Rattle.bbs_journal.specs.declared.waiting.Waiting.{Waiting}
 use Rattle.bbs_journal.specs.declared.waiting.Waiting.TheVariants.{Nothing, Frame, Header}

@@ -1,19 +1,18 @@
 -- How many frames whoever opens a board's disk has to do again.
-use Rattle.std.proofs.Common.{◌≡◌, ◌⊎◌, inl, inr, ⊎_elim, ℕ, zero, suc, ◌+◌, ◌<◌, ◌≤◌, true, Option, Some, None, List, [], ◌∷◌, ◌++◌, length, refl, sym, ap, ◌∙◌, arith, append_assoc, append-nil, length-append}
+use Rattle.std.proofs.Common.{◌≡◌, ◌⊎◌, inl, inr, ⊎_elim, ℕ, ◌+◌, ◌<◌, ◌≤◌, true, Option, Some, None, List, [], ◌∷◌, ◌++◌, length, refl, ap, ◌∙◌, arith, length-append}
 use Rattle.std.specs.Prelude.{is_some}
 use Rattle.disk_trait.specs.Held.{Held, Leaves}
 use Rattle.disk_trait.specs.Past.{Past, Image, now, other}
 use Rattle.disk_trait.specs.declared.area.Area.{Area}
-use Rattle.bbs_journal.specs.Areas.{IsArea, BeforeOrAfter, Stands, body_of}
+use Rattle.bbs_journal.specs.Areas.{IsArea, Stands}
 use Rattle.bbs_journal.specs.Beside.{Beside}
-use Rattle.bbs_journal.specs.Frames.{IsPayload, frame_spelled, Whole}
 use Rattle.bbs_journal.specs.Grammar.{heading}
 use Rattle.bbs_journal.specs.Stops.{OpensAs}
 use Rattle.bbs_journal.specs.View.{frame_waits}
 use Rattle.bbs_journal.specs.declared.other_gate.OtherGate.{OtherGate}
 use Rattle.bbs_journal.specs.declared.waiting.Waiting.{Waiting}
 use Rattle.bbs_journal.specs.declared.waiting.Waiting.TheVariants.{Header}
-use Rattle.bbs_journal.proofs.Public.{area_opens}
+use Rattle.bbs_journal.proofs.Public.{area_opens, before_or_after}
 use Rattle.bbs_model.specs.declared.item.Item.{Item}
 use Rattle.bbs_model.specs.declared.rows.Rows.{Rows}
 use Rattle.bbs_board.specs.KeptIn.{HasAtMost}
@@ -26,46 +25,13 @@ use Rattle.bbs_board.proofs.Steps.{ready_area}
 
 -- ---- an area whose last gate is in doubt holds its payloads, or one more
 
-whole_more : (payloads : List (List ℕ)) (frames payload : List ℕ) (gate : ℕ) → 0 < gate → IsPayload payload → Whole payloads frames → Whole (payloads ++ payload ∷ []) (frames ++ gate ∷ frame_spelled payload)
-whole_more [] frames payload gate is_open fits whole = (
-  [],
-  record { gate = gate; is_open = is_open; fits = fits; parts = ap (λ (l : List ℕ). l ++ gate ∷ frame_spelled payload) whole ∙ simp append-nil },
-  refl,
-)
-whole_more (first ∷ payloads) frames payload gate is_open fits (rest, frame, whole) = (
-  rest ++ gate ∷ frame_spelled payload,
-  record {
-    gate = frame.gate;
-    is_open = frame.is_open;
-    fits = frame.fits;
-    parts = ap (λ (l : List ℕ). l ++ gate ∷ frame_spelled payload) frame.parts ∙ ap (λ (l : List ℕ). frame.gate ∷ l) (append_assoc (frame_spelled first) rest (gate ∷ frame_spelled payload));
-  },
-  whole_more payloads rest payload gate is_open fits whole,
-)
-
-module _ (head frames payload : List ℕ) (payloads : List (List ℕ)) (whole : Whole payloads frames) (fits : IsPayload payload) where
-  by_gate : (gate : ℕ) (rest bytes : List ℕ) → bytes ≡ (head ++ frames) ++ gate ∷ (body_of payload ++ rest) → BeforeOrAfter head payloads payload bytes
-  by_gate zero rest bytes is = inl (record {
-    frames = frames;
-    whole = whole;
-    begins = record { rest = body_of payload ++ rest; parts = is ∙ sym (append_assoc (head ++ frames) (0 ∷ []) (body_of payload ++ rest)) };
-  })
-  by_gate (suc n) rest bytes is = inr (record {
-    frames = frames ++ suc n ∷ frame_spelled payload;
-    whole = whole_more payloads frames payload (suc n) (omega arith) fits whole;
-    begins = record { rest = rest; parts = is ∙ regroup };
-  })
-    where
-      regroup : (head ++ frames) ++ suc n ∷ (body_of payload ++ rest) ≡ (head ++ (frames ++ suc n ∷ frame_spelled payload) ++ 0 ∷ []) ++ rest
-      regroup = simp append_assoc
-
 -- the payloads that stand there: those, or where one is in doubt that too
 pub stands_area : (head : List ℕ) (payloads : List (List ℕ)) (doubt : Option (List ℕ)) (end : ℕ) (held : Held) → Stands head payloads doubt end held → (bytes : List ℕ) → Leaves held bytes
     → IsArea head payloads bytes ⊎ ((one : List ℕ) × (doubt ≡ Some one) × IsArea head (payloads ++ one ∷ []) bytes)
 stands_area head payloads None end held ready bytes leaves = inl (ready_area head payloads end held ready bytes leaves)
 stands_area head payloads (Some one) end held waits bytes leaves =
     let staged = waits.has.leaves bytes leaves in
-    ⊎_elim (λ is. inl is) (λ more. inr (one, refl, more)) (by_gate head waits.frames one payloads waits.whole waits.fits staged.gate staged.rest bytes staged.parts)
+    ⊎_elim (λ is. inl is) (λ more. inr (one, refl, more)) (before_or_after head waits.frames one payloads waits.whole waits.fits bytes staged)
 
 -- ---- so each image has no more payloads than that
 

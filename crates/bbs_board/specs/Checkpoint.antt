@@ -5,7 +5,7 @@ use Rattle.disk_trait.specs.Runs.{Extends}
 use Rattle.disk_trait.specs.Steps.{Goes}
 use Rattle.head_codec.specs.Head.{head_spelled, FitsHead}
 use Rattle.bbs_journal.specs.Calls.{mend_calls}
-use Rattle.bbs_journal.specs.View.{View as JournalView, is_waiting, frame_waits}
+use Rattle.bbs_journal.specs.View.{JournalView, is_waiting, frame_waits}
 use Rattle.bbs_model.specs.Replay.{replay_log, IsLawful}
 use Rattle.bbs_model.specs.declared.item.Item.{Item}
 use Rattle.bbs_model.specs.declared.reply.CallFault.{CallFault}

@@ -5,7 +5,7 @@ use Rattle.disk_trait.specs.Runs.{Extends}
 use Rattle.disk_trait.specs.Steps.{Goes}
 use Rattle.bbs_codec.specs.Command.{spelled, FitsCommand}
 use Rattle.bbs_journal.specs.Calls.{Stays, mend_calls}
-use Rattle.bbs_journal.specs.View.{View as JournalView}
+use Rattle.bbs_journal.specs.View.{JournalView}
 use Rattle.bbs_journal.specs.declared.waiting.Waiting.TheVariants.{Nothing}
 use Rattle.bbs_model.specs.Replay.{replay_log, IsLawful}
 use Rattle.bbs_model.specs.Step.{IsLegal}

@@ -5,7 +5,7 @@ use Rattle.disk_trait.specs.Steps.{Goes}
 use Rattle.bbs_codec.specs.Command.{spelled, FitsCommand}
 use Rattle.head_codec.specs.Head.{head_spelled, FitsHead}
 use Rattle.bbs_journal.specs.Calls.{mend_calls}
-use Rattle.bbs_journal.specs.View.{View as JournalView, is_waiting, frame_waits}
+use Rattle.bbs_journal.specs.View.{JournalView, is_waiting, frame_waits}
 use Rattle.bbs_model.specs.Replay.{replay_log, IsLawful}
 use Rattle.bbs_model.specs.Step.{IsLegal}
 use Rattle.bbs_model.specs.Valid.{IsValid}
@@ -41,7 +41,8 @@ pub record HasStored {D : Type 0} (ok : Bool) (old new : JournalView D) : Type 0
   pub frames : new.frames ≤ (if ok then old.frames + 1 else old.frames)
   pub short : ok ≡ true → old.generation < 2 ^ 64 - 1 → new.frames ≤ 4096
   pub waits : ok ≡ true → is_waiting new.waiting ≡ false
-  pub crowded : (frame_waits old.waiting ≡ true → wants_checkpoint old ≡ false) → frame_waits new.waiting ≡ true → wants_checkpoint new ≡ false
+  pub crowded : (frame_waits old.waiting ≡ true → wants_checkpoint old ≡ false)
+      → frame_waits new.waiting ≡ true → wants_checkpoint new ≡ false
 
 -- the device calls of storing a command, behind the two of a mend where a gate waited: four, and before them those of
 -- a checkpoint, six or eight, if the area had 4,096 frames; where it fails no more than these and the two that close its own gate

@@ -9,7 +9,7 @@ use Rattle.bbs_codec.specs.Command.{spelled, FitsCommand}
 use Rattle.bbs_journal.specs.Areas.{Stands}
 use Rattle.bbs_journal.specs.Grammar.{heading, GoesWith}
 use Rattle.bbs_journal.specs.Beside.{Beside}
-use Rattle.bbs_journal.specs.View.{View as JournalView, frame_waits}
+use Rattle.bbs_journal.specs.View.{JournalView, frame_waits}
 use Rattle.bbs_journal.specs.declared.other_gate.OtherGate.{OtherGate}
 use Rattle.bbs_journal.specs.declared.other_gate.OtherGate.TheVariants.{Written}
 use Rattle.bbs_journal.specs.declared.waiting.Waiting.{Waiting}

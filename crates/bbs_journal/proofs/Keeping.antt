@@ -13,7 +13,7 @@ use Rattle.bbs_journal.specs.Beside.{IsBeside}
 use Rattle.bbs_journal.specs.Calls.{WritesSynced, AddsFrame, Closes, TakesCalls}
 use Rattle.bbs_journal.specs.Grammar.{heading}
 use Rattle.bbs_journal.specs.Switching.{size_written}
-use Rattle.bbs_journal.specs.View.{View, HoldsFrames, IsKept}
+use Rattle.bbs_journal.specs.View.{JournalView, HoldsFrames, IsKept}
 use Rattle.bbs_journal.specs.declared.other_gate.OtherGate.{OtherGate}
 use Rattle.bbs_journal.specs.declared.other_gate.OtherGate.TheVariants.{Written}
 use Rattle.bbs_journal.specs.declared.waiting.Waiting.{Waiting}
@@ -177,20 +177,20 @@ module _ (t0 t1 : Option Past) (area : Area) (generation end frames : ℕ) (brok
       }) goes kept
 
 -- what is so of a value is so of the fields that it shows
-pub broken_inside : {D : Type 0} (inside value : View D) (broken : Bool) → inside ≡ value → value.broken ≡ broken → inside.broken ≡ broken
-broken_inside {D = D} inside value broken is here = ap (λ (v : View D). v.broken) is ∙ here
+pub broken_inside : {D : Type 0} (inside value : JournalView D) (broken : Bool) → inside ≡ value → value.broken ≡ broken → inside.broken ≡ broken
+broken_inside {D = D} inside value broken is here = ap (λ (v : JournalView D). v.broken) is ∙ here
 
-pub waiting_inside : {D : Type 0} (inside value : View D) (waiting : Waiting) → inside ≡ value → value.waiting ≡ waiting → inside.waiting ≡ waiting
-waiting_inside {D = D} inside value waiting is here = ap (λ (v : View D). v.waiting) is ∙ here
+pub waiting_inside : {D : Type 0} (inside value : JournalView D) (waiting : Waiting) → inside ≡ value → value.waiting ≡ waiting → inside.waiting ≡ waiting
+waiting_inside {D = D} inside value waiting is here = ap (λ (v : JournalView D). v.waiting) is ∙ here
 
-pub gate_inside : {D : Type 0} (inside value : View D) (gate : OtherGate) → inside ≡ value → value.gate ≡ gate → inside.gate ≡ gate
-gate_inside {D = D} inside value gate is here = ap (λ (v : View D). v.gate) is ∙ here
+pub gate_inside : {D : Type 0} (inside value : JournalView D) (gate : OtherGate) → inside ≡ value → value.gate ≡ gate → inside.gate ≡ gate
+gate_inside {D = D} inside value gate is here = ap (λ (v : JournalView D). v.gate) is ∙ here
 
-pub written_inside : {D : Type 0} (inside value : View D) → inside ≡ value → value.gate ≡ Written (size_written value.gate) → inside.gate ≡ Written (size_written inside.gate)
-written_inside {D = D} inside value is here = subst (λ (v : View D). v.gate ≡ Written (size_written v.gate)) (sym is) here
+pub written_inside : {D : Type 0} (inside value : JournalView D) → inside ≡ value → value.gate ≡ Written (size_written value.gate) → inside.gate ≡ Written (size_written inside.gate)
+written_inside {D = D} inside value is here = subst (λ (v : JournalView D). v.gate ≡ Written (size_written v.gate)) (sym is) here
 
-pub generation_inside : {D : Type 0} (inside value : View D) → inside ≡ value → value.generation < 2 ^ 64 - 1 → inside.generation < 2 ^ 64 - 1
-generation_inside {D = D} inside value is here = subst (λ (v : View D). v.generation < 2 ^ 64 - 1) (sym is) here
+pub generation_inside : {D : Type 0} (inside value : JournalView D) → inside ≡ value → value.generation < 2 ^ 64 - 1 → inside.generation < 2 ^ 64 - 1
+generation_inside {D = D} inside value is here = subst (λ (v : JournalView D). v.generation < 2 ^ 64 - 1) (sym is) here
 
 -- the moments of two calls that were both made
 two_calls : (ok : Bool) (a b c : ℕ) → Ticks true a b → Ticks ok b c → ok ≡ true → c ≡ a + 2

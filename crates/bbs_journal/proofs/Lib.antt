@@ -1,5 +1,5 @@
 mod Bytes
-mod Frames
+pub mod Frames
 mod Turning
 mod Keeping
 mod Written

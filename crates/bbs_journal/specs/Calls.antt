@@ -7,14 +7,14 @@ use Rattle.disk_trait.specs.Steps.{Changes, Wrote, Synced, overwritten}
 use Rattle.disk_trait.specs.declared.area.Area.{Area}
 use Rattle.bbs_journal.specs.Frames.{IsPayload}
 use Rattle.bbs_journal.specs.Areas.{BeforeOrAfter, Ready, Waits, Stands, body_of}
-use Rattle.bbs_journal.specs.View.{View, is_waiting}
+use Rattle.bbs_journal.specs.View.{JournalView, is_waiting}
 use Rattle.bbs_journal.specs.declared.other_gate.OtherGate.{OtherGate}
 use Rattle.bbs_journal.specs.declared.other_gate.OtherGate.TheVariants.{Shut}
 use Rattle.bbs_journal.specs.declared.waiting.Waiting.{Waiting}
 use Rattle.bbs_journal.specs.declared.waiting.Waiting.TheVariants.{Nothing, Frame, Header}
 
 -- what an append asks: a payload, an area without a defect, nothing in doubt, and fewer frames than can be counted
-pub record Fits {D : Type 0} (bytes : List ℕ) (journal : View D) : Type 0 where
+pub record Fits {D : Type 0} (bytes : List ℕ) (journal : JournalView D) : Type 0 where
   pub payload : IsPayload bytes
   pub whole : journal.broken ≡ false
   pub mended : journal.waiting ≡ Nothing
@@ -74,14 +74,14 @@ Closes area ok end p q =
     → Mends area ok head payloads payload end p q
 
 -- what no append and no mend changes: the area, its generation, and that it has no defect
-pub record Stays {D : Type 0} (old new : View D) : Type 0 where
+pub record Stays {D : Type 0} (old new : JournalView D) : Type 0 where
   pub area : new.area ≡ old.area
   pub generation : new.generation ≡ old.generation
   pub broken : new.broken ≡ old.broken
 
 -- what a journal knows by itself after a payload of this length: where its area ends, that the other gate is as
 -- it was, and that only a failed append leaves something to mend, its own gate
-pub record GrowsBy {D : Type 0} (ok : Bool) (len : ℕ) (old new : View D) : Type 0 where
+pub record GrowsBy {D : Type 0} (ok : Bool) (len : ℕ) (old new : JournalView D) : Type 0 where
   pub stays : Stays old new
   pub gate : new.gate ≡ old.gate
   pub end : new.end ≡ (if ok then old.end + 3 + len else old.end)
@@ -97,7 +97,7 @@ gate_mended Header gate = Shut
 
 -- after a mend nothing waits, and after one that failed what waited waits still; all else is as it was, but for a
 -- header gate that was closed
-pub record Settles {D : Type 0} (ok : Bool) (old new : View D) : Type 0 where
+pub record Settles {D : Type 0} (ok : Bool) (old new : JournalView D) : Type 0 where
   pub stays : Stays old new
   pub end : new.end ≡ old.end
   pub frames : new.frames ≡ old.frames

@@ -8,7 +8,7 @@ use Rattle.disk_trait.specs.declared.area.Area.{Area}
 use Rattle.bbs_journal.specs.Areas.{Begins}
 use Rattle.bbs_journal.specs.Beside.{unframed, IsNext, Beside}
 use Rattle.bbs_journal.specs.Other.{IsLoose}
-use Rattle.bbs_journal.specs.View.{View, IsCalm}
+use Rattle.bbs_journal.specs.View.{JournalView, IsCalm}
 use Rattle.bbs_journal.specs.declared.other_gate.OtherGate.{OtherGate}
 use Rattle.bbs_journal.specs.declared.other_gate.OtherGate.TheVariants.{Shut, Loose, Written}
 use Rattle.bbs_journal.specs.declared.waiting.Waiting.TheVariants.{Nothing, Header}
@@ -42,17 +42,17 @@ ClosesHeader area gate generation ok p q =
     → Turns (other area) ok (Beside next Header gate generation) (Begins (0 ∷ [])) p q
 
 -- a journal whose other gate was closed, or waits
-abbrev pub with_closed : {D : Type 0} → Bool → View D → D → View D
+abbrev pub with_closed : {D : Type 0} → Bool → JournalView D → D → JournalView D
 with_closed true journal disk = record journal { disk = disk; gate = Shut }
 with_closed false journal disk = record journal { disk = disk; waiting = Header }
 
 -- a journal beside whose area the next one was written, with a head of this size
-abbrev pub with_written : {D : Type 0} → Bool → ℕ → View D → D → View D
+abbrev pub with_written : {D : Type 0} → Bool → ℕ → JournalView D → D → JournalView D
 with_written true size journal disk = record journal { disk = disk; gate = Written size }
 with_written false size journal disk = record journal { disk = disk }
 
 -- a journal that has gone on to the next area, whose head has this size, or whose other gate waits
-abbrev pub with_opened : {D : Type 0} → Bool → ℕ → View D → D → View D
+abbrev pub with_opened : {D : Type 0} → Bool → ℕ → JournalView D → D → JournalView D
 with_opened true size journal disk = record {
   disk = disk;
   area = other journal.area;
@@ -72,13 +72,13 @@ size_written Loose = 0
 size_written (Written size) = size
 
 -- what opening the other gate asks: nothing waits, and the next header stands written behind that gate
-pub record CanOpen {D : Type 0} (journal : View D) : Type 0 where
+pub record CanOpen {D : Type 0} (journal : JournalView D) : Type 0 where
   pub calm : IsCalm journal
   pub written : journal.gate ≡ Written (size_written journal.gate)
   pub generation : journal.generation < 2 ^ 64 - 1
 
 -- what writing behind the other gate asks: nothing waits, the gate is a synced 0, and there is a next generation
-pub record CanWrite {D : Type 0} (journal : View D) : Type 0 where
+pub record CanWrite {D : Type 0} (journal : JournalView D) : Type 0 where
   pub calm : IsCalm journal
   pub shut : journal.gate ≡ Shut
   pub generation : journal.generation < 2 ^ 64 - 1

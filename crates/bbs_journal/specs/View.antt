@@ -25,7 +25,7 @@ frame_waits Header = false
 -- its disk, the area of its frames and the generation of that, the place of its last gate, how many
 -- frames were acknowledged, which gate has to be mended, whether there is no gate at that place but a
 -- defect, and what is known of the header gate of the other area
-pub record View (D : Type 0) : Type 0 where
+pub record JournalView (D : Type 0) : Type 0 where
   pub disk : D
   pub area : Area
   pub generation : ℕ
@@ -36,7 +36,7 @@ pub record View (D : Type 0) : Type 0 where
   pub gate : OtherGate
 
 -- nothing has to be mended, and the area has no defect
-pub record IsCalm {D : Type 0} (journal : View D) : Type 0 where
+pub record IsCalm {D : Type 0} (journal : JournalView D) : Type 0 where
   pub whole : journal.broken ≡ false
   pub mended : journal.waiting ≡ Nothing
 

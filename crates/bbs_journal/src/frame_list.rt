@@ -1,13 +1,14 @@
 //! The frames of an area, one by one.
-ghost use Rattle.std.specs.Prelude.{◌≡◌, ◌+◌, ◌-◌, ◌*◌, ◌≤◌, length, drop, IfOk, IfErr};
+ghost use Rattle.std.specs.Prelude.{◌≡◌, ◌-◌, ◌≤◌, length, drop, IfOk, IfErr};
 ghost use Rattle.byte_ports.specs.Cause.{HasCause};
 ghost use Rattle.disk_trait.specs.Past.{Image};
 ghost use Rattle.disk_trait.specs.Steps.{Goes};
 ghost use Rattle.bbs_journal.specs.LoadFaults.{is_load_disk_fault, IsFree, failed};
 ghost use Rattle.disk_trait.specs.Shows.{Shows, Peeks};
+ghost use Rattle.bbs_journal.specs.Found.{FitsArea};
 ghost use Rattle.bbs_journal.specs.Opening.{AreFrames};
 ghost use Rattle.bbs_journal.specs.Pieces.{StartsBy, IsPieceOf};
-ghost use Rattle.bbs_journal.specs.Reading.{IsAt, IsFrameWithin, payloads_of, bytes_of};
+ghost use Rattle.bbs_journal.specs.Reading.{IsAt, IsFrameWithin, payloads_of};
 
 use crate::LoadFault;
 use crate::frame::{Next, next_frame};
@@ -61,10 +62,7 @@ pub(crate) fn read_frames<D: Disk>(
     ensures shows { IfOk result (λ f. (c : Image) → Shows (D.told disk.new) c →
         len ≡ length (c area) →
         AreFrames (payloads_of f.payloads.items) f.broken f.end start (drop start (c area))) }
-    ensures end { IfOk result (λ f.
-        f.end ≡ start + bytes_of (payloads_of f.payloads.items)) }
-    ensures within { IfOk result (λ f. f.end ≤ len) }
-    ensures few { IfOk result (λ f. f.end ≤ start + 515 * length f.payloads.items) }
+    ensures fits { IfOk result (FitsArea start len) }
     ensures free { IfErr result IsFree }
     ensures does { Goes (D.told disk.old) (D.told disk.new) Peeks }
     ensures cause { HasCause (failed is_load_disk_fault result)

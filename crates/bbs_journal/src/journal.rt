@@ -42,9 +42,9 @@ pub struct Journal<D: Disk> {
 impl<D: Disk> Model for Journal<D> {
     ghost use Rattle.std.specs.Prelude.{ℕ, ◌+◌, ◌*◌, ◌^◌, ◌<◌};
     ghost use Rattle.std.specs.Option.{ForSome};
-    ghost use Rattle.bbs_journal.specs.View.{View, IsKept};
+    ghost use Rattle.bbs_journal.specs.View.{JournalView, IsKept};
 
-    ghost Value = { View D };
+    ghost Value = { JournalView D };
 
     ghost view = { λ j. record {
       disk = j.disk;

@@ -1,14 +1,14 @@
 //! Opening a journal: both areas are made sure to stay as they are, and then read.
-ghost use Rattle.std.specs.Prelude.{◌≡◌, ◌+◌, ◌^◌, ◌<◌, false, length, is_some, IfOk, IfErr};
+ghost use Rattle.std.specs.Prelude.{is_ok, IfOk, IfErr};
 ghost use Rattle.std.specs.Option.{ForSome};
 ghost use Rattle.byte_ports.specs.Cause.{HasCause};
 ghost use Rattle.disk_trait.specs.Past.{Image};
 ghost use Rattle.disk_trait.specs.Steps.{Goes};
 ghost use Rattle.bbs_journal.specs.View.{IsKept};
 ghost use Rattle.bbs_journal.specs.Opening.{headed, IsOpening};
-ghost use Rattle.bbs_journal.specs.Reading.{payloads_of, bytes_of};
+ghost use Rattle.bbs_journal.specs.Reading.{payloads_of};
 ghost use Rattle.bbs_journal.specs.LoadFaults.{is_load_disk_fault, Fails, failed};
-ghost use Rattle.disk_trait.specs.Shows.{Shows, KeepsContent, Secures};
+ghost use Rattle.disk_trait.specs.Shows.{Shows, KeepsContent, Secures, Syncs};
 ghost use Rattle.bbs_journal.specs.declared.waiting.Waiting.TheVariants.{Nothing};
 ghost use Rattle.bbs_journal.specs.Found.{IsFoundIn, IsCounted, IsJustLoaded};
 
@@ -35,8 +35,7 @@ fn read_disk<D: Disk>(alloc: Global, disk: &mut D) -> Result<Found, LoadFault>
         f.place.generation f.place.end f.place.frames Nothing f.place.broken f.place.gate)) }
     ensures fault { IfErr result (λ e. (c : Image) → Shows (D.told disk.new) c →
         Fails e (headed c)) }
-    ensures ok { IfOk result (λ f. Goes (D.told disk.old) (D.told disk.new) Secures) }
-    ensures err { IfErr result (λ e. Goes (D.told disk.old) (D.told disk.new) KeepsContent) }
+    ensures does { Goes (D.told disk.old) (D.told disk.new) (Syncs (is_ok result)) }
     ensures cause { HasCause (failed is_load_disk_fault result)
         (D.fault_count disk.old) (D.fault_count disk.new) }
 {
@@ -50,16 +49,11 @@ pub fn load<D: Disk>(alloc: Global, mut disk: D) -> Result<Loaded<D>, (D, LoadFa
     ensures found { IfOk result (λ l. (c : Image) → Shows (D.told l.journal.disk) c →
         IsOpening c l.journal.area l.journal.generation l.head.items
         (payloads_of l.frames.items) l.broken l.journal.end) }
-    ensures end { IfOk result (λ l. l.journal.end ≡
-        23 + length l.head.items + bytes_of (payloads_of l.frames.items)) }
-    ensures fresh { IfOk result (λ l. IsJustLoaded l.journal (length l.frames.items) l.broken) }
-    ensures kept { IfOk result (λ l. ForSome (D.told l.journal.disk) (IsKept l.journal.area
-        l.journal.generation l.journal.end l.journal.frames Nothing l.journal.broken l.journal.gate)) }
+    ensures fresh { IfOk result (IsJustLoaded D.told D.fault_count disk) }
     ensures fault { IfErr result (λ e. (c : Image) → Shows (D.told e.0) c →
         Fails e.1 (headed c)) }
     ensures ok { IfOk result (λ l. Goes (D.told disk) (D.told l.journal.disk) Secures) }
     ensures err { IfErr result (λ e. Goes (D.told disk) (D.told e.0) KeepsContent) }
-    ensures stood { IfOk result (λ l. D.fault_count l.journal.disk ≡ D.fault_count disk) }
     ensures cause { IfErr result (λ e. HasCause (is_load_disk_fault e.1)
         (D.fault_count disk) (D.fault_count e.0)) }
 {

@@ -1,12 +1,12 @@
 //! Loading from a disk in memory, which tells its past at every moment.
-ghost use Rattle.std.specs.Prelude.{◌≡◌, ◌+◌, Some, length, IfOk, IfErr};
+ghost use Rattle.std.specs.Prelude.{Some, IfOk, IfErr};
 ghost use Rattle.byte_ports.specs.Cause.{HasCause};
 ghost use Rattle.disk_trait.specs.Memory.{memory_past, faults_of};
 ghost use Rattle.disk_trait.specs.Past.{Image};
 ghost use Rattle.disk_trait.specs.Steps.{Goes};
 ghost use Rattle.bbs_journal.specs.Found.{IsJustLoaded};
 ghost use Rattle.bbs_journal.specs.Opening.{headed, IsOpening};
-ghost use Rattle.bbs_journal.specs.Reading.{payloads_of, bytes_of};
+ghost use Rattle.bbs_journal.specs.Reading.{payloads_of};
 ghost use Rattle.bbs_journal.specs.LoadFaults.{is_load_disk_fault, Fails};
 ghost use Rattle.disk_trait.specs.Shows.{Shows, KeepsContent, Secures};
 
@@ -23,15 +23,12 @@ pub fn load_from_memory(
     ensures found { IfOk result (λ l. (c : Image) → Shows (Some (memory_past disk)) c →
         IsOpening c l.journal.area l.journal.generation l.head.items
         (payloads_of l.frames.items) l.broken l.journal.end) }
-    ensures end { IfOk result (λ l. l.journal.end ≡
-        23 + length l.head.items + bytes_of (payloads_of l.frames.items)) }
-    ensures fresh { IfOk result (λ l. IsJustLoaded l.journal (length l.frames.items) l.broken) }
+    ensures fresh { IfOk result (IsJustLoaded (λ d. Some (memory_past d)) faults_of disk) }
     ensures fault { IfErr result (λ e. (c : Image) → Shows (Some (memory_past disk)) c →
         Fails e.1 (headed c)) }
     ensures ok { IfOk result (λ l. Goes (Some (memory_past disk))
         (Some (memory_past l.journal.disk)) Secures) }
     ensures err { IfErr result (λ e. Goes (Some (memory_past disk)) (Some (memory_past e.0)) KeepsContent) }
-    ensures stood { IfOk result (λ l. faults_of l.journal.disk ≡ faults_of disk) }
     ensures cause { IfErr result (λ e. HasCause (is_load_disk_fault e.1)
         (faults_of disk) (faults_of e.0)) }
 {

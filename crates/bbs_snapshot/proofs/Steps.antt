@@ -12,7 +12,7 @@ use Rattle.bbs_journal.specs.Grammar.{heading, GoesWith}
 use Rattle.bbs_journal.specs.Other.{IsLoose}
 use Rattle.bbs_journal.specs.Stops.{OpensAs}
 use Rattle.bbs_journal.specs.Switching.{ClosesOther, WritesOther, OpensOther, with_closed, with_written, with_opened, size_written}
-use Rattle.bbs_journal.specs.View.{View}
+use Rattle.bbs_journal.specs.View.{JournalView}
 use Rattle.bbs_journal.specs.declared.other_gate.OtherGate.{OtherGate}
 use Rattle.bbs_journal.specs.declared.other_gate.OtherGate.TheVariants.{Shut, Loose, Written}
 use Rattle.bbs_journal.specs.declared.waiting.Waiting.{Waiting}
@@ -157,20 +157,20 @@ module _ (area : Area) (generation : ℕ) (new : List ℕ) (t0 t1 : Option Past)
 
 -- ---- the three calls, each at the journal that the one before it left
 
-module _ {D : Type 0} (told : D → Option Past) (v0 v1 : View D) (new : List ℕ) where
+module _ {D : Type 0} (told : D → Option Past) (v0 v1 : JournalView D) (new : List ℕ) where
   pub close_failed : v1 ≡ with_closed false v0 v1.disk → Goes (told v0.disk) (told v1.disk) (ClosesOther v0.area v0.gate v0.generation false)
       → Goes (told v0.disk) (told v1.disk) (SwitchesAll false v0.area v0.generation v1.waiting v1.gate new)
   close_failed left closes =
-      let waiting : v1.waiting ≡ Header = ap (λ (v : View D). v.waiting) left in
-      let gate : v1.gate ≡ v0.gate = ap (λ (v : View D). v.gate) left in
+      let waiting : v1.waiting ≡ Header = ap (λ (v : JournalView D). v.waiting) left in
+      let gate : v1.gate ≡ v0.gate = ap (λ (v : JournalView D). v.gate) left in
       rw (waiting, gate) (fails_to_close v0.area v0.generation new (told v0.disk) (told v1.disk) v0.gate closes)
 
-  module _ (v2 : View D) (calm : v0.waiting ≡ Nothing) (closed : v1 ≡ with_closed true v0 v1.disk) (closes : Goes (told v0.disk) (told v1.disk) (ClosesOther v0.area v0.gate v0.generation true)) where
+  module _ (v2 : JournalView D) (calm : v0.waiting ≡ Nothing) (closed : v1 ≡ with_closed true v0 v1.disk) (closes : Goes (told v0.disk) (told v1.disk) (ClosesOther v0.area v0.gate v0.generation true)) where
     area_is : v1.area ≡ v0.area
-    area_is = ap (λ (v : View D). v.area) closed
+    area_is = ap (λ (v : JournalView D). v.area) closed
 
     generation_is : v1.generation ≡ v0.generation
-    generation_is = ap (λ (v : View D). v.generation) closed
+    generation_is = ap (λ (v : JournalView D). v.generation) closed
 
     here : (ok : Bool) → Goes (told v1.disk) (told v2.disk) (WritesOther v1.area v1.generation new ok) → Goes (told v1.disk) (told v2.disk) (WritesOther v0.area v0.generation new ok)
     here ok writes =
@@ -180,21 +180,21 @@ module _ {D : Type 0} (told : D → Option Past) (v0 v1 : View D) (new : List �
     pub write_failed : v2 ≡ with_written false (length new) v1 v2.disk → Goes (told v1.disk) (told v2.disk) (WritesOther v1.area v1.generation new false)
         → Goes (told v0.disk) (told v2.disk) (SwitchesAll false v0.area v0.generation v2.waiting v2.gate new)
     write_failed left writes =
-        let waiting : v2.waiting ≡ Nothing = ap (λ (v : View D). v.waiting) left ∙ ap (λ (v : View D). v.waiting) closed ∙ calm in
-        let gate : v2.gate ≡ Shut = ap (λ (v : View D). v.gate) left ∙ ap (λ (v : View D). v.gate) closed in
+        let waiting : v2.waiting ≡ Nothing = ap (λ (v : JournalView D). v.waiting) left ∙ ap (λ (v : JournalView D). v.waiting) closed ∙ calm in
+        let gate : v2.gate ≡ Shut = ap (λ (v : JournalView D). v.gate) left ∙ ap (λ (v : JournalView D). v.gate) closed in
         rw (waiting, gate) (fails_to_write v0.area v0.generation new (told v0.disk) (told v1.disk) v0.gate (told v2.disk) closes (here false writes))
 
-    module _ (v3 : View D) (written : v2 ≡ with_written true (length new) v1 v2.disk) (writes : Goes (told v1.disk) (told v2.disk) (WritesOther v1.area v1.generation new true)) where
+    module _ (v3 : JournalView D) (written : v2 ≡ with_written true (length new) v1 v2.disk) (writes : Goes (told v1.disk) (told v2.disk) (WritesOther v1.area v1.generation new true)) where
       there : (ok : Bool) → Goes (told v2.disk) (told v3.disk) (OpensOther v2.area v2.generation ok) → Goes (told v2.disk) (told v3.disk) (OpensOther v0.area v0.generation ok)
       there ok opens =
-          subst (λ (a : Area). Goes (told v2.disk) (told v3.disk) (OpensOther a v0.generation ok)) (ap (λ (v : View D). v.area) written ∙ area_is)
-          (subst (λ (n : ℕ). Goes (told v2.disk) (told v3.disk) (OpensOther v2.area n ok)) (ap (λ (v : View D). v.generation) written ∙ generation_is) opens)
+          subst (λ (a : Area). Goes (told v2.disk) (told v3.disk) (OpensOther a v0.generation ok)) (ap (λ (v : JournalView D). v.area) written ∙ area_is)
+          (subst (λ (n : ℕ). Goes (told v2.disk) (told v3.disk) (OpensOther v2.area n ok)) (ap (λ (v : JournalView D). v.generation) written ∙ generation_is) opens)
 
       pub opened_or_not : (ok : Bool) → v3 ≡ with_opened ok (size_written v2.gate) v2 v3.disk → Goes (told v2.disk) (told v3.disk) (OpensOther v2.area v2.generation ok)
           → Goes (told v0.disk) (told v3.disk) (SwitchesAll ok v0.area v0.generation v3.waiting v3.gate new)
       opened_or_not true left opens =
           goes_on v0.area v0.generation new (told v0.disk) (told v1.disk) v0.gate (told v2.disk) closes (told v3.disk) (here true writes) v3.waiting v3.gate (there true opens)
       opened_or_not false left opens =
-          let waiting : v3.waiting ≡ Header = ap (λ (v : View D). v.waiting) left in
-          let gate : v3.gate ≡ Written (length new) = ap (λ (v : View D). v.gate) left ∙ ap (λ (v : View D). v.gate) written in
+          let waiting : v3.waiting ≡ Header = ap (λ (v : JournalView D). v.waiting) left in
+          let gate : v3.gate ≡ Written (length new) = ap (λ (v : JournalView D). v.gate) left ∙ ap (λ (v : JournalView D). v.gate) written in
           rw (waiting, gate) (fails_to_open v0.area v0.generation new (told v0.disk) (told v1.disk) v0.gate (told v2.disk) closes (told v3.disk) (here true writes) (there false opens))

@@ -10,14 +10,14 @@ use Rattle.bbs_journal.specs.Calls.{Stays}
 use Rattle.bbs_journal.specs.Grammar.{heading, GoesWith}
 use Rattle.bbs_journal.specs.Stops.{OpensAs}
 use Rattle.bbs_journal.specs.Switching.{with_opened}
-use Rattle.bbs_journal.specs.View.{View, IsCalm, is_waiting}
+use Rattle.bbs_journal.specs.View.{JournalView, IsCalm, is_waiting}
 use Rattle.bbs_journal.specs.declared.other_gate.OtherGate.{OtherGate}
 use Rattle.bbs_journal.specs.declared.other_gate.OtherGate.TheVariants.{Loose}
 use Rattle.bbs_journal.specs.declared.waiting.Waiting.{Waiting}
 use Rattle.bbs_journal.specs.declared.waiting.Waiting.TheVariants.{Nothing, Header}
 
 -- what a switch asks: nothing waits, the area has no defect, and there is a next generation
-pub record CanSwitch {D : Type 0} (journal : View D) : Type 0 where
+pub record CanSwitch {D : Type 0} (journal : JournalView D) : Type 0 where
   pub calm : IsCalm journal
   pub generation : journal.generation < 2 ^ 64 - 1
 
@@ -51,13 +51,13 @@ SwitchesAll ok area generation waiting gate new p q =
     → Switches ok area generation head payloads waiting gate new p q
 
 -- a journal that has stayed in its area, and has at most the header gate of the other one to mend
-pub record StaysThere {D : Type 0} (old new : View D) : Type 0 where
+pub record StaysThere {D : Type 0} (old new : JournalView D) : Type 0 where
   pub stays : Stays old new
   pub end : new.end ≡ old.end
   pub frames : new.frames ≡ old.frames
   pub waiting : new.waiting ≡ (if is_waiting new.waiting then Header else Nothing)
 
 -- what the journal knows after a switch to a head of this size
-pub record KnowsAfterSwitch {D : Type 0} (ok : Bool) (size : ℕ) (old new : View D) : Type 0 where
+pub record KnowsAfterSwitch {D : Type 0} (ok : Bool) (size : ℕ) (old new : JournalView D) : Type 0 where
   pub made : ok ≡ true → new ≡ with_opened true size old new.disk
   pub failed : ok ≡ false → StaysThere old new

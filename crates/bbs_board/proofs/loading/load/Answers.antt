@@ -37,10 +37,10 @@ invariant_of-result g c =
       counted = omega (arith, fresh.count, count, length-map c.in-Ok.loaded.frames.items (λ v. v.items));
       crowded = λ is. absurd (let never = ap frame_waits fresh.mended in cc);
       doubted = subst (λ (l : List Item). RoseForEach (doubts_in l) c.faults-faults.result (g.D.Disk.fault_count c.in-Ok.loaded.journal.disk)) (sym log_is)
-          (omega (arith, c.faults-faults.ensures, c.in-Ok.ensures.stood));
+          (omega (arith, c.faults-faults.ensures, fresh.stood));
       holds = rw (base_is, log_is, marks_is, fresh.mended, frames_are)
           (loaded_holds _ _ c.in-Ok.loaded.journal.area c.in-Ok.loaded.journal.generation c.in-Ok.loaded.head.items payloads c.in-Ok.loaded.broken c.in-Ok.loaded.journal.end c.in-Ok-board_of.index.rows c.clock.result
-          c.in-Ok.ensures.ok timed c.in-Ok.ensures.found c.in-Ok.ensures.end is _ _ _ c.in-Ok.ensures.kept);
+          c.in-Ok.ensures.ok timed c.in-Ok.ensures.found fresh.end is _ _ _ fresh.kept);
     }
 
 pub returns-in-Ok-board_of-clause-found : goal.returns-in-Ok-board_of-clause-found
