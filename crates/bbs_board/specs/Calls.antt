@@ -7,7 +7,9 @@ use Rattle.bbs_model.specs.declared.item.Item.{Item}
 use Rattle.bbs_model.specs.declared.rows.Rows.{Rows}
 use Rattle.bbs_model.specs.declared.verdict.Verdict.{Verdict}
 use Rattle.bbs_model.specs.declared.verdict.Verdict.TheVariants as verdict
+use Rattle.bbs_board.specs.Doubts.{CountsFaults}
 use Rattle.bbs_board.specs.Stops.{Stores}
+use Rattle.bbs_board.specs.Storing.{StoreTakes}
 use Rattle.bbs_board.specs.View.{View}
 
 -- the log gained these items, each with this moment for a mark and at most one of the spare room; without
@@ -32,3 +34,8 @@ StoresBy (verdict.Refused why) stored rows command p q = q ≡ p
 pub record Passes (waits : Bool) (verdict : Verdict) (stored : Bool) (rows : Rows) (command : Command) (p q : Past) : Type 0 where
   pub extends : Extends p q
   pub stores : waits ≡ false → StoresBy verdict stored rows command p q
+
+-- how a call used its disk: how many device calls it made, and whether the disk's count of faults has risen
+pub record UsesDisk {D : Type 0} (moment fault_count : D → ℕ) (done failed : Bool) (old new : View D) : Type 0 where
+  pub calls : StoreTakes done old.waits old.frames (moment old.disk) (moment new.disk)
+  pub faults : CountsFaults failed old.waits new.waits (fault_count old.disk) (fault_count new.disk)

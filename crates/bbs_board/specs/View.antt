@@ -46,6 +46,14 @@ pub record IsFresh {D : Type 0} (board : View D) : Type 0 where
   pub marks : board.marks ≡ []
   pub calm : board.waits ≡ false
 
+-- it was just loaded from this disk: it has done nothing since, its clock and its count of faults are those of its
+-- disk, and the load met no fault
+pub record IsLoadedFrom {D : Type 0} (moment fault_count : D → ℕ) (disk : D) (board : View D) : Type 0 where
+  pub fresh : IsFresh board
+  pub since : board.since ≡ moment board.disk
+  pub faults : board.faults ≡ fault_count board.disk
+  pub stood : fault_count board.disk ≡ fault_count disk
+
 -- the rows of a board: those that its log leaves
 abbrev pub rows_of : {D : Type 0} → View D → Rows
 rows_of board = replay_log board.base board.log

@@ -7,11 +7,10 @@ ghost use Rattle.bbs_model.specs.Calls.{Ends, added, is_done, is_disk_fault, is_
 ghost use Rattle.bbs_model.specs.Replay.{IsLawful};
 ghost use Rattle.bbs_model.specs.Step.{verdict_of, IsLegal};
 ghost use Rattle.bbs_model.specs.Valid.{IsValid};
-ghost use Rattle.bbs_board.specs.Calls.{Grows, Passes};
-ghost use Rattle.bbs_board.specs.Doubts.{CountsFaults, doubts_in, RoseForEach};
+ghost use Rattle.bbs_board.specs.Calls.{Grows, Passes, UsesDisk};
+ghost use Rattle.bbs_board.specs.Doubts.{doubts_in, RoseForEach};
 ghost use Rattle.bbs_board.specs.Kept.{Kept};
 ghost use Rattle.bbs_board.specs.KeptIn.{StaysShort, most_after};
-ghost use Rattle.bbs_board.specs.Storing.{StoreTakes};
 ghost use Rattle.bbs_board.specs.View.{rows_of};
 
 use crate::draft::Draft;
@@ -92,10 +91,8 @@ impl<D: Disk> Board<D> {
             command.entry.now) }
         ensures few { ForSome (D.told self.new.disk)
             (StaysShort (most_after (is_done result) self.old.frames) self.new.frames) }
-        ensures calls { StoreTakes (is_done result) self.old.waits self.old.frames
-            (D.moment self.old.disk) (D.moment self.new.disk) }
-        ensures faults { CountsFaults (is_disk_fault result) self.old.waits self.new.waits
-            (D.fault_count self.old.disk) (D.fault_count self.new.disk) }
+        ensures uses { UsesDisk D.moment D.fault_count (is_done result) (is_disk_fault result)
+            self.old self.new }
     {
         let place = self.history.place();
         let stamp = self.index.next();
@@ -131,10 +128,8 @@ impl<D: Disk> Board<D> {
             (rows_of self.old) command) }
         ensures few { ForSome (D.told self.new.disk)
             (StaysShort (most_after (is_done result) self.old.frames) self.new.frames) }
-        ensures calls { StoreTakes (is_done result) self.old.waits self.old.frames
-            (D.moment self.old.disk) (D.moment self.new.disk) }
-        ensures faults { CountsFaults (is_disk_fault result) self.old.waits self.new.waits
-            (D.fault_count self.old.disk) (D.fault_count self.new.disk) }
+        ensures uses { UsesDisk D.moment D.fault_count (is_done result) (is_disk_fault result)
+            self.old self.new }
     {
         let place = self.history.place();
         match decide(&self.index, &command) {

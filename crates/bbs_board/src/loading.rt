@@ -1,5 +1,5 @@
 //! Loading a board: the journal, then the rows of its head, then its commands one after another.
-ghost use Rattle.std.specs.Prelude.{◌≡◌, ◌+◌, ◌<◌, ◌^◌, false, [], length, IfOk, IfErr};
+ghost use Rattle.std.specs.Prelude.{◌+◌, ◌<◌, ◌^◌, length, IfOk, IfErr};
 ghost use Rattle.byte_ports.specs.Cause.{HasCause};
 ghost use Rattle.disk_trait.specs.Past.{Image};
 ghost use Rattle.disk_trait.specs.Steps.{Goes};
@@ -8,7 +8,7 @@ ghost use Rattle.bbs_journal.specs.LoadFaults.{is_load_disk_fault};
 ghost use Rattle.disk_trait.specs.Shows.{Shows, KeepsContent, Secures};
 ghost use Rattle.bbs_model.specs.Valid.{IsValid};
 ghost use Rattle.bbs_board.specs.Opening.{board_of, IsBoard, Refuses, Gives};
-ghost use Rattle.bbs_board.specs.View.{IsFresh};
+ghost use Rattle.bbs_board.specs.View.{IsLoadedFrom};
 
 use crate::Board;
 use crate::draft::Draft;
@@ -42,13 +42,10 @@ fn board_of(
 /// Loads the board that a disk holds, and syncs both areas. It writes nothing.
 pub fn load<D: Disk>(alloc: Global, disk: D) -> Result<Board<D>, (D, LoadFault)>
     ensures found { IfOk result (λ b. (c : Image) → Shows (D.told b.disk) c → IsBoard b.base c) }
-    ensures fresh { IfOk result IsFresh }
-    ensures since { IfOk result (λ b. b.since ≡ D.moment b.disk) }
-    ensures faults { IfOk result (λ b. b.faults ≡ D.fault_count b.disk) }
+    ensures loaded { IfOk result (IsLoadedFrom D.moment D.fault_count disk) }
     ensures refused { IfErr result (λ e. (c : Image) → Shows (D.told e.0) c → Refuses e.1 c) }
     ensures ok { IfOk result (λ b. Goes (D.told disk) (D.told b.disk) Secures) }
     ensures err { IfErr result (λ e. Goes (D.told disk) (D.told e.0) KeepsContent) }
-    ensures stood { IfOk result (λ b. D.fault_count b.disk ≡ D.fault_count disk) }
     ensures cause { IfErr result (λ e. HasCause (is_load_disk_fault e.1)
         (D.fault_count disk) (D.fault_count e.0)) }
 {

@@ -1,5 +1,5 @@
 //! Loading from a disk in memory, which tells its past at every moment.
-ghost use Rattle.std.specs.Prelude.{◌≡◌, Some, IfOk, IfErr};
+ghost use Rattle.std.specs.Prelude.{Some, IfOk, IfErr};
 ghost use Rattle.byte_ports.specs.Cause.{HasCause};
 ghost use Rattle.disk_trait.specs.Memory.{memory_past, calls_of, faults_of};
 ghost use Rattle.disk_trait.specs.Past.{Image};
@@ -7,7 +7,7 @@ ghost use Rattle.disk_trait.specs.Steps.{Goes};
 ghost use Rattle.bbs_journal.specs.LoadFaults.{is_load_disk_fault};
 ghost use Rattle.disk_trait.specs.Shows.{Shows, KeepsContent, Secures};
 ghost use Rattle.bbs_board.specs.Opening.{IsBoard, Refuses};
-ghost use Rattle.bbs_board.specs.View.{IsFresh};
+ghost use Rattle.bbs_board.specs.View.{IsLoadedFrom};
 
 use crate::{Board, load};
 use bbs_journal::LoadFault;
@@ -22,15 +22,12 @@ pub fn load_from_memory(
 ) -> Result<Board<MemoryDisk>, (MemoryDisk, LoadFault)>
     ensures found { IfOk result (λ b. (c : Image) → Shows (Some (memory_past disk)) c →
         IsBoard b.base c) }
-    ensures fresh { IfOk result IsFresh }
-    ensures since { IfOk result (λ b. b.since ≡ calls_of b.disk) }
-    ensures faults { IfOk result (λ b. b.faults ≡ faults_of b.disk) }
+    ensures loaded { IfOk result (IsLoadedFrom calls_of faults_of disk) }
     ensures refused { IfErr result (λ e. (c : Image) → Shows (Some (memory_past disk)) c →
         Refuses e.1 c) }
     ensures ok { IfOk result (λ b. Goes (Some (memory_past disk)) (Some (memory_past b.disk))
         Secures) }
     ensures err { IfErr result (λ e. Goes (Some (memory_past disk)) (Some (memory_past e.0)) KeepsContent) }
-    ensures stood { IfOk result (λ b. faults_of b.disk ≡ faults_of disk) }
     ensures cause { IfErr result (λ e. HasCause (is_load_disk_fault e.1)
         (faults_of disk) (faults_of e.0)) }
 {

@@ -143,9 +143,11 @@ returns-clause-few g c =
     (subst (λ (b : Bool). HasStored b c.self.inside.journal c.store-stored.new.journal) made c.store-stored.ensures.has) in
     subst (λ (v : View g.row.D.Denot). ForSome (g.D.Disk.told c.store-stored.new.journal.disk) (StaysShort (most_after true v.frames) c.store-stored.new.journal.frames)) c.self.view_is short
 
-pub returns-then-is_err-clause-calls : goal.returns-then-is_err-clause-calls
-returns-then-is_err-clause-calls g c =
-    subst (λ (v : View g.row.D.Denot). StoreTakes false v.waits v.frames (g.D.Disk.moment v.disk) (g.D.Disk.moment c.self.inside.journal.disk)) c.self.view_is (takes_none _ _ _)
+pub returns-then-is_err-clause-uses : goal.returns-then-is_err-clause-uses
+returns-then-is_err-clause-uses g c = record {
+  calls = subst (λ (v : View g.row.D.Denot). StoreTakes false v.waits v.frames (g.D.Disk.moment v.disk) (g.D.Disk.moment c.self.inside.journal.disk)) c.self.view_is (takes_none _ _ _);
+  faults = search rules;
+}
 
 pub returns-clause-grows : goal.returns-clause-grows
 returns-clause-grows g c =
