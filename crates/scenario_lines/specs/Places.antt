@@ -42,6 +42,42 @@ place member.LoseStop = 21
 place member.LoseStart = 22
 place member.LoseReply = 23
 
+-- the member of this name, among those whose words have four bytes
+abbrev pub member_of_four : List ℕ → Option Member
+member_of_four name =
+    if bytes_eq name (codes "cell") then Some member.Cell
+    else (if bytes_eq name (codes "lost") then Some member.Lost
+    else (if bytes_eq name (codes "disk") then Some member.Disk
+    else (if bytes_eq name (codes "port") then Some member.Port
+    else (if bytes_eq name (codes "name") then Some member.Name
+    else (if bytes_eq name (codes "zone") then Some member.Zone
+    else None)))))
+
+-- among those of five bytes
+abbrev pub member_of_five : List ℕ → Option Member
+member_of_five name =
+    if bytes_eq name (codes "times") then Some member.Times
+    else (if bytes_eq name (codes "route") then Some member.Route
+    else (if bytes_eq name (codes "index") then Some member.Index
+    else None))
+
+-- among those of six bytes
+abbrev pub member_of_six : List ℕ → Option Member
+member_of_six name =
+    if bytes_eq name (codes "client") then Some member.Client
+    else (if bytes_eq name (codes "domain") then Some member.Domain
+    else (if bytes_eq name (codes "memory") then Some member.Memory
+    else (if bytes_eq name (codes "failed") then Some member.Failed
+    else None)))
+
+-- among those of ten bytes
+abbrev pub member_of_ten : List ℕ → Option Member
+member_of_ten name =
+    if bytes_eq name (codes "containers") then Some member.Containers
+    else (if bytes_eq name (codes "lose_start") then Some member.LoseStart
+    else (if bytes_eq name (codes "lose_reply") then Some member.LoseReply
+    else None))
+
 -- the member of this name, if there is one, by the name's length
 abbrev pub member_named : List ℕ → Option Member
 member_named name =
@@ -53,25 +89,9 @@ member_named name =
     (if bytes_eq name (codes "tag") then Some member.Tag
     else (if bytes_eq name (codes "ttl") then Some member.Ttl
     else None))
-    else (if nat_eq (length name) 4 then
-    (if bytes_eq name (codes "cell") then Some member.Cell
-    else (if bytes_eq name (codes "lost") then Some member.Lost
-    else (if bytes_eq name (codes "disk") then Some member.Disk
-    else (if bytes_eq name (codes "port") then Some member.Port
-    else (if bytes_eq name (codes "name") then Some member.Name
-    else (if bytes_eq name (codes "zone") then Some member.Zone
-    else None))))))
-    else (if nat_eq (length name) 5 then
-    (if bytes_eq name (codes "times") then Some member.Times
-    else (if bytes_eq name (codes "route") then Some member.Route
-    else (if bytes_eq name (codes "index") then Some member.Index
-    else None)))
-    else (if nat_eq (length name) 6 then
-    (if bytes_eq name (codes "client") then Some member.Client
-    else (if bytes_eq name (codes "domain") then Some member.Domain
-    else (if bytes_eq name (codes "memory") then Some member.Memory
-    else (if bytes_eq name (codes "failed") then Some member.Failed
-    else None))))
+    else (if nat_eq (length name) 4 then member_of_four name
+    else (if nat_eq (length name) 5 then member_of_five name
+    else (if nat_eq (length name) 6 then member_of_six name
     else (if nat_eq (length name) 7 then
     (if bytes_eq name (codes "process") then Some member.Process
     else None)
@@ -82,11 +102,7 @@ member_named name =
     (if bytes_eq name (codes "instances") then Some member.Instances
     else (if bytes_eq name (codes "lose_stop") then Some member.LoseStop
     else None))
-    else (if nat_eq (length name) 10 then
-    (if bytes_eq name (codes "containers") then Some member.Containers
-    else (if bytes_eq name (codes "lose_start") then Some member.LoseStart
-    else (if bytes_eq name (codes "lose_reply") then Some member.LoseReply
-    else None)))
+    else (if nat_eq (length name) 10 then member_of_ten name
     else None))))))))
 
 -- the value of this name, among entries

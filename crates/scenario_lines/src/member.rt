@@ -1,7 +1,7 @@
 //! The members that lines have, and the word of each.
 ghost use Rattle.std.specs.Prelude.{◌≡◌, ◌<◌};
 ghost use Rattle.scenario_lines.specs.Members.{word};
-ghost use Rattle.scenario_lines.specs.Places.{member_named, place};
+ghost use Rattle.scenario_lines.specs.Places.{member_named, member_of_four, member_of_five, member_of_six, member_of_ten, place};
 
 /// A member of a line. It means the same in each line that has it.
 #[derive(Clone, Copy, Debug, PartialEq, Eq)]
@@ -97,6 +97,56 @@ impl Member {
         }
     }
 
+    // The members whose words have four, five, six and ten bytes: `named` looks only among those of its
+    // name's length.
+    fn of_four(name: &str) -> Option<Member>
+        ensures { result ≡ member_of_four name.now }
+    {
+        match name {
+            "cell" => Some(Member::Cell),
+            "lost" => Some(Member::Lost),
+            "disk" => Some(Member::Disk),
+            "port" => Some(Member::Port),
+            "name" => Some(Member::Name),
+            "zone" => Some(Member::Zone),
+            _ => None,
+        }
+    }
+
+    fn of_five(name: &str) -> Option<Member>
+        ensures { result ≡ member_of_five name.now }
+    {
+        match name {
+            "times" => Some(Member::Times),
+            "route" => Some(Member::Route),
+            "index" => Some(Member::Index),
+            _ => None,
+        }
+    }
+
+    fn of_six(name: &str) -> Option<Member>
+        ensures { result ≡ member_of_six name.now }
+    {
+        match name {
+            "client" => Some(Member::Client),
+            "domain" => Some(Member::Domain),
+            "memory" => Some(Member::Memory),
+            "failed" => Some(Member::Failed),
+            _ => None,
+        }
+    }
+
+    fn of_ten(name: &str) -> Option<Member>
+        ensures { result ≡ member_of_ten name.now }
+    {
+        match name {
+            "containers" => Some(Member::Containers),
+            "lose_start" => Some(Member::LoseStart),
+            "lose_reply" => Some(Member::LoseReply),
+            _ => None,
+        }
+    }
+
     /// The member of this name.
     pub(crate) fn named(name: &str) -> Option<Member>
         ensures { result ≡ member_named name.now }
@@ -112,28 +162,9 @@ impl Member {
                 "ttl" => Some(Member::Ttl),
                 _ => None,
             },
-            4 => match name {
-                "cell" => Some(Member::Cell),
-                "lost" => Some(Member::Lost),
-                "disk" => Some(Member::Disk),
-                "port" => Some(Member::Port),
-                "name" => Some(Member::Name),
-                "zone" => Some(Member::Zone),
-                _ => None,
-            },
-            5 => match name {
-                "times" => Some(Member::Times),
-                "route" => Some(Member::Route),
-                "index" => Some(Member::Index),
-                _ => None,
-            },
-            6 => match name {
-                "client" => Some(Member::Client),
-                "domain" => Some(Member::Domain),
-                "memory" => Some(Member::Memory),
-                "failed" => Some(Member::Failed),
-                _ => None,
-            },
+            4 => Member::of_four(name),
+            5 => Member::of_five(name),
+            6 => Member::of_six(name),
             7 => match name {
                 "process" => Some(Member::Process),
                 _ => None,
@@ -147,12 +178,7 @@ impl Member {
                 "lose_stop" => Some(Member::LoseStop),
                 _ => None,
             },
-            10 => match name {
-                "containers" => Some(Member::Containers),
-                "lose_start" => Some(Member::LoseStart),
-                "lose_reply" => Some(Member::LoseReply),
-                _ => None,
-            },
+            10 => Member::of_ten(name),
             _ => None,
         }
     }
