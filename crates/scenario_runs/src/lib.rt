@@ -6,6 +6,7 @@ mod counting;
 mod events;
 mod kept;
 mod playing;
+mod summing;
 mod telling;
 
 pub use playing::{Played, play};

@@ -1,19 +1,18 @@
 //! The phases of a scenario on a board, one after another.
-ghost use Rattle.std.specs.Prelude.{◌≡◌, ◌⊎◌, ◌+◌, ◌<◌, ◌^◌, [], length, IfOk, OnOk, OnErr};
+ghost use Rattle.std.specs.Prelude.{◌≡◌, ◌+◌, ◌<◌, ◌^◌, [], IfOk, OnOk, OnErr};
 ghost use Rattle.std.specs.List.{Contains};
 ghost use Rattle.bbs_board.specs.Doubts.{doubts_in};
 ghost use Rattle.phase_runs.specs.Actors.{AreSameActors};
-ghost use Rattle.program_edge.specs.declared.ending.Ending.TheVariants as ending;
 ghost use Rattle.scenario_reader.specs.Facts.{IsScript};
 ghost use Rattle.scenario_runs.specs.Actors.{starting_actors};
 ghost use Rattle.scenario_runs.specs.Kept.{nothing_kept};
-ghost use Rattle.scenario_runs.specs.Plays.{IsUntold, Plays, summary_of};
-ghost use Rattle.scenario_runs.specs.Tellings.{EndsBehind, Finishes, IsPhaseTold, PhaseEnds, PhasesEnd};
-ghost use Rattle.record_print.specs.Printed.{line_text, summary_data};
+ghost use Rattle.scenario_runs.specs.Plays.{IsUntold, Plays};
+ghost use Rattle.scenario_runs.specs.Tellings.{IsPhaseTold, PhaseEnds, PhasesEnd};
 
 use crate::actors::actors_of;
-use crate::counting::{doubts_in, summary_of};
+use crate::counting::doubts_in;
 use crate::kept::Kept;
+use crate::summing::{ending_by, finish};
 use crate::telling::tell;
 use actor_runs::ActorState;
 use bbs_board::Board;
@@ -23,7 +22,6 @@ use diego_names::OutOfMemory;
 use disk_trait::Disk;
 use phase_threads::run_phase;
 use program_edge::{Ending, written};
-use record_print::summary_text;
 use scenario_lines::{Answered, Phase, Script};
 use std::alloc::Global;
 use std::sync::Wait;
@@ -77,17 +75,6 @@ fn run_and_tell<R: Threads + Wait + Sync, D: Disk + Drop + Send, G: Gate + Sync>
     match kept.add(told.answers, ran.report) {
         Ok(()) => (board, Ok(told.text)),
         Err(want) => (board, Err(want)),
-    }
-}
-
-/// How a phase ends whose text was printed whole, and whose items have so many doubts.
-fn ending_by(doubts: u64) -> Ending
-    ensures { ((doubts ≡ 0) × (result ≡ ending.Done)) ⊎ ((0 < doubts) × (result ≡ ending.Doubt)) }
-{
-    if doubts == 0 {
-        Ending::Done
-    } else {
-        Ending::Doubt
     }
 }
 
@@ -155,45 +142,6 @@ fn play_phases<R: Threads + Wait + Sync, K: Sink, D: Disk + Drop + Send, G: Gate
         }
     }
     (board, Ending::Done)
-}
-
-/// Prints the summary, behind a text that was printed whole and ended so.
-fn print_summary<K: Sink, D: Disk>(
-    alloc: Global,
-    board: &Board<D>,
-    sink: &mut K,
-    ending: Ending,
-    phases: u64,
-) -> Ending
-    ensures { EndsBehind ending result (line_text (summary_data (summary_of board.now phases)))
-        (K.held sink.old) (K.held sink.new) (K.faults sink.old) (K.faults sink.new) }
-{
-    let line = match summary_text(alloc, summary_of(board, phases)) {
-        Ok(line) => line,
-        Err(_) => return Ending::OutOfMemory,
-    };
-    if written(sink, &line) {
-        ending
-    } else {
-        Ending::Unwritten
-    }
-}
-
-/// Prints the summary behind the text of the phases, where that was printed whole.
-fn finish<K: Sink, D: Disk>(
-    alloc: Global,
-    board: &Board<D>,
-    sink: &mut K,
-    ending: Ending,
-    phases: u64,
-) -> Ending
-    ensures { Finishes ending result board.now phases
-        (K.held sink.old) (K.held sink.new) (K.faults sink.old) (K.faults sink.new) }
-{
-    match ending {
-        Ending::Done | Ending::Doubt => print_summary(alloc, board, sink, ending, phases),
-        other => other,
-    }
 }
 
 /// Plays the phases with the actors as they begin, and prints the summary.
