@@ -6,4 +6,4 @@ use Rattle.diego_run.proofs.main.Goals as goal
 
 -- the disk of files goes to the threads of a phase
 pub diego_top-status-requires-send-D : goal.diego_top-status-requires-send-D
-diego_top-status-requires-send-D c κs = search (sendable, crosses, file_disk.the_send, real_calls_send) depth 60
+diego_top-status-requires-send-D g c κs = search (sendable, crosses, file_disk.the_send, real_calls_send) depth 60
