@@ -1,6 +1,6 @@
 -- The actors of a scenario can do its lines.
-use Rattle.std.proofs.Common.{◌≡◌, ℕ, suc, ◌+◌, ◌-◌, ◌<◌, ◌==◌, ◌^◌, Bool, true, false, List}
-use Rattle.std.proofs.Common.{[], length, map, get_or, Option, Some, refl, sym, ap, subst, ◌∙◌, arith}
+use Rattle.std.proofs.Common.{◌≡◌, ℕ, suc, ◌<◌, ◌==◌, Bool, true, false, List}
+use Rattle.std.proofs.Common.{[], length, get_or, Some, ap, subst, ◌∙◌, arith}
 use Rattle.std.specs.List.{All, Contains, slice_get, slice_index_or}
 use Rattle.std.specs.Option.{option_map}
 use Rattle.std.proofs.lemmas.Bool.{eqb-true}

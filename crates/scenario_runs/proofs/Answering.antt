@@ -1,8 +1,8 @@
 -- The answers of a phase are to its lines.
 use Rattle.std.proofs.Common.{◌≡◌, ℕ, suc, ◌<◌, ◌≤◌, List, [], ◌∷◌, ◌++◌, length}
-use Rattle.std.proofs.Common.{map, get_or, Option, Some, refl, sym, ap, subst, ◌∙◌, arith}
+use Rattle.std.proofs.Common.{map, get_or, Option, refl, arith}
 use Rattle.std.specs.List.{All, Contains, flat_map, range_with_len, slice_index_or}
-use Rattle.std.proofs.lemmas.List.Elements.{All-append, All-cons, All-from_get_or, All-head, All-map, All-nil, All-same, All-tail}
+use Rattle.std.proofs.lemmas.List.Elements.{All-append, All-from_get_or, All-head, All-map, All-nil, All-same, All-tail}
 use Rattle.std.proofs.lemmas.Option.{slice_get-get_or}
 use Rattle.disk_trait.specs.Past.{Past}
 use Rattle.bbs_board.specs.View.{View}

@@ -1,6 +1,6 @@
 -- The phases so far, each of which ran whole and met no fault of the disk or the sink.
 use Rattle.std.proofs.Common.{◌≡◌, ◌≢◌, ℕ, ◌+◌, ◌<◌, ◌≤◌, true, List, [], ◌∷◌, ◌++◌}
-use Rattle.std.proofs.Common.{length, take, drop, get_or, Option, refl, sym, ap, subst, ◌∙◌, arith}
+use Rattle.std.proofs.Common.{length, take, drop, get_or, Option, refl, sym, ap, ◌∙◌, arith}
 use Rattle.std.proofs.lemmas.List.{append-nil, drop_more, length-take-le, take-append-drop, take_all}
 use Rattle.disk_trait.specs.Past.{Past}
 use Rattle.bbs_board.specs.Doubts.{doubts_in}
@@ -15,7 +15,7 @@ use Rattle.program_edge.specs.Ports.{PrintsTo}
 use Rattle.program_edge.specs.declared.ending.Ending.{Ending}
 use Rattle.program_edge.specs.declared.ending.Ending.TheVariants as ending
 use Rattle.scenario_runs.specs.Actors.{starting_actors}
-use Rattle.scenario_runs.specs.Courses.{beginning, PlaysPhase, RunCourse}
+use Rattle.scenario_runs.specs.Courses.{beginning, PlaysPhase}
 use Rattle.scenario_runs.specs.Kept.{KeptSoFar, nothing_kept}
 use Rattle.scenario_runs.specs.Plays.{PlaysPart, RanFirst}
 use Rattle.scenario_runs.specs.Tellings.{run_course, KeepsCourse, PhaseEnds, PhasesEnd, PhasesStop, TellsPhase}

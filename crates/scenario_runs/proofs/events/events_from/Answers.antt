@@ -1,4 +1,4 @@
-use Rattle.std.proofs.Common.{◌≡◌, ◌++◌, List, ap, arith, ◌∙◌}
+use Rattle.std.proofs.Common.{◌++◌, List, ap, arith, ◌∙◌}
 use Rattle.bbs_model.specs.declared.event.Event.{Event}
 use Rattle.scenario_runs.specs.Courses.{events_from}
 use Rattle.scenario_runs.proofs.Hearing.{heard_more, heard_whole}

@@ -1,4 +1,4 @@
-use Rattle.std.proofs.Common.{ap, subst, ◌∙◌, ℕ}
+use Rattle.std.proofs.Common.{ap, subst, ℕ}
 use Rattle.scenario_runs.specs.Kept.{KeptSoFar}
 use Rattle.scenario_runs.specs.Tellings.{Finishes}
 use Rattle.scenario_runs.proofs.Endings.{no_actors, plays}
