@@ -30,7 +30,7 @@ use Rattle.phase_runs.specs.Phases.{HasRound, IsRoundCut, IsToldBy, PhaseCut, Ph
 use Rattle.phase_runs.specs.Reps.{bare, reps_of, with_reps}
 use Rattle.phase_runs.proofs.Public.{goes_nowhere, not_begun, not_begun_round, one_of, same_as, same_held, same_then}
 use Rattle.phase_threads.specs.Clients.{are_of_clients}
-use Rattle.phase_threads.specs.Holding.{IsReported, WasBegun, WasHeld}
+use Rattle.phase_threads.specs.Holding.{ReportsRound, WasBegun, WasHeld}
 use Rattle.phase_threads.specs.Sharing.{AreBack, HaveRun, IsUnused, WereCut}
 use Rattle.phase_threads.proofs.Away.{cut_with, reps_back, same_bare, same_with, takes_with, with_at, with_twice}
 use Rattle.phase_threads.proofs.Pairs.{as_elem, image_of, stands}
@@ -176,7 +176,7 @@ module _ {V S D : Type 0} (told : D → Option Past) (v w : View D) (z : TableId
           mids_reps : reps_of (mids news run.same) ≡ reps_of olds
           mids_reps = their_reps news run.same
 
-          told_by : (r : Option Report) → IsReported phase.at line (reps_of olds) reps (whole_view v) (seen_by its.0) r
+          told_by : (r : Option Report) → ReportsRound phase.at line (reps_of olds) reps (whole_view v) (seen_by its.0) r
               → IsToldBy phase.at line (reps_of olds) reps (whole_view v) (seen_by its.0) back.fresh r
           told_by None is = doubt_there its.0 its.1 is.0 is.1
           told_by (Some r) is = is

@@ -16,7 +16,7 @@ use Rattle.crash_backoff.specs.declared.moment.Moment.{Moment}
 use Rattle.phase_runs.proofs.Public.{one_of}
 use Rattle.scenario_lines.specs.declared.script.RoundLine.{RoundLine}
 use Rattle.ticket_desk.specs.declared.pass.Pass.{Pass}
-use Rattle.phase_threads.specs.Holding.{IsHeld, IsReported, WasBegun, WasHeld}
+use Rattle.phase_threads.specs.Holding.{IsHeld, ReportsRound, WasBegun, WasHeld}
 use Rattle.phase_threads.specs.declared.holding.Held.{Held}
 
 -- an item of one caller is one of all
@@ -43,9 +43,9 @@ module _ {V S D P : Type 0} (pass_of : P → Pass V Item (Origin S)) (board : Vi
     same = held.same;
     items = its_items;
     reported = λ p is.
-        subst (λ (q : Pass V Item (Origin S)). IsReported now line reps x.cells.items (whole_view board) (seen_by q) report) (is_first p is)
-        (subst (λ (v : PortView). IsReported now line reps x.cells.items v (seen_by (pass_of x.port)) report) seen
-        (subst (λ end. IfOk end (IsReported now line reps x.cells.items (seen_by (pass_of way)) (seen_by (pass_of x.port)))) ended held.reported));
+        subst (λ (q : Pass V Item (Origin S)). ReportsRound now line reps x.cells.items (whole_view board) (seen_by q) report) (is_first p is)
+        (subst (λ (v : PortView). ReportsRound now line reps x.cells.items v (seen_by (pass_of x.port)) report) seen
+        (subst (λ end. IfOk end (ReportsRound now line reps x.cells.items (seen_by (pass_of way)) (seen_by (pass_of x.port)))) ended held.reported));
   }
 
   -- it was held up to some item

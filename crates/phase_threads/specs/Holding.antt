@@ -21,15 +21,15 @@ use Rattle.ticket_desk.specs.declared.pass.Pass.{Pass}
 use Rattle.phase_threads.specs.declared.holding.Held.{Held}
 
 -- a round that ended so has a report; a disk fault leaves none, and want of memory is told as such
-abbrev pub IsEndOf : {E : Type 0} → Result Report CallFault → Result (Option Report) E → Type 0
-IsEndOf (Ok r) told = told ≡ Ok (Some r)
-IsEndOf (Err (fault.Disk place)) told = told ≡ Ok None
-IsEndOf (Err fault.OutOfMemory) told = IsErr told
+abbrev pub IsEndOfRound : {E : Type 0} → Result Report CallFault → Result (Option Report) E → Type 0
+IsEndOfRound (Ok r) told = told ≡ Ok (Some r)
+IsEndOfRound (Err (fault.Disk place)) told = told ≡ Ok None
+IsEndOfRound (Err fault.OutOfMemory) told = IsErr told
 
 -- the report tells what a round did; where there is none, a disk fault ended it, whose doubt it sees
-abbrev pub IsReported : Moment → RoundLine → List CellRep → List CellRep → PortView → PortView → Option Report → Type 0
-IsReported now line reps reps' v w None = (place : ℕ) × IsDoubtedAt 0 place v w
-IsReported now line reps reps' v w (Some r) = RoundOf now line reps reps' v w r
+abbrev pub ReportsRound : Moment → RoundLine → List CellRep → List CellRep → PortView → PortView → Option Report → Type 0
+ReportsRound now line reps reps' v w None = (place : ℕ) × IsDoubtedAt 0 place v w
+ReportsRound now line reps reps' v w (Some r) = RoundOf now line reps reps' v w r
 
 -- a round went over these reps by that port, up to its end or to a want of memory
 pub record IsHeld {P : Type 0} (view : P → PortView) (Keeps : P → P → Type 0) (now : Moment) (line : RoundLine)
@@ -37,7 +37,7 @@ pub record IsHeld {P : Type 0} (view : P → PortView) (Keeps : P → P → Type
   pub keeps : Keeps port x.port
   pub items : HasItems 0 now reps (view port) (view x.port)
   pub same : KeepReps reps x.cells.items
-  pub reported : IfOk x.end (IsReported now line reps x.cells.items (view port) (view x.port))
+  pub reported : IfOk x.end (ReportsRound now line reps x.cells.items (view port) (view x.port))
 
 module _ {V S D : Type 0} where
   -- the round was held over these reps by the first of the passes
@@ -46,7 +46,7 @@ module _ {V S D : Type 0} where
     pub same : KeepReps reps reps'
     pub items : (p : Pass V Item (Origin S)) → slice_get passes 0 ≡ Some p → HasItems 0 now reps (whole_view board) (seen_by p)
     pub reported : (p : Pass V Item (Origin S)) → slice_get passes 0 ≡ Some p
-        → IsReported now line reps reps' (whole_view board) (seen_by p) report
+        → ReportsRound now line reps reps' (whole_view board) (seen_by p) report
 
   -- the round was not begun, or each item of it was asked for
   abbrev pub WasBegun : View D → Moment → List CellRep → List (Pass V Item (Origin S)) → Type 0

@@ -1,6 +1,6 @@
 //! A round over the reps of a phase's cells.
 ghost use Rattle.std.specs.Prelude.{◌≡◌};
-ghost use Rattle.phase_threads.specs.Holding.{IsEndOf, IsHeld};
+ghost use Rattle.phase_threads.specs.Holding.{IsEndOfRound, IsHeld};
 
 use actor_runs::GatedPort;
 use bbs_model::{CallFault, Port};
@@ -25,7 +25,7 @@ pub(crate) struct Held<P> {
 
 // What is reported of a round that ended so.
 fn report_of(end: Result<Report, CallFault>) -> Result<Option<Report>, OutOfMemory>
-    ensures { IsEndOf end result }
+    ensures { IsEndOfRound end result }
 {
     match end {
         Ok(report) => Ok(Some(report)),
