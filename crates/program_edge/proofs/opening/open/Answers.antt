@@ -11,7 +11,7 @@ returns-in-Ok-clause-opens g c = record {
   timed = λ q told. g.met.D.Disk.timed c.in-Ok.board.disk q told;
   secures = c.in-Ok.ensures.ok;
   same_sink = (refl, refl);
-  no_fault = c.in-Ok.ensures.stood;
+  no_fault = c.in-Ok.ensures.loaded.stood;
 }
 
 pub returns-in-Err-clause-ends : goal.returns-in-Err-clause-ends
