@@ -34,10 +34,10 @@ fn log_of(board: Board<MemoryDisk>) -> Vec<Item> {
     log
 }
 
-// A client wants an instance of the process with this name of one letter.
-fn desire(letter: u8) -> Result<Op, Fail> {
+// What a client wants of the process with this name of one letter.
+fn desired(letter: u8) -> Result<Desired, Fail> {
     let process = Name::read(&[letter])?;
-    let desired = Desired {
+    Ok(Desired {
         process,
         domain: process,
         instances: 1,
@@ -46,29 +46,35 @@ fn desire(letter: u8) -> Result<Op, Fail> {
         tag: None,
         route: None,
         port: 8080,
-    };
-    Ok(Op::Desire { desired })
+    })
 }
 
-fn done(by: u32, op: Op) -> Item {
-    Item::Done(by, Command { now: Moment(0), op })
+fn command(desired: Desired) -> Command {
+    Command {
+        now: Moment(0),
+        op: Op::Desire { desired },
+    }
 }
 
-fn asks(line: u32, actor: u32, op: Op) -> Line {
+fn done(by: u32, desired: Desired) -> Item {
+    Item::Done(by, command(desired))
+}
+
+fn asks(line: u32, actor: u32, desired: Desired) -> Line {
     Line {
         line,
         actor,
-        act: Act::Client(op),
+        act: Act::Client(Op::Desire { desired }),
         lost: None,
         times: 1,
     }
 }
 
-// A phase in which each of two clients asks once.
-fn phase_of(alloc: Global, ops: [Op; 2], round: Option<RoundLine>) -> Result<Phase, Fail> {
+fn phase_of(alloc: Global, all: &[Line], round: Option<RoundLine>) -> Result<Phase, Fail> {
     let mut lines = List::new(alloc);
-    lines.push(asks(2, 1, ops[0]))?;
-    lines.push(asks(3, 2, ops[1]))?;
+    for line in all {
+        lines.push(*line)?;
+    }
     Ok(Phase {
         at: Moment(0),
         lines,
@@ -76,51 +82,59 @@ fn phase_of(alloc: Global, ops: [Op; 2], round: Option<RoundLine>) -> Result<Pha
     })
 }
 
-#[test]
-fn an_actor_goes_on_while_another_is_held_up(rt: HostRuntime) -> Result<(), Fail> {
-    let ops = [desire(b'a')?, desire(b'b')?];
-    let phase = phase_of(rt.alloc(), ops, None)?;
-    let gate = Waiting::new(1, 2, 2);
-    let board = begin(rt.alloc())?;
-    let (board, _) = run_two(&rt, rt.alloc(), board, &gate, &phase).ok_or("it was cut off")?;
-    assert!(rt; gate.has_waited());
-    assert!(rt; log_of(board).as_slice() == [done(2, ops[1]), done(1, ops[0])].as_slice());
-    Ok(())
-}
-
-#[test]
-fn the_round_goes_on_while_an_actor_is_held_up(rt: HostRuntime) -> Result<(), Fail> {
-    let ops = [desire(b'a')?, desire(b'b')?];
-    let round = RoundLine {
+// A round in which nothing is lost.
+fn round_of(alloc: Global) -> RoundLine {
+    RoundLine {
         line: 4,
-        lose_ask: List::new(rt.alloc()),
-        lose_stop: List::new(rt.alloc()),
-        lose_start: List::new(rt.alloc()),
-        lose_reply: List::new(rt.alloc()),
-    };
-    let phase = phase_of(rt.alloc(), ops, Some(round))?;
-    let gate = Waiting::new(1, 0, 1);
-    let mut board = begin(rt.alloc())?;
-    let first = Command {
-        now: Moment(0),
-        op: desire(b'c')?,
-    };
-    let _answer = board.call(3, first);
-    let (board, report) = run_two(&rt, rt.alloc(), board, &gate, &phase).ok_or("it was cut off")?;
-    assert!(rt; gate.has_waited());
-    assert!(rt; report.is_some());
-    let log = log_of(board);
-    let by = |number: u32| log.iter().filter(|item| by_of(item) == number).count();
-    assert_eq!(rt; by(1), 1);
-    assert_eq!(rt; by(2), 1);
-    assert!(rt; by(0) > 0);
-    assert!(rt; log.contains(&done(1, ops[0])));
-    assert!(rt; log.contains(&done(2, ops[1])));
-    Ok(())
+        lose_ask: List::new(alloc),
+        lose_stop: List::new(alloc),
+        lose_start: List::new(alloc),
+        lose_reply: List::new(alloc),
+    }
 }
 
 fn by_of(item: &Item) -> u32 {
     match item {
         Item::Done(by, _) | Item::Doubt(by, _) => *by,
     }
+}
+
+// How many items are by the caller of this number.
+fn count_by(log: &[Item], number: u32) -> usize {
+    log.iter().filter(|item| by_of(item) == number).count()
+}
+
+#[test]
+fn an_actor_goes_on_while_another_is_held_up(rt: HostRuntime) -> Result<(), Fail> {
+    let (a, b) = (desired(b'a')?, desired(b'b')?);
+    let lines = [asks(2, 1, a), asks(3, 2, b)];
+    let phase = phase_of(rt.alloc(), &lines, None)?;
+    let gate = Waiting::new(1, 2, 2);
+    let board = begin(rt.alloc())?;
+    let (board, _) = run_two(&rt, rt.alloc(), board, &gate, &phase).ok_or("it was cut off")?;
+    assert!(rt; gate.has_waited());
+    let log = log_of(board);
+    let wanted = [done(2, b), done(1, a)];
+    assert!(rt; log.as_slice() == wanted.as_slice());
+    Ok(())
+}
+
+#[test]
+fn the_round_goes_on_while_an_actor_is_held_up(rt: HostRuntime) -> Result<(), Fail> {
+    let (a, b) = (desired(b'a')?, desired(b'b')?);
+    let lines = [asks(2, 1, a), asks(3, 2, b)];
+    let phase = phase_of(rt.alloc(), &lines, Some(round_of(rt.alloc())))?;
+    let gate = Waiting::new(1, 0, 1);
+    let mut board = begin(rt.alloc())?;
+    let _answer = board.call(3, command(desired(b'c')?));
+    let (board, report) = run_two(&rt, rt.alloc(), board, &gate, &phase).ok_or("it was cut off")?;
+    assert!(rt; gate.has_waited());
+    assert!(rt; report.is_some());
+    let log = log_of(board);
+    assert_eq!(rt; count_by(log.as_slice(), 1), 1);
+    assert_eq!(rt; count_by(log.as_slice(), 2), 1);
+    assert!(rt; count_by(log.as_slice(), 0) > 0);
+    assert!(rt; log.contains(&done(1, a)));
+    assert!(rt; log.contains(&done(2, b)));
+    Ok(())
 }

@@ -1,5 +1,5 @@
 -- What a round over a port did is what it did by its port.
-use Rattle.std.proofs.Common.{◌≡◌, ℕ, List, Option, Some, None, Result, Ok, Err, IfOk, length, refl, ap, sym, subst, ◌∙◌}
+use Rattle.std.proofs.Common.{List, Option, Result, Ok, Err, IfOk, length, refl, ap, sym, subst, ◌∙◌}
 use Rattle.std.specs.Prelude.{IfErr}
 use Rattle.bbs_model.specs.PortView.{PortView}
 use Rattle.bbs_model.specs.declared.reply.CallFault.{CallFault}

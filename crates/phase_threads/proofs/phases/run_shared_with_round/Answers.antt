@@ -1,12 +1,12 @@
 -- The board comes back from its actors and its round, and the cells have their reps again.
-use Rattle.std.proofs.Common.{◌≡◌, List, Result, Ok, Err, IfOk, OnErr, Some, ◌+◌, length, map, refl, sym, ap, ◌∙◌, subst}
+use Rattle.std.proofs.Common.{◌≡◌, List, Result, Ok, Err, IfOk, OnErr, length, map, refl, sym, ap, ◌∙◌, subst}
 use Rattle.std.proofs.lemmas.List.{length-map}
 use Rattle.cell_rep.specs.declared.rep.CellRep.{CellRep}
 use Rattle.scenario_lines.specs.declared.script.Line.{Line}
 use Rattle.actor_runs.specs.declared.actor_state.ActorState.{ActorState}
 use Rattle.phase_runs.specs.Actors.{CanAllDo}
 use Rattle.phase_runs.specs.Phases.{PhaseCut, PhaseRan}
-use Rattle.phase_runs.specs.Reps.{bare, reps_of, with_reps}
+use Rattle.phase_runs.specs.Reps.{bare}
 use Rattle.phase_threads.specs.Holding.{WasBegun, WasHeld}
 use Rattle.phase_threads.specs.Sharing.{AreBack, HaveRun, WereCut}
 use Rattle.phase_threads.proofs.Away.{all_can_bare}

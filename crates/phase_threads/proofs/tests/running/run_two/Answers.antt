@@ -1,5 +1,5 @@
 -- Two clients can do the lines of clients.
-use Rattle.std.proofs.Common.{◌≡◌, ℕ, zero, suc, ◌==◌, not, true, List, [], ◌∷◌, Some, refl, subst}
+use Rattle.std.proofs.Common.{◌≡◌, ℕ, zero, suc, ◌==◌, not, true, List, [], ◌∷◌, Some, refl, sym, subst, ◌∙◌}
 use Rattle.std.specs.List.{Contains}
 use Rattle.std.proofs.lemmas.List.Elements.{All-contains, All-filter}
 use Rattle.std.proofs.lemmas.List.Sums.{AllPass-from_list_all}
@@ -34,4 +34,4 @@ both_can lines n m clients (suc (suc k)) a is l inside = cc (is)
 
 pub run_phase-board-requires-clause-can : goal.run_phase-board-requires-clause-can
 run_phase-board-requires-clause-can g c κs within =
-    both_can c.args.phase.now.lines c.in_ok-name.name c.in_ok-name.name (sym c.are_of_clients.ensures ∙ c.if-are_of_clients.true)
+    both_can c.args.phase.now.lines c.in_ok-name.name c.in_ok-name.name (sym c.are_of_clients.ensures ∙ c.if-not-are_of_clients.false)
