@@ -2,11 +2,13 @@
 //! above their test: the scenario (`_LINES`), what it prints (`_TEXT`), and the rows behind it (`_ROWS`).
 mod answers;
 mod at_once;
+mod beside;
 mod boards;
 mod cell_answers;
 mod cell_states;
 mod cells;
 mod clients;
+mod crossing;
 mod doubts;
 mod drains;
 mod failing;

@@ -19,11 +19,6 @@ fn a_source_of_nothing_but_newlines_is_a_scenario_of_no_phases(rt: HostRuntime) 
     holds(&rt, &left.disk, EMPTY);
 }
 
-// Adds a text to another.
-fn add(rt: &impl Abort, text: &mut String, more: &str) {
-    text.push_str(more).expect(rt, "memory");
-}
-
 // The line of a client of that number.
 fn line_of(rt: &impl Abort, alloc: Global, actor: u32) -> String {
     format!(in alloc; "{{\"client\":\"{actor}\",\"op\":\"undesire\",\"process\":\"p\"}}\n").expect(
