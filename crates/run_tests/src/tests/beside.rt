@@ -53,6 +53,18 @@ fn first_instance(rt: &impl Abort, process: &str) -> Key {
     }
 }
 
+fn make(rt: &impl Abort, process: &str) -> Op {
+    Op::Make {
+        key: first_instance(rt, process),
+    }
+}
+
+fn place_fail(rt: &impl Abort, process: &str) -> Op {
+    Op::PlaceFail {
+        key: first_instance(rt, process),
+    }
+}
+
 // Where in the log a caller did this.
 fn place_of(log: &[Item], number: u32, op: Op) -> Option<usize> {
     let item = Item::Done(number, Command { now: Moment(0), op });
@@ -68,11 +80,13 @@ struct Course {
 }
 
 fn course_of(rt: &impl Abort, log: &[Item], client: u32, process: &str) -> Course {
-    let key = first_instance(rt, process);
+    let desired = place_of(log, client, desire(rt, process)).expect(rt, "it is desired");
+    let made = place_of(log, 0, make(rt, process));
+    let noted = place_of(log, 0, place_fail(rt, process));
     Course {
-        desired: place_of(log, client, desire(rt, process)).expect(rt, "it is desired"),
-        made: place_of(log, 0, Op::Make { key }),
-        noted: place_of(log, 0, Op::PlaceFail { key }),
+        desired,
+        made,
+        noted,
     }
 }
 
@@ -108,7 +122,7 @@ impl Course {
 // The log is a shuffle of the clients' items, one each, and the round's: it makes what it has read of, by name, and
 // then notes of each that there is no room.
 fn is_shuffle(rt: &impl Abort, log: &[Item], a: &Course, b: &Course) {
-    assert_eq!(rt; log.len(), a.count() + b.count());
+    assert_eq!(rt; log.len(), a.count().saturating_add(b.count()));
     a.is_in_order(rt);
     b.is_in_order(rt);
     assert!(rt; is_before(a.made, b.made));
