@@ -150,11 +150,6 @@ fn foreign_of(rt: &impl Abort, left: &Left, a: &Course, b: &Course) -> usize {
     (end - start).saturating_sub(own)
 }
 
-// What stands in a line for the instance of a process, or nothing where the round did not make it.
-fn of_made(made: bool, text: &str) -> &str {
-    if made { text } else { "" }
-}
-
 // What the report calls without a place.
 fn unplaced(a: bool, b: bool) -> &'static str {
     match (a, b) {
