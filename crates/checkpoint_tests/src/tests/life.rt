@@ -4,25 +4,16 @@ use bbs_board::{Board, KeptIn};
 use bbs_model::{Command, Op};
 use crash_backoff::Moment;
 use diego_names::Name;
-use disk_trait::{Area, Disk};
+use disk_trait::{Area, Disk, MemoryDisk};
 use std::alloc::Global;
 use std::process::Abort;
 use std::test::Fail;
 
-/// Its first transition, and those that follow it by turns.
-#[derive(Clone, Copy)]
-pub struct Life {
-    first: Command,
-    two: Command,
-    one: Command,
-}
+/// Its first transition, and those that follow it by turns: to two instances and to one.
+pub type Life = [Command; 3];
 
 pub fn make_life() -> Result<Life, Fail> {
-    Ok(Life {
-        first: desire(b'w')?,
-        two: update(2)?,
-        one: update(1)?,
-    })
+    Ok([desire(b'w')?, update(2)?, update(1)?])
 }
 
 fn update(instances: u32) -> Result<Command, Fail> {
@@ -39,11 +30,11 @@ fn update(instances: u32) -> Result<Command, Fail> {
 
 fn transition(life: &Life, number: u64) -> Command {
     if number == 0 {
-        life.first
+        life[0]
     } else if number % 2 == 1 {
-        life.two
+        life[1]
     } else {
-        life.one
+        life[2]
     }
 }
 
@@ -54,8 +45,8 @@ pub fn live<D: Disk>(rt: &impl Abort, board: &mut Board<D>, life: &Life, next: u
     }
 }
 
-/// After so many transitions the board is kept there.
-pub fn passes<D: Disk + Drop>(
+// After so many transitions the board is kept there.
+fn passes<D: Disk + Drop>(
     rt: &impl Abort,
     mut board: Board<D>,
     life: &Life,
@@ -69,15 +60,24 @@ pub fn passes<D: Disk + Drop>(
     disk_in(board)
 }
 
+/// The disk of a board that is loaded from this area and passes these stations.
+pub fn lived(
+    rt: &impl Abort,
+    alloc: Global,
+    area: &[u8],
+    stations: &[(u64, KeptIn)],
+) -> Result<MemoryDisk, Fail> {
+    let life = make_life()?;
+    let board = loaded(alloc, disk_of(alloc, area, b"", &[])?)?;
+    Ok(passes(rt, board, &life, stations))
+}
+
 /// How many device calls the load of a full area makes: its 69,691 bytes are read in two pieces.
 pub const FULL_CALLS: u64 = 8;
 
 /// An area of generation 1 with so many frames.
 pub fn area_with(rt: &impl Abort, alloc: Global, frames: u64) -> Result<Vec<u8>, Fail> {
-    let life = make_life()?;
-    let stations = [(frames, kept(Area::A, 1, frames))];
-    let board = loaded(alloc, disk_of(alloc, &EMPTY, b"", &[])?)?;
-    let disk = passes(rt, board, &life, &stations);
+    let disk = lived(rt, alloc, &EMPTY, &[(frames, kept(Area::A, 1, frames))])?;
     Ok(disk.bytes(Area::A).to_vec(alloc)?)
 }
 
@@ -108,7 +108,6 @@ fn are_found(rt: &impl Abort, alloc: Global, a: &[u8], b: &[u8]) -> Result<(), F
 #[test]
 fn a_board_whose_area_is_full_goes_on_in_the_other_one(rt: HostRuntime) -> Result<(), Fail> {
     let alloc = rt.alloc();
-    let life = make_life()?;
     let stations = [
         (4095, kept(Area::A, 1, 4095)),
         (4096, kept(Area::A, 1, 4096)),
@@ -118,7 +117,6 @@ fn a_board_whose_area_is_full_goes_on_in_the_other_one(rt: HostRuntime) -> Resul
         (12288, kept(Area::A, 3, 4096)),
         (12289, kept(Area::B, 4, 1)),
     ];
-    let board = loaded(alloc, disk_of(alloc, &EMPTY, b"", &[])?)?;
-    let disk = passes(&rt, board, &life, &stations);
+    let disk = lived(&rt, alloc, &EMPTY, &stations)?;
     are_found(&rt, alloc, disk.bytes(Area::A), disk.bytes(Area::B))
 }

@@ -1,6 +1,6 @@
 //! A stop within each device call of a checkpoint.
 use super::heads::BEFORE;
-use super::life::{FULL_CALLS, area_with, make_life, passes};
+use super::life::{FULL_CALLS, area_with, lived};
 use super::{CALLS, Opened, checkpointed, disk_of, found, kept, loaded};
 use bbs_model::Rows;
 use disk_trait::{Area, Disk, MemoryDisk, Torn};
@@ -76,11 +76,8 @@ fn leaves_one(rt: &impl Abort, alloc: Global, disk: &MemoryDisk) -> Result<(), F
 #[test]
 fn a_stop_in_a_call_that_makes_a_checkpoint_leaves_one_board(rt: HostRuntime) -> Result<(), Fail> {
     let alloc = rt.alloc();
-    let life = make_life()?;
     let area = area_with(&rt, alloc, 4096)?;
-    let stations = [(4097, kept(Area::B, 2, 1))];
-    let board = loaded(alloc, disk_of(alloc, &area, b"", &[])?)?;
-    let disk = passes(&rt, board, &life, &stations);
+    let disk = lived(&rt, alloc, &area, &[(4097, kept(Area::B, 2, 1))])?;
     assert_eq!(rt; disk.clock(), FULL_CALLS + 12);
     leaves_one(&rt, alloc, &disk)
 }
