@@ -2,6 +2,7 @@
 mod back;
 mod faults;
 mod heads;
+mod last;
 mod life;
 mod stops;
 
@@ -28,6 +29,11 @@ fn disk_of(alloc: Global, a: &[u8], b: &[u8], failing: &[u64]) -> Result<MemoryD
     let a = a.to_vec(alloc)?;
     let b = b.to_vec(alloc)?;
     Ok(MemoryDisk::new(alloc, a, b, failing.to_vec(alloc)?))
+}
+
+// A disk of what this one reads now.
+fn copy_of(alloc: Global, disk: &MemoryDisk) -> Result<MemoryDisk, Fail> {
+    disk_of(alloc, disk.bytes(Area::A), disk.bytes(Area::B), &[])
 }
 
 // The board of a disk that must hold one.

@@ -3,7 +3,7 @@ use super::life::{Life, area_with, live, make_life};
 use super::{CALLS, EMPTY, are_named, desire, disk_in, disk_of, does, found, kept, loaded};
 use bbs_board::Board;
 use bbs_model::Command;
-use disk_trait::{Area, Disk};
+use disk_trait::{Area, Disk, MemoryDisk};
 use std::alloc::Global;
 use std::process::Abort;
 use std::test::Fail;
@@ -31,15 +31,27 @@ const BACK: [u8; 68] = *b"\x01DIEGOBBS\x00\x01\x00\x00\x00\x00\x00\x00\x00\x03\x
 \x00\x00\x00\x01\x00\x00\x00\x00\x00\x00\x00\x00\x00\x00\x00\x00\
 \x01w\x01w\x00\x00\x00\x01\x00\x00\x00\x40\x00\x00\x00\x80\x00\x00\x1f\x90\x00";
 
-// A checkpoint, a transition, and a checkpoint back into the area that was left.
+// A checkpoint, one that finds nothing to do, a transition, and a checkpoint back into the area that was
+// left.
 fn there_and_back<D: Disk + Drop>(rt: &impl Abort, mut board: Board<D>, life: &Life) -> D {
     assert_eq!(rt; board.checkpoint(), Ok(()));
     assert_eq!(rt; board.kept_in(), kept(Area::B, 2, 0));
+    assert_eq!(rt; board.clock(), CALLS + 8);
+    assert_eq!(rt; board.checkpoint(), Ok(()));
+    assert_eq!(rt; board.kept_in(), kept(Area::B, 2, 0));
+    assert_eq!(rt; board.clock(), CALLS + 8);
     live(rt, &mut board, life, 11);
     assert_eq!(rt; board.kept_in(), kept(Area::B, 2, 1));
     assert_eq!(rt; board.checkpoint(), Ok(()));
     assert_eq!(rt; board.kept_in(), kept(Area::A, 3, 0));
     disk_in(board)
+}
+
+/// The disk of a board of ten transitions in this area that went there and back.
+pub fn gone_back(rt: &impl Abort, alloc: Global, old: &[u8]) -> Result<MemoryDisk, Fail> {
+    let life = make_life()?;
+    let board = loaded(alloc, disk_of(alloc, old, b"", &[])?)?;
+    Ok(there_and_back(rt, board, &life))
 }
 
 fn goes_on<D: Disk + Drop>(rt: &impl Abort, mut board: Board<D>, command: Command) -> D {
@@ -82,9 +94,7 @@ fn is_back(rt: &impl Abort, alloc: Global, old: &[u8], a: &[u8], b: &[u8]) -> Re
 #[test]
 fn what_a_longer_area_held_stays_behind_a_closed_gate(rt: HostRuntime) -> Result<(), Fail> {
     let alloc = rt.alloc();
-    let life = make_life()?;
     let old = area_with(&rt, alloc, 10)?;
-    let board = loaded(alloc, disk_of(alloc, &old, b"", &[])?)?;
-    let disk = there_and_back(&rt, board, &life);
+    let disk = gone_back(&rt, alloc, &old)?;
     is_back(&rt, alloc, &old, disk.bytes(Area::A), disk.bytes(Area::B))
 }

@@ -1,6 +1,6 @@
 //! A checkpoint in which the disk fails, and the board that goes on.
 use super::heads::BEFORE;
-use super::life::area_with;
+use super::life::{FULL_CALLS, area_with};
 use super::{CALLS, are_named, desire, disk_in, disk_of, does, found, loaded};
 use bbs_board::Board;
 use bbs_model::{CallFault, Command};
@@ -111,9 +111,11 @@ fn a_call_whose_checkpoint_failed_is_a_doubt_that_is_gone(rt: HostRuntime) -> Re
     let area = area_with(&rt, alloc, 4096)?;
     // The other gate is closed in calls 9 and 10, what stands behind it is written in 11 to 14, and
     // it is opened in 15 and 16. The frame is written in 17, and its gate in 19.
-    fails_in_a_call(&rt, alloc, &area, &[10, 11])?;
-    fails_in_a_call(&rt, alloc, &area, &[14])?;
+    for call in FULL_CALLS + 1..FULL_CALLS + 13 {
+        fails_in_a_call(&rt, alloc, &area, &[call])?;
+        fails_in_a_call(&rt, alloc, &area, &[call, call + 1])?;
+    }
+    // The gate was written, and closing it again fails at the sync.
     fails_in_a_call(&rt, alloc, &area, &[15, 17])?;
-    fails_in_a_call(&rt, alloc, &area, &[16, 17])?;
-    fails_in_a_call(&rt, alloc, &area, &[17])
+    fails_in_a_call(&rt, alloc, &area, &[16, 18])
 }
