@@ -82,8 +82,8 @@ fn is_back(rt: &impl Abort, alloc: Global, old: &[u8], a: &[u8], b: &[u8]) -> Re
     // A head without rows, a frame of 28 bytes and nine of 17, and a gate.
     assert_eq!(rt; old.len(), 229);
     assert_eq!(rt; a.len(), 229);
-    assert_eq!(rt; &a[..68], BACK.as_slice());
-    assert_eq!(rt; &a[68..], &old[68..]);
+    assert_eq!(rt; a.get(..68), Some(BACK.as_slice()));
+    assert_eq!(rt; a.get(68..), old.get(68..));
     is_free(rt, alloc, a, b)?;
     is_free(rt, alloc, &BACK, b)?;
     let mut open = BACK.to_vec(alloc)?;
