@@ -1,5 +1,6 @@
 //! Scenarios over a disk in memory, by the top call. Texts and bytes were worked out from the rules. Long ones stand
 //! above their test: the scenario (`_LINES`), what it prints (`_TEXT`), and the rows behind it (`_ROWS`).
+mod amid;
 mod answers;
 mod at_once;
 mod beside;
@@ -8,6 +9,7 @@ mod cell_answers;
 mod cell_states;
 mod cells;
 mod clients;
+mod course;
 mod crossing;
 mod doubts;
 mod drains;
