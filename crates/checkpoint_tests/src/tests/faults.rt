@@ -1,7 +1,7 @@
 //! A checkpoint in which the disk fails, and the board that goes on.
 use super::heads::BEFORE;
 use super::life::{FULL_CALLS, area_with};
-use super::{CALLS, are_named, desire, disk_in, disk_of, does, found, loaded};
+use super::{CALLS, are_named, copy_of, desire, disk_in, disk_of, does, found, kept, loaded};
 use bbs_board::Board;
 use bbs_model::{CallFault, Command};
 use disk_trait::{Area, Disk, MemoryDisk, Torn};
@@ -88,6 +88,35 @@ fn a_checkpoint_that_failed_leaves_no_doubt(rt: HostRuntime) -> Result<(), Fail>
     for call in CALLS + 1..CALLS + 9 {
         fails(&rt, alloc, &[call])?;
         fails(&rt, alloc, &[call, call + 1])?;
+    }
+    Ok(())
+}
+
+// The checkpoint fails, and one that is asked for again is made in the end.
+fn is_made<D: Disk + Drop>(rt: &impl Abort, mut board: Board<D>) -> D {
+    assert_eq!(rt; board.checkpoint(), Err(CallFault::Disk { place: 0 }));
+    for _ in 0..2u32 {
+        let _end = board.checkpoint();
+    }
+    assert_eq!(rt; board.kept_in(), kept(Area::B, 2, 0));
+    disk_in(board)
+}
+
+fn fails_at_first(rt: &impl Abort, alloc: Global, failing: &[u64]) -> Result<(), Fail> {
+    let board = loaded(alloc, disk_of(alloc, &BEFORE, b"", failing)?)?;
+    let disk = is_made(rt, board);
+    let left = found(alloc, copy_of(alloc, &disk)?)?;
+    assert_eq!(rt; left.kept, kept(Area::B, 2, 0));
+    assert_eq!(rt; left.rows.next, 10);
+    are_named(rt, alloc, &left.rows, b"web")
+}
+
+#[test]
+fn a_checkpoint_that_failed_may_be_made_again(rt: HostRuntime) -> Result<(), Fail> {
+    let alloc = rt.alloc();
+    for call in CALLS + 1..CALLS + 9 {
+        fails_at_first(&rt, alloc, &[call])?;
+        fails_at_first(&rt, alloc, &[call, call + 1])?;
     }
     Ok(())
 }
