@@ -1,6 +1,6 @@
 //! The order of a map's entries is made when they are read out.
 ghost use Rattle.std.specs.Prelude.{◌≡◌, ◌<◌, ◌≤◌, ◌^◌, slice_get, vec_capacity, IfOk};
-ghost use Rattle.std.specs.Option.{option_cmp, option_copied, option_map};
+ghost use Rattle.std.specs.Option.{option_cmp};
 ghost use Rattle.indexmap.specs.IndexMap.{index_map_len, values};
 ghost use Rattle.bbs_index.specs.Shelf.{in_order, table_of, AreNumbered, IsShelf};
 
@@ -30,24 +30,12 @@ pub(crate) fn sorted_entries<X: Rowed>(
     Ok(sorted)
 }
 
-// The key of the entry of this number, where it lies.
-fn key_at<X: Rowed>(map: &IndexMap<X::Key, X>, number: u32) -> Option<&X::Key>
-    ensures { option_copied result ≡ option_map (λ e. e.0) (slice_get map.now.entries number) }
+// How the keys of two numbers compare. They are compared where they lie, since a sort compares often
+// and a key is long.
+fn compare_at<K: Ord>(keys: &[K], first: u32, second: u32) -> Ordering
+    ensures { result ≡ option_cmp K.cmp (slice_get keys.now first) (slice_get keys.now second) }
 {
-    match map.get_index(number as usize) {
-        Some((key, _)) => Some(key),
-        None => None,
-    }
-}
-
-// How the keys of the entries of two numbers compare. They are compared where they lie, since a sort asks often and
-// a key is long.
-fn compare_at<X: Rowed>(map: &IndexMap<X::Key, X>, first: u32, second: u32) -> Ordering
-    ensures { result ≡ option_cmp X.Key.cmp
-        (option_map (λ e. e.0) (slice_get map.now.entries first))
-        (option_map (λ e. e.0) (slice_get map.now.entries second)) }
-{
-    key_at(map, first).cmp(&key_at(map, second))
+    keys.get(first as usize).cmp(&keys.get(second as usize))
 }
 
 // The numbers of the entries in the order of their keys, sorted where they stand.
@@ -62,5 +50,6 @@ pub(crate) fn order_entries<X: Rowed>(map: &IndexMap<X::Key, X>, order: &mut Vec
     for number in 0..map.len() as u32 {
         order.push_reserved(number);
     }
-    order.sort_unstable_by(|first, second| compare_at(map, *first, *second));
+    let keys = map.keys().as_slice();
+    order.sort_unstable_by(|first, second| compare_at(keys, *first, *second));
 }
