@@ -6,3 +6,4 @@ pub mod Boards
 pub mod Numbers
 pub mod Numbering
 pub mod Gone
+pub mod Reading
