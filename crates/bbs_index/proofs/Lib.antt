@@ -1,8 +1,8 @@
 pub mod Tables
-pub mod Order
 pub mod Rows
 pub mod Counting
 pub mod Boards
 pub mod Numbers
 pub mod Numbering
 pub mod Gone
+pub mod Reading

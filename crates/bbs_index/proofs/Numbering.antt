@@ -1,5 +1,5 @@
 -- The numbers of a map's entries, in the order of their keys, are those of the rows of its table.
-use Rattle.std.proofs.Common.{◌≡◌, ◌≢◌, ℕ, zero, suc, ◌+◌, ◌<◌, Bool, true, false, cond, Decides, List, [], ◌∷◌, ◌++◌, map, length, take, get_or, slice_get, Option, Some, None, refl, sym, ap, subst, ◌∙◌, arith}
+use Rattle.std.proofs.Common.{◌≡◌, ◌≢◌, ℕ, suc, ◌+◌, ◌<◌, Bool, true, cond, Decides, List, [], ◌∷◌, ◌++◌, map, length, take, get_or, slice_get, Option, Some, None, refl, sym, ap, subst, ◌∙◌, arith}
 use Rattle.std.specs.declared.cmp.Ordering.{Ordering}
 use Rattle.std.specs.Cmp.{IsEquivalence}
 use Rattle.std.specs.List.{All, AllPairs, IsDistinct}
@@ -8,11 +8,11 @@ use Rattle.std.specs.Map.{lookup}
 use Rattle.std.specs.Option.{option_map, option_cmp, unwrap_or}
 use Rattle.std.specs.Ordering.{is_lt, eq_by_cmp}
 use Rattle.std.proofs.lemmas.List.{length-map, get_or-map, map-append, take_more}
-use Rattle.std.proofs.lemmas.List.Elements.{All-get_or, All-map}
+use Rattle.std.proofs.lemmas.List.Elements.{All-map}
 use Rattle.std.proofs.lemmas.List.Sorted.{IsPermutation-map, All-permutation, length_permutation}
 use Rattle.std.proofs.lemmas.Map.Entries.{lookup_from_place}
 use Rattle.std.proofs.lemmas.Map.Made.{AllPairs-from_IsDistinct}
-use Rattle.std.proofs.lemmas.Option.{slice_get-map, slice_get_within, get_or_from_slice_get, slice_get-get_or}
+use Rattle.std.proofs.lemmas.Option.{slice_get-map, slice_get-get_or}
 use Rattle.row_tables.specs.Table.{IsKeyOrder, find_row, table}
 use Rattle.row_tables.proofs.Public.{ties_itself, same_from_tie, find_row-table, IsRising-table, same_rows, table-from_sorted}
 use Rattle.bbs_index.specs.Shelf.{table_of, AreNumbered, IsShelf}

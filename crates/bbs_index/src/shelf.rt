@@ -7,7 +7,7 @@ ghost use Rattle.bbs_model.specs.Store.{HasRoom, TakesRoom};
 ghost use Rattle.bbs_index.specs.Shelf.{AreNumbered};
 
 use crate::entries::{put_entry, put_entry_at, remove_entry};
-use crate::sorted::{order_entries, sorted_entries};
+use crate::sorted::{order_entries, sorted_rows};
 use bbs_model::Rowed;
 use indexmap::IndexMap;
 use std::alloc::{AllocError, Global};
@@ -159,8 +159,6 @@ impl<X: Rowed> Shelf<X> {
         ensures table { IfOk result (λ rows. rows.items ≡ self.now.rows) }
         ensures rising { IsRising X.Key.cmp X.key self.now.rows }
     {
-        sorted_entries(alloc, &self.map)?
-            .into_values()
-            .collect(alloc)
+        sorted_rows(alloc, &self.map)
     }
 }

@@ -1,42 +1,20 @@
 //! The order of a map's entries is made when they are read out.
 ghost use Rattle.std.specs.Prelude.{◌≡◌, ◌<◌, ◌≤◌, ◌^◌, slice_get, vec_capacity, IfOk};
-ghost use Rattle.std.specs.Option.{option_map};
+ghost use Rattle.std.specs.Option.{option_cmp};
 ghost use Rattle.indexmap.specs.IndexMap.{index_map_len, values};
-ghost use Rattle.bbs_index.specs.Shelf.{in_order, table_of, AreNumbered, IsShelf};
+ghost use Rattle.bbs_index.specs.Shelf.{table_of, AreNumbered, IsShelf};
 
 use bbs_model::Rowed;
 use indexmap::IndexMap;
 use std::alloc::{AllocError, Global};
-use std::collections::BTreeMap;
+use std::cmp::Ordering;
 
-// The entries in the order of their keys. The last comes first, so that no entry is found behind
-// another at its key.
-pub(crate) fn sorted_entries<X: Rowed>(
-    alloc: Global,
-    map: &IndexMap<X::Key, X>,
-) -> Result<BTreeMap<X::Key, X>, AllocError>
-    ensures { IfOk result (λ sorted. sorted.entries ≡ in_order X.Key.cmp map.now.entries) }
+// How the keys of two numbers compare. They are compared where they lie, since a sort compares often
+// and a key is long.
+fn compare_at<K: Ord>(keys: &[K], first: usize, second: usize) -> Ordering
+    ensures { result ≡ option_cmp K.cmp (slice_get keys.now first) (slice_get keys.now second) }
 {
-    let mut sorted = BTreeMap::new(alloc);
-    let mut left = map.len();
-    while left > 0 {
-        left -= 1;
-        let Some((key, row)) = map.get_index(left) else {
-            unreachable!();
-        };
-        sorted.insert(*key, *row)?;
-    }
-    Ok(sorted)
-}
-
-// The key of the entry of this number.
-fn key_at<X: Rowed>(map: &IndexMap<X::Key, X>, number: u32) -> Option<X::Key>
-    ensures { result ≡ option_map (λ e. e.0) (slice_get map.now.entries number) }
-{
-    match map.get_index(number as usize) {
-        Some((key, _)) => Some(*key),
-        None => None,
-    }
+    keys.get(first).cmp(&keys.get(second))
 }
 
 // The numbers of the entries in the order of their keys, sorted where they stand.
@@ -51,5 +29,51 @@ pub(crate) fn order_entries<X: Rowed>(map: &IndexMap<X::Key, X>, order: &mut Vec
     for number in 0..map.len() as u32 {
         order.push_reserved(number);
     }
-    order.sort_unstable_by_key(|number| key_at(map, *number));
+    let keys = map.keys().as_slice();
+    order.sort_unstable_by(|first, second| compare_at(keys, *first as usize, *second as usize));
+}
+
+// The numbers of the entries in the order of their keys.
+fn sorted_numbers<X: Rowed>(
+    alloc: Global,
+    map: &IndexMap<X::Key, X>,
+) -> Result<Vec<usize>, AllocError>
+    requires { IsShelf X.Key.cmp X.Key.eq X.key map.now.entries }
+    ensures { IfOk result (λ order. AreNumbered (values map.now) order.items (table_of X.Key.cmp map.now.entries)) }
+{
+    let mut order: Vec<usize> = Vec::with_capacity(alloc, map.len())?;
+    for number in 0..map.len() {
+        order.push_reserved(number);
+    }
+    let keys = map.keys().as_slice();
+    order.sort_unstable_by(|first, second| compare_at(keys, *first, *second));
+    Ok(order)
+}
+
+// The rows of these numbers, one by one.
+fn rows_at<X: Rowed>(
+    alloc: Global,
+    map: &IndexMap<X::Key, X>,
+    order: &[usize],
+) -> Result<Vec<X>, AllocError>
+    requires { AreNumbered (values map.now) order.now (table_of X.Key.cmp map.now.entries) }
+    ensures { IfOk result (λ rows. rows.items ≡ table_of X.Key.cmp map.now.entries) }
+{
+    let mut rows = Vec::with_capacity(alloc, order.len())?;
+    for number in order {
+        rows.push_reserved(map[*number]);
+    }
+    Ok(rows)
+}
+
+// The rows in the order of the keys that they stand under. Numbers are sorted, since a row is long.
+pub(crate) fn sorted_rows<X: Rowed>(
+    alloc: Global,
+    map: &IndexMap<X::Key, X>,
+) -> Result<Vec<X>, AllocError>
+    requires { IsShelf X.Key.cmp X.Key.eq X.key map.now.entries }
+    ensures { IfOk result (λ rows. rows.items ≡ table_of X.Key.cmp map.now.entries) }
+{
+    let order = sorted_numbers(alloc, map)?;
+    rows_at(alloc, map, order.as_slice())
 }

@@ -86,15 +86,15 @@ abbrev pub left_row : Actual → Moment → Actual
 left_row old now = record old { state = Unclaimed; since = now; error = false }
 
 -- another container has the row, or it is CLAIMED and doesn't run yet
-abbrev pub not_running : Instance → Instance → LrpState → BoardRefusal
-not_running instance held state =
+abbrev pub wrong_state_or_instance : Instance → Instance → LrpState → BoardRefusal
+wrong_state_or_instance instance held state =
     if is_same_instance instance held then Lrp (WrongState (name_of state)) else Lrp (WrongInstance held)
 
 -- why a row that doesn't run in this container can't evacuate
 abbrev pub stays_because : LrpState → Instance → BoardRefusal
 stays_because Unclaimed instance = Lrp NotRunning
-stays_because (Claimed held cell) instance = not_running instance held (Claimed held cell)
-stays_because (Running held cell) instance = not_running instance held (Running held cell)
+stays_because (Claimed held cell) instance = wrong_state_or_instance instance held (Claimed held cell)
+stays_because (Running held cell) instance = wrong_state_or_instance instance held (Running held cell)
 stays_because Crashed instance = Lrp NotRunning
 
 -- why an instance that runs can't get its EVACUATING row

@@ -1,4 +1,5 @@
 pub mod Bytes
+pub mod Padded
 pub mod Public
 pub mod Text
 pub mod Ties

@@ -8,6 +8,7 @@ mod memory;
 mod name;
 mod orders;
 mod state_name;
+mod words;
 
 pub use instance::Instance;
 pub use key::Key;

@@ -10,6 +10,7 @@ ghost use Rattle.diego_names.specs.Name.{is_name_byte, first_bad_byte};
 ghost use Rattle.diego_names.specs.Order.{name_order};
 ghost use Rattle.std.proofs.Common.{rules};
 
+use crate::words::order_of_bytes;
 use std::cmp::Ordering;
 use std::hash::{Hash, Hasher};
 use std::marker::Model;
@@ -132,6 +133,14 @@ impl Name {
         &self.bytes[..self.len as usize]
     }
 
+    // The bytes behind either name are 0, and no byte of a name is: so the arrays stand in the order of the names.
+    fn order(&self, other: &Name) -> Ordering
+        ensures { result ≡ name_order self.now other.now }
+    {
+        let end = self.len.max(other.len) as usize;
+        order_of_bytes(&self.bytes, &other.bytes, end)
+    }
+
     /// The name as text: its bytes are ASCII.
     pub fn as_str(&self) -> &str
         ensures { result.now ≡ self.now }
@@ -149,7 +158,7 @@ impl PartialEq for Name {
     ghost laws = { Prim.search (comparing, rules) };
 
     fn eq(&self, other: &Name) -> bool {
-        self.bytes() == other.bytes()
+        self.len == other.len && self.order(other).is_eq()
     }
 }
 
@@ -167,7 +176,7 @@ impl Ord for Name {
     ghost matches_eq = { Prim.search (comparing, rules) };
 
     fn cmp(&self, other: &Name) -> Ordering {
-        self.bytes().cmp(other.bytes())
+        self.order(other)
     }
 }
 

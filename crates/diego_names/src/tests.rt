@@ -45,6 +45,33 @@ fn names_are_ordered_by_their_bytes(rt: HostRuntime) -> Result<(), Fail> {
 }
 
 #[test]
+fn long_names_are_ordered_by_the_first_byte_that_differs(rt: HostRuntime) -> Result<(), Fail> {
+    // Each stands before the next one, and the words of eight bytes end between them.
+    let rising = [
+        "process0",
+        "process0-00000",
+        "process0-00000000-a",
+        "process0-0000000z",
+        "process1",
+        "process1-0",
+    ];
+    for (place, less) in rising.iter().enumerate() {
+        for (other, more) in rising.iter().enumerate() {
+            let (a, b) = (name(less)?, name(more)?);
+            assert_eq!(rt; a.cmp(&b), place.cmp(&other), "{less} and {more}");
+            assert_eq!(rt; a == b, place == other, "{less} and {more}");
+        }
+    }
+    let mut last = LONG;
+    last[79] = b'y';
+    let (x, y) = (Name::read(&LONG[..80])?, Name::read(&last[..80])?);
+    assert_eq!(rt; x.cmp(&y), Ordering::Less);
+    assert_eq!(rt; Name::read(&LONG[..79])?.cmp(&x), Ordering::Less);
+    assert_eq!(rt; x == y, false);
+    Ok(())
+}
+
+#[test]
 fn keys_and_instances_are_ordered_field_by_field(rt: HostRuntime) -> Result<(), Fail> {
     let key = |process: Name, index: u32| Key { process, index };
     let (a, b) = (name("a")?, name("b")?);

@@ -1,9 +1,9 @@
 //! A whole run: a scenario is read, a board is opened, and the scenario is played on it.
 #![tactic(auto)]
 
-mod commands;
 mod ended;
 mod reading;
+mod running;
 
-pub use commands::run;
 pub use ended::Ended;
+pub use running::run;

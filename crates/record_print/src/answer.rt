@@ -5,7 +5,7 @@ ghost use Rattle.serde_json.specs.Data.{no_members as nothing_more};
 ghost use Rattle.record_print.specs.Printed.{line_text, answer_data, answer_members, refused_data};
 
 use crate::asked::Asked;
-use crate::line::text_line;
+use crate::line::line_text;
 use crate::spelled::asked_subject;
 use crate::why::{rep_why_text, why_text};
 use crate::word::{asked_word, end_word};
@@ -27,7 +27,7 @@ pub fn answer_text(
         (λ v. v.items ≡ line_text (answer_data actor.now line asked.now end.now)) }
 {
     let answer = answer_value(alloc, actor, line, asked, end)?;
-    text_line(alloc, &answer)
+    line_text(alloc, &answer)
 }
 
 fn answer_value(

@@ -3,7 +3,7 @@ ghost use Rattle.std.specs.Prelude.{◌≡◌, IfOk};
 ghost use Rattle.serde_json.specs.View.{view};
 ghost use Rattle.record_print.specs.Printed.{check_data, line_text};
 
-use crate::line::text_line;
+use crate::line::line_text;
 use crate::word::area_word;
 use disk_trait::Area;
 use serde_json::{Value, json};
@@ -27,7 +27,7 @@ pub fn check_text(alloc: Global, check: Check) -> Result<Vec<u8>, AllocError>
     ensures { IfOk result (λ v. v.items ≡ line_text (check_data check)) }
 {
     let line = check_value(alloc, check)?;
-    text_line(alloc, &line)
+    line_text(alloc, &line)
 }
 
 fn check_value(alloc: Global, check: Check) -> Result<Value, AllocError>

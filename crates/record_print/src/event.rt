@@ -3,7 +3,7 @@ ghost use Rattle.std.specs.Prelude.{◌≡◌, IfOk};
 ghost use Rattle.serde_json.specs.View.{view};
 ghost use Rattle.record_print.specs.Printed.{event_data, line_text, record_data};
 
-use crate::line::text_line;
+use crate::line::line_text;
 use crate::rows::row_value;
 use crate::word::{change_word, table_word};
 use bbs_model::{Event, Row};
@@ -15,7 +15,7 @@ pub fn event_text(alloc: Global, event: &Event) -> Result<Vec<u8>, AllocError>
     ensures { IfOk result (λ v. v.items ≡ line_text (event_data event.now)) }
 {
     let line = event_value(alloc, event)?;
-    text_line(alloc, &line)
+    line_text(alloc, &line)
 }
 
 fn event_value(alloc: Global, event: &Event) -> Result<Value, AllocError>
@@ -33,7 +33,7 @@ pub fn row_text(alloc: Global, row: &Row) -> Result<Vec<u8>, AllocError>
     ensures { IfOk result (λ v. v.items ≡ line_text (record_data row.now)) }
 {
     let line = record_value(alloc, row)?;
-    text_line(alloc, &line)
+    line_text(alloc, &line)
 }
 
 fn record_value(alloc: Global, row: &Row) -> Result<Value, AllocError>

@@ -8,7 +8,7 @@ use serde_json::Value;
 use std::alloc::{AllocError, Global};
 
 /// The compact text of a value, and a newline.
-pub fn text_line(alloc: Global, value: &Value) -> Result<Vec<u8>, AllocError>
+pub fn line_text(alloc: Global, value: &Value) -> Result<Vec<u8>, AllocError>
     requires { has_float (view value.now) ≡ false }
     ensures { IfOk result (λ v. v.items ≡ line_text (view value.now)) }
 {

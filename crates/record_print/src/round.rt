@@ -4,7 +4,7 @@ ghost use Rattle.serde_json.specs.View.{view};
 ghost use Rattle.record_print.specs.PrintedRounds.{failed_round_data, is_complete, report_data, subjects_data};
 ghost use Rattle.record_print.specs.Printed.{line_text};
 
-use crate::line::text_line;
+use crate::line::line_text;
 use crate::spelled::job_text;
 use cell_records::JobName;
 use convergence::Report;
@@ -17,7 +17,7 @@ pub fn report_text(alloc: Global, report: &Report) -> Result<Vec<u8>, AllocError
     ensures { IfOk result (λ v. v.items ≡ line_text (report_data report.now)) }
 {
     let line = report_value(alloc, report)?;
-    text_line(alloc, &line)
+    line_text(alloc, &line)
 }
 
 fn report_value(alloc: Global, report: &Report) -> Result<Value, AllocError>
@@ -61,7 +61,7 @@ pub fn failed_round_text(alloc: Global, line: u32) -> Result<Vec<u8>, AllocError
     ensures { IfOk result (λ v. v.items ≡ line_text (failed_round_data line)) }
 {
     let line = failed_round_value(alloc, line)?;
-    text_line(alloc, &line)
+    line_text(alloc, &line)
 }
 
 fn failed_round_value(alloc: Global, line: u32) -> Result<Value, AllocError>

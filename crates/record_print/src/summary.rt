@@ -3,7 +3,7 @@ ghost use Rattle.std.specs.Prelude.{◌≡◌, IfOk};
 ghost use Rattle.serde_json.specs.View.{view};
 ghost use Rattle.record_print.specs.Printed.{line_text, summary_data};
 
-use crate::line::text_line;
+use crate::line::line_text;
 use serde_json::{Value, json};
 use std::alloc::{AllocError, Global};
 
@@ -25,7 +25,7 @@ pub fn summary_text(alloc: Global, summary: Summary) -> Result<Vec<u8>, AllocErr
     ensures { IfOk result (λ v. v.items ≡ line_text (summary_data summary)) }
 {
     let line = summary_value(alloc, summary)?;
-    text_line(alloc, &line)
+    line_text(alloc, &line)
 }
 
 fn summary_value(alloc: Global, summary: Summary) -> Result<Value, AllocError>

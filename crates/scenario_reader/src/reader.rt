@@ -2,14 +2,14 @@
 ghost use Rattle.std.specs.Prelude.{◌<◌, ◌-◌, ◌^◌, length, IfOk, OnOk};
 ghost use Rattle.scenario_reader.specs.Accepted.{script_of};
 ghost use Rattle.scenario_reader.specs.Facts.{IsScript};
-ghost use Rattle.scenario_reader.specs.Faults.{GivesReading, said_on};
+ghost use Rattle.scenario_reader.specs.Faults.{GivesReading};
 ghost use Rattle.scenario_reader.specs.Steps.{read_from, start, step_on, IsSmall, Leads};
 ghost use Rattle.scenario_reader.specs.TextLines.{line_view, nonblank_lines};
 
 use crate::fault::ScriptFault;
 use crate::reading::Reading;
 use crate::text_lines::{Rest, TextLine, next_line};
-use scenario_lines::{Content, LineError, Script, read_line};
+use scenario_lines::{LineError, Script, read_line};
 use std::alloc::Global;
 
 /// The scenario that these bytes are, or the first fault. Its lines are numbered in 32 bits, so
@@ -44,16 +44,8 @@ fn add_line(alloc: Global, reading: &mut Reading, line: TextLine<'_>) -> Result<
     ensures step { Leads result reading.new (step_on reading.old (line_view line.entry)) }
     ensures small { OnOk result (IsSmall reading.new) }
 {
-    let content = content_of(alloc, line)?;
-    reading.add(alloc, line.number, content)
-}
-
-// What a line says by itself.
-fn content_of(alloc: Global, line: TextLine<'_>) -> Result<Content, ScriptFault>
-    ensures { GivesReading result (said_on (line_view line.entry)) }
-{
     match read_line(alloc, line.text) {
-        Ok(content) => Ok(content),
+        Ok(content) => reading.add(alloc, line.number, content),
         Err(LineError::Flawed(flaw)) => Err(ScriptFault::of_flaw(flaw, line.number)),
         Err(LineError::OutOfMemory) => Err(ScriptFault::OutOfMemory),
     }

@@ -50,7 +50,7 @@ impl Reading {
     {
         match content {
             Content::Phase(at) => self.begin(alloc, line, at),
-            Content::Acts(said) => self.add_act(line, said),
+            Content::Acts(said) => self.add_act(line, &said),
             Content::Round(losses) => self.add_round(line, losses),
         }
     }
@@ -68,9 +68,9 @@ impl Reading {
         Ok(())
     }
 
-    fn add_act(&mut self, line: u32, said: ActLine) -> Result<(), ScriptFault>
+    fn add_act(&mut self, line: u32, said: &ActLine) -> Result<(), ScriptFault>
         requires { IsSmall self.old }
-        ensures step { Leads result self.new (acted self.old line said) }
+        ensures step { Leads result self.new (acted self.old line said.now) }
         ensures small { OnOk result (IsSmall self.new) }
     {
         let Some(phase) = &mut self.last else {

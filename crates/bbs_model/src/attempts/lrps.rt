@@ -149,13 +149,13 @@ fn stays_because(state: &LrpState, instance: Instance) -> BoardRefusal
     match *state {
         LrpState::Unclaimed | LrpState::Crashed => BoardRefusal::Lrp(LrpRefusal::NotRunning),
         LrpState::Claimed { instance: held, .. } | LrpState::Running { instance: held, .. } => {
-            not_running(instance, held, state)
+            wrong_state_or_instance(instance, held, state)
         }
     }
 }
 
-fn not_running(instance: Instance, held: Instance, state: &LrpState) -> BoardRefusal
-    ensures { result ≡ told.not_running instance held state.now }
+fn wrong_state_or_instance(instance: Instance, held: Instance, state: &LrpState) -> BoardRefusal
+    ensures { result ≡ told.wrong_state_or_instance instance held state.now }
 {
     let why = if instance == held {
         LrpRefusal::WrongState {

@@ -1,6 +1,6 @@
 use Rattle.std.proofs.Common.{ap, refl}
 use Rattle.program_run.proofs.Playing.{plays_on}
-use Rattle.program_run.proofs.commands.play_on.Goals as goal
+use Rattle.program_run.proofs.running.play_on.Goals as goal
 
 pub returns : goal.returns
 returns g c =

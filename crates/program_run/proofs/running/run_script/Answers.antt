@@ -1,5 +1,5 @@
 use Rattle.program_run.proofs.Endings.{played_ends, unopened_ends}
-use Rattle.program_run.proofs.commands.run_script.Goals as goal
+use Rattle.program_run.proofs.running.run_script.Goals as goal
 
 pub returns-in-Ok : goal.returns-in-Ok
 returns-in-Ok g c =
