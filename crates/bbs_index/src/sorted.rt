@@ -39,7 +39,8 @@ fn sorted_numbers<X: Rowed>(
     map: &IndexMap<X::Key, X>,
 ) -> Result<Vec<usize>, AllocError>
     requires { IsShelf X.Key.cmp X.Key.eq X.key map.now.entries }
-    ensures { IfOk result (λ order. AreNumbered (values map.now) order.items (table_of X.Key.cmp map.now.entries)) }
+    ensures { IfOk result (λ order. AreNumbered (values map.now) order.items
+        (table_of X.Key.cmp map.now.entries)) }
 {
     let mut order: Vec<usize> = Vec::with_capacity(alloc, map.len())?;
     for number in 0..map.len() {
