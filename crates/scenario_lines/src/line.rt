@@ -1,10 +1,10 @@
 //! What a line says: first as JSON, then by its shape, then by its names.
-ghost use Rattle.std.specs.Prelude.{◌≡◌};
 ghost use Rattle.serde_json.specs.View.{view};
-ghost use Rattle.scenario_lines.specs.Contents.{cell_line, client_in, content_in, content_of, phase_in};
+ghost use Rattle.scenario_lines.specs.Contents.{content_in, content_of};
 ghost use Rattle.scenario_lines.specs.Flaws.{GivesContent};
 ghost use Rattle.scenario_lines.specs.Places.{object_of};
 ghost use Rattle.scenario_lines.specs.Said.{content_as};
+ghost use Rattle.scenario_lines.specs.declared.form.Form.TheVariants as form;
 
 use crate::act::Act;
 use crate::actor::Actor;
@@ -51,30 +51,40 @@ fn content_among(alloc: Global, members: &Members<'_>) -> Result<Content, LineEr
     content_in(alloc, form, members)
 }
 
+// Each form has a function of its own, so that a line clears room for no other form.
 fn content_in(alloc: Global, form: Form, members: &Members<'_>) -> Result<Content, LineError>
     ensures { GivesContent (λ content. content) result
         (content_in form (object_of members.now.object.now)) }
 {
     match form {
-        Form::At => Ok(phase_in(members)?),
-        Form::Round => Ok(Content::Round(losses_in(alloc, members)?)),
-        Form::Client(op) => Ok(Content::Acts(client_in(op, members)?)),
-        Form::Cell(op) => Ok(Content::Acts(cell_in(op, members)?)),
+        Form::At => phase_in(members),
+        Form::Round => round_in(alloc, members),
+        Form::Client(op) => client_in(op, members),
+        Form::Cell(op) => cell_in(op, members),
     }
 }
 
 #[tactic(auto, unfolding(crate::specs::Contents::phase_in))]
-fn phase_in(members: &Members<'_>) -> Result<Content, Flaw>
-    ensures { result ≡ phase_in (object_of members.now.object.now) }
+fn phase_in(members: &Members<'_>) -> Result<Content, LineError>
+    ensures { GivesContent (λ content. content) result
+        (content_in form.At (object_of members.now.object.now)) }
 {
     Ok(Content::Phase(Moment(number_in(members, Member::At)?)))
 }
 
-#[tactic(auto, unfolding(crate::specs::Contents::client_in))]
-fn client_in(op: ClientOp, members: &Members<'_>) -> Result<ActLine, Flaw>
-    ensures { result ≡ client_in op (object_of members.now.object.now) }
+fn round_in(alloc: Global, members: &Members<'_>) -> Result<Content, LineError>
+    ensures { GivesContent (λ content. content) result
+        (content_in form.Round (object_of members.now.object.now)) }
 {
-    Ok(ActLine {
+    Ok(Content::Round(losses_in(alloc, members)?))
+}
+
+#[tactic(auto, unfolding(crate::specs::Contents::client_in))]
+fn client_in(op: ClientOp, members: &Members<'_>) -> Result<Content, LineError>
+    ensures { GivesContent (λ content. content) result
+        (content_in (form.Client op) (object_of members.now.object.now)) }
+{
+    Ok(Content::Acts(ActLine {
         actor: Actor {
             cell: false,
             name: name_in(members, Member::Client)?,
@@ -82,14 +92,15 @@ fn client_in(op: ClientOp, members: &Members<'_>) -> Result<ActLine, Flaw>
         act: Act::Client(asked_in(op, members)?),
         lost: lost_in(members)?,
         times: times_in(members)?,
-    })
+    }))
 }
 
 #[tactic(auto, unfolding(crate::specs::Contents::cell_line))]
-fn cell_in(op: CellOp, members: &Members<'_>) -> Result<ActLine, Flaw>
-    ensures { result ≡ cell_line op (object_of members.now.object.now) }
+fn cell_in(op: CellOp, members: &Members<'_>) -> Result<Content, LineError>
+    ensures { GivesContent (λ content. content) result
+        (content_in (form.Cell op) (object_of members.now.object.now)) }
 {
-    Ok(ActLine {
+    Ok(Content::Acts(ActLine {
         actor: Actor {
             cell: true,
             name: name_in(members, Member::Cell)?,
@@ -97,5 +108,5 @@ fn cell_in(op: CellOp, members: &Members<'_>) -> Result<ActLine, Flaw>
         act: done_in(op, members)?,
         lost: lost_in(members)?,
         times: times_in(members)?,
-    })
+    }))
 }

@@ -1,6 +1,7 @@
 pub mod ActorNumbers
 pub mod Agreement
 pub mod Cutting
+pub mod Finding
 pub mod KeptPhases
 pub mod LastPhases
 pub mod MorePhases

@@ -1,12 +1,15 @@
-//! A list that grows.
+//! A vector that grows.
 ghost use Rattle.std.specs.Prelude.{◌≡◌, [], ◌∷◌, ◌++◌, OnOk, OnErr};
 
-use diego_names::{List, OutOfMemory};
+use diego_names::OutOfMemory;
 
-/// Adds an item at the end. Where memory runs out the list stays.
-pub(crate) fn add<X: Copy>(items: &mut List<X>, item: X) -> Result<(), OutOfMemory>
-    ensures ok { OnOk result (items.new ≡ items.old ++ item ∷ []) }
-    ensures err { OnErr result (items.new ≡ items.old) }
+/// Adds an item at the end. Where memory runs out the items stay. There is room before the item is moved, so
+/// that no call has to have room to hand it back.
+pub(crate) fn add<X: Copy>(items: &mut Vec<X>, item: X) -> Result<(), OutOfMemory>
+    ensures ok { OnOk result (items.new.items ≡ items.old.items ++ item ∷ []) }
+    ensures err { OnErr result (items.new.items ≡ items.old.items) }
 {
-    items.push(item)
+    items.reserve(1)?;
+    items.push_reserved(item);
+    Ok(())
 }

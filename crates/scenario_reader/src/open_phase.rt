@@ -14,7 +14,9 @@ use std::marker::Model;
 /// A phase to which lines may still come.
 #[derive(Drop)]
 pub(crate) struct OpenPhase {
-    phase: Phase,
+    at: Moment,
+    lines: Vec<Line>,
+    round: Option<RoundLine>,
     // whether a cell acts in it
     has_cells: bool,
 }
@@ -27,9 +29,9 @@ impl Model for OpenPhase {
 
     ghost Value = { APhase };
 
-    ghost view = { λ o. o.phase };
+    ghost view = { λ o. record { at = o.at; lines = o.lines.items; round = o.round } };
 
-    ghost invariant = { λ o. o.has_cells ≡ list_any is_cells_line o.phase.lines };
+    ghost invariant = { λ o. o.has_cells ≡ list_any is_cells_line o.lines.items };
 }
 
 impl OpenPhase {
@@ -38,11 +40,9 @@ impl OpenPhase {
         ensures { result ≡ begun_at at }
     {
         OpenPhase {
-            phase: Phase {
-                at,
-                lines: List::new(alloc),
-                round: None,
-            },
+            at,
+            lines: Vec::new(alloc),
+            round: None,
             has_cells: false,
         }
     }
@@ -50,13 +50,13 @@ impl OpenPhase {
     pub fn at(&self) -> Moment
         ensures { result ≡ self.now.at }
     {
-        self.phase.at
+        self.at
     }
 
     pub fn has_round(&self) -> bool
         ensures { result ≡ is_some self.now.round }
     {
-        self.phase.round.is_some()
+        self.round.is_some()
     }
 
     pub fn has_cells(&self) -> bool
@@ -71,7 +71,7 @@ impl OpenPhase {
         ensures err { OnErr result (self.new ≡ self.old) }
     {
         let is_cells = is_cells_line(&line);
-        add(&mut self.phase.lines, line)?;
+        add(&mut self.lines, line)?;
         self.has_cells = self.has_cells | is_cells;
         Ok(())
     }
@@ -80,15 +80,24 @@ impl OpenPhase {
     pub fn add_round(&mut self, round: RoundLine)
         ensures { self.new ≡ record self.old { round = Some round } }
     {
-        self.phase.round = Some(round);
+        self.round = Some(round);
     }
 
     /// The phase, to which no more lines come.
     pub fn closed(self) -> Phase
         ensures { result ≡ self }
     {
-        let OpenPhase { phase, .. } = self;
-        phase
+        let OpenPhase {
+            at,
+            lines,
+            round,
+            ..
+        } = self;
+        Phase {
+            at,
+            lines: List::from(lines),
+            round,
+        }
     }
 }
 

@@ -9,7 +9,7 @@ ghost use Rattle.scenario_reader.specs.TextLines.{line_view, nonblank_lines};
 use crate::fault::ScriptFault;
 use crate::reading::Reading;
 use crate::text_lines::{Rest, TextLine, next_line};
-use scenario_lines::{LineError, Script, read_line};
+use scenario_lines::{Content, LineError, Script, read_line};
 use std::alloc::Global;
 
 /// The scenario that these bytes are, or the first fault. Its lines are numbered in 32 bits, so
@@ -38,13 +38,17 @@ fn read_lines(alloc: Global, bytes: &[u8]) -> Result<Reading, ScriptFault>
     Ok(reading)
 }
 
-// What one more line comes to.
+// What one more line comes to. What an actor does is long, so it is added from where it stands.
 fn add_line(alloc: Global, reading: &mut Reading, line: TextLine<'_>) -> Result<(), ScriptFault>
     requires { IsSmall reading.old }
     ensures step { Leads result reading.new (step_on reading.old (line_view line.entry)) }
     ensures small { OnOk result (IsSmall reading.new) }
 {
-    match read_line(alloc, line.text) {
+    let said = read_line(alloc, line.text);
+    if let Ok(Content::Acts(act)) = &said {
+        return reading.add_act(line.number, act);
+    }
+    match said {
         Ok(content) => reading.add(alloc, line.number, content),
         Err(LineError::Flawed(flaw)) => Err(ScriptFault::of_flaw(flaw, line.number)),
         Err(LineError::OutOfMemory) => Err(ScriptFault::OutOfMemory),

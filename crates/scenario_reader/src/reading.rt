@@ -68,7 +68,8 @@ impl Reading {
         Ok(())
     }
 
-    fn add_act(&mut self, line: u32, said: &ActLine) -> Result<(), ScriptFault>
+    /// Adds what an actor does.
+    pub fn add_act(&mut self, line: u32, said: &ActLine) -> Result<(), ScriptFault>
         requires { IsSmall self.old }
         ensures step { Leads result self.new (acted self.old line said.now) }
         ensures small { OnOk result (IsSmall self.new) }

@@ -2,6 +2,8 @@
 ghost use Rattle.std.specs.Prelude.{◌≡◌, ◌<◌, ◌+◌, ◌^◌, ◌∷◌, [], length, position, MatchOption, IfSome};
 ghost use Rattle.scenario_reader.specs.TextLines.{is_newline, is_blank, line_view, lines_of, nonblank_in};
 
+use memchr::memchr;
+
 /// A line with its number.
 #[derive(Clone, Copy)]
 pub(crate) struct TextLine<'a> {
@@ -56,7 +58,7 @@ fn first_line(bytes: &[u8]) -> (&[u8], &[u8])
 fn newline_in(bytes: &[u8]) -> Option<usize>
     ensures { result ≡ position is_newline bytes.now }
 {
-    bytes.iter().position(|byte| *byte == b'\n')
+    memchr(b'\n', bytes)
 }
 
 fn is_blank(line: &[u8]) -> bool
