@@ -86,13 +86,13 @@ found_first : (k : List ℕ) (e : Entry) (later : List Entry) → bytes_eq k (st
 found_first k e later same = pick_same (slice_cmp nat_cmp k (string_bytes e.0)) _ _ (is_eq-slice_cmp k (string_bytes e.0) ∙ same)
 
 -- a name that is a member's word names it
-named_by : (m : Member) (name : List ℕ) → bytes_eq (word m) name ≡ true → member_named name ≡ Some m
+pub named_by : (m : Member) (name : List ℕ) → bytes_eq (word m) name ≡ true → member_named name ≡ Some m
 named_by m name same = subst (λ w. member_named w ≡ Some m) ((bytes_eq-Decides (word m) name).0 same) (member_named-word m)
 
-some-some : {X : Type 0} (x y : X) → Some x ≡ Some y → x ≡ y
+pub some-some : {X : Type 0} (x y : X) → Some x ≡ Some y → x ≡ y
 some-some x y e = ap (λ o. unwrap_or o x) e
 
-none-some : {X Y : Type 0} (x : X) → None ≡ Some x → Y
+pub none-some : {X Y : Type 0} (x : X) → None ≡ Some x → Y
 none-some x e = absurd (true≢false (sym (ap is_some e)))
 
 word_by : (b : Bool) (name w : List ℕ) (k m : Member) (rest : Option Member) → (b ≡ true → name ≡ w) → w ≡ word k → (rest ≡ Some m → name ≡ word m) → (if b then Some k else rest) ≡ Some m → name ≡ word m
@@ -184,7 +184,7 @@ by_place-place member.LoseStop = refl
 by_place-place member.LoseStart = refl
 by_place-place member.LoseReply = refl
 
-place-apart : (m n : Member) → place m ≡ place n → m ≡ n
+pub place-apart : (m n : Member) → place m ≡ place n → m ≡ n
 place-apart m n e = some-some m n (sym (by_place-place m) ∙ ap (slice_get by_place) e ∙ by_place-place n)
 
 get_set_same : {X : Type 0} (xs : List X) (i : ℕ) (a x : X) → slice_get xs i ≡ Some x → slice_get (slice_set xs i a) i ≡ Some a
@@ -199,7 +199,7 @@ get_set_other (y ∷ xs) zero (suc j) a ne = refl
 get_set_other (y ∷ xs) (suc i) zero a ne = refl
 get_set_other (y ∷ xs) (suc i) (suc j) a ne = get_set_other xs i j a (λ e. ne (ap suc e))
 
-by_test : {X : Type 0} (b : Bool) → (b ≡ true → X) → (b ≡ false → X) → X
+pub by_test : {X : Type 0} (b : Bool) → (b ≡ true → X) → (b ≡ false → X) → X
 by_test true if_true if_false = if_true refl
 by_test false if_true if_false = if_false refl
 

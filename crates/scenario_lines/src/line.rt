@@ -15,7 +15,7 @@ use crate::flaw::{Flaw, LineError};
 use crate::form::{CellOp, ClientOp, Form};
 use crate::json::json_of;
 use crate::member::Member;
-use crate::members::Members;
+use crate::members::{Members, said_in};
 use crate::names::name_in;
 use crate::round::losses_in;
 use crate::shape::shaped;
@@ -38,7 +38,10 @@ fn content_as(alloc: Global, value: &Value) -> Result<Content, LineError>
     ensures { GivesContent (λ content. content) result (content_as (view value.now)) }
 {
     match value.as_object() {
-        Some(object) => content_among(alloc, &Members::new(object)),
+        Some(object) => {
+            let said = said_in(object);
+            content_among(alloc, &Members::new(object, &said))
+        }
         None => Err(LineError::Flawed(Flaw::BadShape)),
     }
 }

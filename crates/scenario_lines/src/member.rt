@@ -1,6 +1,5 @@
 //! The members that lines have, and the word of each.
 ghost use Rattle.std.specs.Prelude.{◌≡◌, ◌<◌};
-ghost use Rattle.scenario_lines.specs.Members.{word};
 ghost use Rattle.scenario_lines.specs.Places.{member_named, member_of_four, member_of_five, member_of_six, member_of_ten, place};
 
 /// A member of a line. It means the same in each line that has it.
@@ -33,37 +32,6 @@ pub enum Member {
 }
 
 impl Member {
-    pub(crate) fn word(self) -> &'static str
-        ensures { result.now ≡ word self }
-    {
-        match self {
-            Member::At => "at",
-            Member::Client => "client",
-            Member::Cell => "cell",
-            Member::Op => "op",
-            Member::Lost => "lost",
-            Member::Times => "times",
-            Member::Process => "process",
-            Member::Domain => "domain",
-            Member::Instances => "instances",
-            Member::Memory => "memory",
-            Member::Disk => "disk",
-            Member::Tag => "tag",
-            Member::Route => "route",
-            Member::Port => "port",
-            Member::Index => "index",
-            Member::Name => "name",
-            Member::Zone => "zone",
-            Member::Containers => "containers",
-            Member::Ttl => "ttl",
-            Member::Failed => "failed",
-            Member::LoseAsk => "lose_ask",
-            Member::LoseStop => "lose_stop",
-            Member::LoseStart => "lose_start",
-            Member::LoseReply => "lose_reply",
-        }
-    }
-
     /// The place of a member among all, from 0.
     pub(crate) fn place(self) -> usize
         ensures is { result ≡ place self }

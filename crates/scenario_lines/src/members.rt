@@ -12,23 +12,21 @@ use serde_json::{Map, Value};
 /// How many members there are.
 const PLACES: usize = 24;
 
-/// A line, and what it says for each member, at the member's place.
+/// A line, and what it says for each member, at the member's place. That is long, so it stays where it was made.
 #[derive(Drop)]
 pub(crate) struct Members<'v> {
     pub object: &'v Map<String, Value>,
-    pub said: [Option<&'v Value>; PLACES],
-    ghost kept: { KeepsAll said object.now.entries } by { Prim.hlevel (codes, e.the_row.coded) },
+    pub said: &'v [Option<&'v Value>; PLACES],
+    ghost kept: { KeepsAll said.now object.now.entries } by { Prim.hlevel (codes, e.the_row.coded) },
 }
 
 impl<'v> Members<'v> {
-    /// Looks at each member that the line has.
-    pub fn new(object: &'v Map<String, Value>) -> Members<'v>
+    /// The members of an object, of which this is what it says for each.
+    pub fn new(object: &'v Map<String, Value>, said: &'v [Option<&'v Value>; PLACES]) -> Members<'v>
+        requires { KeepsAll said.now object.now.entries }
         ensures { result.object.now ≡ object.now }
     {
-        Members {
-            object,
-            said: said_in(object),
-        }
+        Members { object, said }
     }
 
     /// What the line says for a member.
@@ -36,7 +34,8 @@ impl<'v> Members<'v> {
         ensures { option_map (λ said. view said.now) result
             ≡ said_for member (object_of self.now.object.now) }
     {
-        let said = &self.said[..];
+        let all = self.said;
+        let said = &all[..];
         said[member.place()]
     }
 
@@ -56,8 +55,8 @@ impl<'v> Members<'v> {
     }
 }
 
-// What each member is, in an object.
-fn said_in(object: &Map<String, Value>) -> [Option<&Value>; PLACES]
+/// What an object says for each member: it looks once at each name in the object.
+pub(crate) fn said_in(object: &Map<String, Value>) -> [Option<&Value>; PLACES]
     ensures { KeepsAll result object.now.entries }
 {
     let mut said = [None; PLACES];

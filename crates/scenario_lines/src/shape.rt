@@ -1,9 +1,9 @@
 //! The shape of a line: it has the members of its form, each of its kind, and no others.
-ghost use Rattle.std.specs.Prelude.{◌≡◌, string_bytes};
+ghost use Rattle.std.specs.Prelude.{◌≡◌, ◌==◌, string_bytes};
 ghost use Rattle.std.specs.BTreeMap.{keys};
-ghost use Rattle.std.specs.List.{list_all};
-ghost use Rattle.scenario_lines.specs.Shapes.{has_known, has_shape, is_one_of, is_fit, is_known, is_given, shaped};
-ghost use Rattle.scenario_lines.specs.Places.{object_of};
+ghost use Rattle.std.specs.List.{list_all, list_any};
+ghost use Rattle.scenario_lines.specs.Shapes.{has_known, has_shape, is_fit, is_known, is_given, shaped};
+ghost use Rattle.scenario_lines.specs.Places.{object_of, place};
 
 use crate::flaw::Flaw;
 use crate::form::Form;
@@ -46,13 +46,17 @@ fn are_known(form: Form, object: &Map<String, Value>) -> bool
 fn is_known(form: Form, name: &str) -> bool
     ensures { result ≡ is_known form name.now }
 {
-    is_among(form.needs(), name) || is_among(form.allows(), name)
+    match Member::named(name) {
+        Some(member) => is_among(form.needs(), member) || is_among(form.allows(), member),
+        None => false,
+    }
 }
 
-fn is_among(members: &[Member], name: &str) -> bool
-    ensures { result ≡ is_one_of members.now name.now }
+// Members are told apart by their places.
+fn is_among(members: &[Member], member: Member) -> bool
+    ensures { result ≡ list_any (λ one. place one == place member) members.now }
 {
-    members.iter().any(|member| member.word() == name)
+    members.iter().any(|one| one.place() == member.place())
 }
 
 fn are_there(needed: &[Member], members: &Members<'_>) -> bool
