@@ -1,5 +1,7 @@
 //! A scenario is read line by line, up to the first fault.
 ghost use Rattle.std.specs.Prelude.{◌<◌, ◌-◌, ◌^◌, length, IfOk, OnOk};
+ghost use Rattle.scenario_lines.specs.Contents.{content_of};
+ghost use Rattle.scenario_lines.specs.Flaws.{GivesContent};
 ghost use Rattle.scenario_reader.specs.Accepted.{script_of};
 ghost use Rattle.scenario_reader.specs.Facts.{IsScript};
 ghost use Rattle.scenario_reader.specs.Faults.{GivesReading};
@@ -48,6 +50,21 @@ fn add_line(alloc: Global, reading: &mut Reading, line: TextLine<'_>) -> Result<
     if let Ok(Content::Acts(act)) = &said {
         return reading.add_act(line.number, act);
     }
+    add_said(alloc, reading, line, said)
+}
+
+// What a line comes to that says this. It stands apart, so that the lines of actors clear no room for it.
+fn add_said(
+    alloc: Global,
+    reading: &mut Reading,
+    line: TextLine<'_>,
+    said: Result<Content, LineError>,
+) -> Result<(), ScriptFault>
+    requires small { IsSmall reading.old }
+    requires said { GivesContent (λ content. content) said (content_of line.text.now) }
+    ensures step { Leads result reading.new (step_on reading.old (line_view line.entry)) }
+    ensures small { OnOk result (IsSmall reading.new) }
+{
     match said {
         Ok(content) => reading.add(alloc, line.number, content),
         Err(LineError::Flawed(flaw)) => Err(ScriptFault::of_flaw(flaw, line.number)),
