@@ -1,11 +1,12 @@
 -- How the program ends, by what it was asked, what the source gave, and what the sink and the disk did.
 use Rattle.std.specs.Prelude.{◌≡◌, ℕ, List, Option, Some, None, Ok}
+use Rattle.byte_ports.specs.Cause.{Rose}
 use Rattle.disk_trait.specs.Past.{Past, Image}
 use Rattle.disk_trait.specs.Shows.{Shows}
 use Rattle.bbs_model.specs.declared.rows.Rows.{Rows}
 use Rattle.bbs_board.specs.Opening.{IsBoard}
 use Rattle.program_edge.specs.Ending.{status_of}
-use Rattle.program_edge.specs.Ports.{Ports, ports_of}
+use Rattle.program_edge.specs.Ports.{IsTold, Ports, ports_of}
 use Rattle.program_edge.specs.declared.ending.Ending.{Ending}
 use Rattle.program_edge.specs.declared.ending.Ending.TheVariants as ending
 use Rattle.program_edge.specs.declared.top_end.TopEnd.{TopEnd}
@@ -39,6 +40,14 @@ ReachesBoard (Some asked.Prepare) left left' = ⊥
 ReachesBoard (Some asked.Records) left left' = Unit {0}
 ReachesBoard (Some asked.Check) left left' = Unit {0}
 ReachesBoard None left left' = ⊥
+
+-- no fault of a port was counted meanwhile
+abbrev pub NoFault : ℕ → ℕ → Type 0
+NoFault faults faults' = Rose faults faults' → ⊥
+
+-- at the end the disk tells its past still, and no fault of it was counted meanwhile
+abbrev pub TellsWithoutFault : Option Past → ℕ → ℕ → Type 0
+TellsWithoutFault told' faults faults' = IsTold told' × NoFault faults faults'
 
 -- the source tells a scenario that isn't too long, and the disk a board with these rows
 pub record Meets (left : Option (List ℕ)) (told : Option Past) : Type 0 where

@@ -19,7 +19,7 @@ ghost use Rattle.program_run.specs.Reading.{ReadsWhole, TellsAs, TellsTooMuch, l
 ghost use Rattle.scenario_lines.specs.declared.script.Script.{Script as AScript};
 ghost use Rattle.scenario_reader.specs.declared.fault.ScriptFault.{ScriptFault as AFault};
 ghost use Rattle.diego_engine.specs.InMemory.{EndsInMemoryAt, RunsWholeInMemoryAt};
-ghost use Rattle.diego_engine.specs.Top.{Meets, ReachesBoard};
+ghost use Rattle.diego_engine.specs.Top.{Meets, NoFault, ReachesBoard};
 
 use crate::{TopEnd, diego_top};
 use byte_ports::{Gate, Sink, Source};
@@ -50,7 +50,7 @@ pub fn diego_top_in_memory<R: Threads + Wait + Sync, S: Source, K: Sink, G: Gate
         (K.held sink) (K.held result.sink) (K.faults sink) (K.faults result.sink) }
     ensures no_script { (fault : AFault) → asked_of (map (λ w. string_bytes w) words.now) ≡ Some wanted.Run
         → TellsAs (Err fault) (S.left source)
-        → (Rose (S.faults source) (S.faults result.source) → ⊥)
+        → NoFault (S.faults source) (S.faults result.source)
         → (result.status ≡ 2) ⊎ (result.status ≡ 7) }
     ensures read { HasCause (result.status == 3) (S.faults source) (S.faults result.source) }
     ensures unwritten { result.status ≡ 4 → Rose (K.faults sink) (K.faults result.sink) }
@@ -66,19 +66,18 @@ pub fn diego_top_in_memory<R: Threads + Wait + Sync, S: Source, K: Sink, G: Gate
         → (asked_of (map (λ w. string_bytes w) words.now) ≡ Some wanted.Prepare)
         × (faults_of result.disk ≡ faults_of disk)
         × Goes (Some (memory_past disk)) (Some (memory_past result.disk)) FindsBytes }
-    ensures no_board { (script : AScript)
-        → asked_of (map (λ w. string_bytes w) words.now) ≡ Some wanted.Run
+    ensures no_board { (script : AScript) → asked_of (map (λ w. string_bytes w) words.now) ≡ Some wanted.Run
         → TellsAs (Ok script) (S.left source) → MeetsNoBoard (Some (memory_past disk))
-        → (Rose (S.faults source) (S.faults result.source) → ⊥)
-        → (Rose (faults_of disk) (faults_of result.disk) → ⊥)
+        → NoFault (S.faults source) (S.faults result.source)
+        → NoFault (faults_of disk) (faults_of result.disk)
         → (result.status ≡ 6) ⊎ (result.status ≡ 7) }
     ensures too_much { asked_of (map (λ w. string_bytes w) words.now) ≡ Some wanted.Run
         → TellsTooMuch (S.left source)
-        → (Rose (S.faults source) (S.faults result.source) → ⊥)
+        → NoFault (S.faults source) (S.faults result.source)
         → (result.status ≡ 8) ⊎ (result.status ≡ 7) }
     ensures stopped { MeetsObstacle (asked_of (map (λ w. string_bytes w) words.now))
         (Some (memory_past disk))
-        → (Rose (faults_of disk) (faults_of result.disk) → ⊥)
+        → NoFault (faults_of disk) (faults_of result.disk)
         → IsStopped (asked_of (map (λ w. string_bytes w) words.now)) result.status }
     ensures untouched { is_before_board result.status ≡ true
         → (Some (memory_past result.disk) ≡ Some (memory_past disk))
@@ -94,9 +93,8 @@ pub fn diego_top_in_memory<R: Threads + Wait + Sync, S: Source, K: Sink, G: Gate
     // With a scenario and a board, and without a fault, all is done unless memory runs out.
     ensures complete { asked_of (map (λ w. string_bytes w) words.now) ≡ Some wanted.Run
         → Meets (S.left source) (Some (memory_past disk))
-        → (Rose (S.faults source) (S.faults result.source) → ⊥)
-        → (Rose (K.faults sink) (K.faults result.sink) → ⊥)
-        → (Rose (faults_of disk) (faults_of result.disk) → ⊥)
+        → NoFault (S.faults source) (S.faults result.source) → NoFault (K.faults sink) (K.faults result.sink)
+        → NoFault (faults_of disk) (faults_of result.disk)
         → (result.status ≡ 0) ⊎ (result.status ≡ 7) }
 {
     diego_top(rt, alloc, words, source, sink, disk, gate)

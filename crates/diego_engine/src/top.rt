@@ -18,7 +18,7 @@ ghost use Rattle.still_words.specs.Words.{asked_of};
 ghost use Rattle.still_words.specs.declared.words.Asked.TheVariants as wanted;
 ghost use Rattle.diego_engine.specs.Headline.{Headline};
 ghost use Rattle.diego_engine.specs.Serial.{RunsSeriallyAt};
-ghost use Rattle.diego_engine.specs.Top.{EndsAt, Meets, ReachesBoard, RunsWholeAt};
+ghost use Rattle.diego_engine.specs.Top.{EndsAt, Meets, NoFault, ReachesBoard, RunsWholeAt, TellsWithoutFault};
 ghost use Rattle.program_run.specs.Reading.{ReadsWhole, TellsAs, TellsTooMuch, limit};
 ghost use Rattle.scenario_lines.specs.declared.script.Script.{Script as AScript};
 ghost use Rattle.scenario_reader.specs.declared.fault.ScriptFault.{ScriptFault as AFault};
@@ -120,7 +120,7 @@ pub fn diego_top<
         (K.held sink) (K.held result.sink) (K.faults sink) (K.faults result.sink) }
     ensures no_script { (fault : AFault) → asked_of (map (λ w. string_bytes w) words.now) ≡ Some wanted.Run
         → TellsAs (Err fault) (S.left source)
-        → (Rose (S.faults source) (S.faults result.source) → ⊥)
+        → NoFault (S.faults source) (S.faults result.source)
         → (result.status ≡ 2) ⊎ (result.status ≡ 7) }
     ensures read { HasCause (result.status == 3) (S.faults source) (S.faults result.source) }
     ensures unwritten { result.status ≡ 4 → Rose (K.faults sink) (K.faults result.sink) }
@@ -137,20 +137,17 @@ pub fn diego_top<
         → (asked_of (map (λ w. string_bytes w) words.now) ≡ Some wanted.Prepare)
         × (D.fault_count result.disk ≡ D.fault_count disk)
         × Goes (D.told disk) (D.told result.disk) FindsBytes }
-    ensures no_board { (script : AScript)
-        → asked_of (map (λ w. string_bytes w) words.now) ≡ Some wanted.Run
+    ensures no_board { (script : AScript) → asked_of (map (λ w. string_bytes w) words.now) ≡ Some wanted.Run
         → TellsAs (Ok script) (S.left source) → MeetsNoBoard (D.told disk)
-        → IsTold (D.told result.disk)
-        → (Rose (S.faults source) (S.faults result.source) → ⊥)
-        → (Rose (D.fault_count disk) (D.fault_count result.disk) → ⊥)
+        → NoFault (S.faults source) (S.faults result.source)
+        → TellsWithoutFault (D.told result.disk) (D.fault_count disk) (D.fault_count result.disk)
         → (result.status ≡ 6) ⊎ (result.status ≡ 7) }
     ensures too_much { asked_of (map (λ w. string_bytes w) words.now) ≡ Some wanted.Run
         → TellsTooMuch (S.left source)
-        → (Rose (S.faults source) (S.faults result.source) → ⊥)
+        → NoFault (S.faults source) (S.faults result.source)
         → (result.status ≡ 8) ⊎ (result.status ≡ 7) }
     ensures stopped { MeetsObstacle (asked_of (map (λ w. string_bytes w) words.now)) (D.told disk)
-        → IsTold (D.told result.disk)
-        → (Rose (D.fault_count disk) (D.fault_count result.disk) → ⊥)
+        → TellsWithoutFault (D.told result.disk) (D.fault_count disk) (D.fault_count result.disk)
         → IsStopped (asked_of (map (λ w. string_bytes w) words.now)) result.status }
     ensures untouched { is_before_board result.status ≡ true
         → (D.told result.disk ≡ D.told disk) × (D.fault_count result.disk ≡ D.fault_count disk) }
@@ -178,10 +175,8 @@ pub fn diego_top<
     // With a scenario and a board, and without a fault, all is done unless memory runs out.
     ensures complete { asked_of (map (λ w. string_bytes w) words.now) ≡ Some wanted.Run
         → Meets (S.left source) (D.told disk)
-        → IsTold (D.told result.disk)
-        → (Rose (S.faults source) (S.faults result.source) → ⊥)
-        → (Rose (K.faults sink) (K.faults result.sink) → ⊥)
-        → (Rose (D.fault_count disk) (D.fault_count result.disk) → ⊥)
+        → NoFault (S.faults source) (S.faults result.source) → NoFault (K.faults sink) (K.faults result.sink)
+        → TellsWithoutFault (D.told result.disk) (D.fault_count disk) (D.fault_count result.disk)
         → (result.status ≡ 0) ⊎ (result.status ≡ 7) }
 {
     played_runs_are_faithful::<D>();

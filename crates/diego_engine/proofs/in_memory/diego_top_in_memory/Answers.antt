@@ -8,7 +8,7 @@ pub returns-clause-done : goal.returns-clause-done
 returns-clause-done g c n is = let (how, whole) = c.diego_top.ensures.done n is in (how, spoken_whole _ _ _ tt _ _ whole)
 
 pub returns-clause-complete : goal.returns-clause-complete
-returns-clause-complete g c is meets source sink disk = c.diego_top.ensures.complete is meets tt source sink disk
+returns-clause-complete g c is meets source sink disk = c.diego_top.ensures.complete is meets source sink (tt, disk)
 
 pub returns-clause-refused : goal.returns-clause-refused
 returns-clause-refused g c n = let (why, stood, refused) = c.diego_top.ensures.refused n in (why, stood, λ image shows. refused image shows tt)
@@ -17,10 +17,10 @@ pub returns-clause-no_script : goal.returns-clause-no_script
 returns-clause-no_script g c fault is tells source = c.diego_top.ensures.no_script fault is tells source
 
 pub returns-clause-stopped : goal.returns-clause-stopped
-returns-clause-stopped g c meets disk = c.diego_top.ensures.stopped meets tt disk
+returns-clause-stopped g c meets disk = c.diego_top.ensures.stopped meets (tt, disk)
 
 pub returns-clause-no_board : goal.returns-clause-no_board
-returns-clause-no_board g c script is tells meets source disk = c.diego_top.ensures.no_board script is tells meets tt source disk
+returns-clause-no_board g c script is tells meets source disk = c.diego_top.ensures.no_board script is tells meets source (tt, disk)
 
 pub returns-clause-too_much : goal.returns-clause-too_much
 returns-clause-too_much g c is tells source = c.diego_top.ensures.too_much is tells source

@@ -45,9 +45,9 @@ returns-clause-untouched g c n =
     untouched_from g.D.Disk.told g.D.Disk.fault_count g.D.Disk.moment _ _ _ _ _ how _ (ap is_before_board (sym status) ∙ n) ends
 
 pub returns-clause-complete : goal.returns-clause-complete
-returns-clause-complete g c is meets told source sink disk =
+returns-clause-complete g c is meets source sink disk =
     let (how, status, ends) = c.whole_top.ensures.ends in
-    elim (complete_from g.D.Disk.told g.D.Disk.fault_count g.D.Disk.moment _ _ _ _ _ how _ is ends meets told (λ n. source (c.whole_top.ensures.read.rose (ap (λ (m : ℕ). m == 3) (status ∙ n)))) sink disk) [
+    elim (complete_from g.D.Disk.told g.D.Disk.fault_count g.D.Disk.moment _ _ _ _ _ how _ is ends meets disk.0 (λ n. source (c.whole_top.ensures.read.rose (ap (λ (m : ℕ). m == 3) (status ∙ n)))) sink disk.1) [
       | inl n ↦ inl (status ∙ n)
       | inr n ↦ inr (status ∙ n)
     ]
@@ -73,14 +73,14 @@ returns-clause-no_script g c fault is tells source =
     ]
 
 pub returns-clause-stopped : goal.returns-clause-stopped
-returns-clause-stopped g c meets told disk =
-    let (how, status, ends) = c.whole_top.ensures.ends in stopped_from g.D.Disk.told g.D.Disk.fault_count g.D.Disk.moment _ _ _ _ _ how _ _ status ends meets told disk
+returns-clause-stopped g c meets disk =
+    let (how, status, ends) = c.whole_top.ensures.ends in stopped_from g.D.Disk.told g.D.Disk.fault_count g.D.Disk.moment _ _ _ _ _ how _ _ status ends meets disk.0 disk.1
 
 pub returns-clause-no_board : goal.returns-clause-no_board
-returns-clause-no_board g c script is tells meets told source disk =
+returns-clause-no_board g c script is tells meets source disk =
     let (how, status, ends) = c.whole_top.ensures.ends in
-    elim (no_board_from g.D.Disk.told g.D.Disk.fault_count g.D.Disk.moment _ _ _ _ _ how _ script is ends tells meets told
-    (λ n. source (c.whole_top.ensures.read.rose (ap (λ (m : ℕ). m == 3) (status ∙ n)))) disk) [
+    elim (no_board_from g.D.Disk.told g.D.Disk.fault_count g.D.Disk.moment _ _ _ _ _ how _ script is ends tells meets disk.0
+    (λ n. source (c.whole_top.ensures.read.rose (ap (λ (m : ℕ). m == 3) (status ∙ n)))) disk.1) [
       | inl n ↦ inl (status ∙ n)
       | inr n ↦ inr (status ∙ n)
     ]
