@@ -9,7 +9,7 @@ use Rattle.std.specs.Option.{option_map, option_cmp, unwrap_or}
 use Rattle.std.specs.Ordering.{is_lt, eq_by_cmp}
 use Rattle.std.proofs.lemmas.List.{length-map, get_or-map, map-append, take_more}
 use Rattle.std.proofs.lemmas.List.Elements.{All-map}
-use Rattle.std.proofs.lemmas.List.Sorted.{IsPermutation-map, All-permutation, length_permutation}
+use Rattle.std.proofs.lemmas.List.Sorted.{IsPermutation-refl, IsPermutation-map, All-permutation, length_permutation}
 use Rattle.std.proofs.lemmas.Map.Entries.{lookup_from_place}
 use Rattle.std.proofs.lemmas.Map.Made.{AllPairs-from_IsDistinct}
 use Rattle.std.proofs.lemmas.Option.{slice_get-map, slice_get-get_or}
@@ -70,6 +70,10 @@ module _ {K X : Type 0} {R : K → K → Ordering} (o : IsKeyOrder R) {eq : K �
 
     differ : AllPairs (λ a b. a ≢ b) (map key rows)
     differ = subst (AllPairs (λ a b. a ≢ b)) (sym (keys_own es own)) (AllPairs-from_IsDistinct decides (map (λ e. e.0) es) unique)
+
+    -- and where the rows are in that order by their numbers, they are the table
+    pub rows-sorted : IsSortedByKey key R rows → rows ≡ table_of R es
+    rows-sorted sorted = table-from_sorted R key o rows rows differ sorted (IsPermutation-refl rows) ∙ table-rows
 
     by_entry : (n : ℕ) (x : X) (entry : Option (K × X)) → slice_get es n ≡ entry → option_map (λ e. e.1) entry ≡ Some x → option_map (λ e. e.0) entry ≡ Some (key x)
     by_entry n x None there is = cc

@@ -1,6 +1,7 @@
 //! A shelf is a map from each row's key to the row, and contracts see it as the table of its rows.
 
 ghost use Rattle.std.specs.Prelude.{◌≡◌, ℕ, ◌<◌, ◌≤◌, ◌^◌, [], length, vec_capacity, slice_get, Some, IfSome, IsOk, IfOk, OnOk};
+ghost use Rattle.std.specs.List.Sorted.{IsSortedByKey};
 ghost use Rattle.std.specs.Option.{option_map, option_copied, option_and_then};
 ghost use Rattle.row_tables.specs.Table.{find_row, put_row, without_row, IsRising};
 ghost use Rattle.bbs_model.specs.Store.{HasRoom, TakesRoom};
@@ -104,6 +105,15 @@ impl<X: Rowed> Shelf<X> {
         ensures { slice_get self.now.numbered number ≡ Some result.now }
     {
         &self.map[number]
+    }
+
+    /// Where no row stands before one with a lower key by their numbers, that is the order of their
+    /// keys. It does nothing.
+    pub fn may_be_in_order(&self)
+        ensures count { length self.now.numbered ≡ length self.now.rows }
+        ensures order { IsSortedByKey X.key X.Key.cmp self.now.numbered → self.now.numbered ≡ self.now.rows }
+    {
+        let _len = self.map.len();
     }
 
     /// Makes room for `n` more rows with new keys. It fails only for want of memory.
