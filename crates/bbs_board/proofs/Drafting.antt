@@ -1,8 +1,12 @@
 -- Rows that are written by their numbers, one behind the other.
-use Rattle.std.proofs.Common.{◌≡◌, ℕ, zero, suc, ◌+◌, ◌<◌, List, [], ◌∷◌, ◌++◌, length, take, drop, get_or, slice_get, Some, refl, sym, ap, ◌∙◌, arith, append_assoc, append-nil}
+use Rattle.std.proofs.Common.{◌≡◌, ℕ, zero, suc, ◌+◌, ◌<◌, false, List, [], ◌∷◌, ◌++◌, length, take, drop, get_or, slice_get, Some, refl, sym, ap, ◌∙◌, arith, append_assoc, append-nil}
+use Rattle.std.specs.declared.cmp.Ordering.{Ordering}
 use Rattle.std.specs.List.{flat_map}
+use Rattle.std.specs.Option.{unwrap_or}
+use Rattle.std.specs.Ordering.{is_lt}
 use Rattle.std.proofs.lemmas.Grind.{flat_map-append}
-use Rattle.std.proofs.lemmas.List.{length-map}
+use Rattle.std.proofs.lemmas.List.{length-map, take_more}
+use Rattle.std.proofs.lemmas.Option.{slice_get-get_or}
 use Rattle.bbs_index.specs.Shelf.{AreNumbered}
 
 there_on : {X : Type 0} (numbered : List X) (order : List ℕ) (rows : List X) (i : ℕ) → AreNumbered numbered order rows → i < length order
@@ -32,6 +36,18 @@ bytes_more {X} f rows before was now i x so more one =
     more ∙ ap (λ (l : List ℕ). l ++ f x) so ∙ append_assoc before (flat_map f (take i rows)) (f x)
     ∙ ap (λ (l : List ℕ). before ++ l)
     (ap (λ (l : List ℕ). flat_map f (take i rows) ++ l) (sym (append-nil (f x))) ∙ sym (flat_map-append f (take i rows) (x ∷ [])) ∙ ap (flat_map f) (sym one))
+
+-- what a number finds is what stands there
+pub get_there : {X : Type 0} (xs : List X) (n : ℕ) (x d : X) → n < length xs → slice_get xs n ≡ Some x → get_or xs n d ≡ x
+get_there xs n x d lt at = ap (λ s. unwrap_or s d) (sym (slice_get-get_or xs n d lt) ∙ at)
+
+-- one row more, by its number
+pub take_there : {X : Type 0} (xs : List X) (n : ℕ) (x : X) → n < length xs → slice_get xs n ≡ Some x → take (n + 1) xs ≡ take n xs ++ x ∷ []
+take_there xs n x lt at = take_more xs n x lt ∙ ap (λ y. take n xs ++ y ∷ []) (get_there xs n x x lt at)
+
+-- the row of this number does not stand before the one of the number below it
+abbrev pub StandsBehind : {K X : Type 0} → (K → K → Ordering) → (X → K) → List X → ℕ → Type 0
+StandsBehind {K} {X} R key rows number = (below : ℕ) (x : X) → below + 1 ≡ number → is_lt (R (key (get_or rows number x)) (key (get_or rows below x))) ≡ false
 
 -- the five texts of a head, each put behind the one before it
 pub texts_joined : (c d a t r : List ℕ) → ((((([] ++ c) ++ d) ++ a) ++ t) ++ r) ≡ c ++ (d ++ (a ++ (t ++ r)))

@@ -1,6 +1,7 @@
 //! The head of a checkpoint: the rows of an index in bytes, written where room was made for them.
-ghost use Rattle.std.specs.Prelude.{◌≡◌, ◌+◌, ◌*◌, ◌≤◌, ◌<◌, ◌^◌, ◌++◌, length, vec_len, vec_capacity, OnOk, IsOk};
+ghost use Rattle.std.specs.Prelude.{◌≡◌, ℕ, ◌+◌, ◌*◌, ◌≤◌, ◌<◌, ◌^◌, ◌++◌, true, false, length, take, slice_index_or, vec_len, vec_capacity, OnOk, IsOk};
 ghost use Rattle.std.specs.List.{flat_map, AllByRecursion};
+ghost use Rattle.std.specs.Ordering.{is_lt};
 ghost use Rattle.head_codec.specs.Head.{counts, head_counts, head_spelled, FitsHead};
 ghost use Rattle.bbs_index.specs.Shelf.{AreNumbered};
 ghost use Rattle.bbs_model.specs.Valid.{IsValid};
@@ -61,6 +62,41 @@ fn put_numbered<X: HeadRow>(out: &mut Vec<u8>, shelf: &Shelf<X>, numbers: &[u32]
     }
 }
 
+/// Whether the row of this number does not stand before the one of the number below it.
+fn stands_behind<X: HeadRow>(shelf: &Shelf<X>, number: usize) -> bool
+    requires { number < length shelf.now.numbered }
+    ensures { (below : ℕ) (x : X) → result ≡ true → below + 1 ≡ number → is_lt (X.Key.cmp
+        (X.key (slice_index_or shelf.now.numbered number x))
+        (X.key (slice_index_or shelf.now.numbered below x))) ≡ false }
+{
+    if number == 0 {
+        return true;
+    }
+    let below = shelf.at(number - 1).key();
+    !shelf.at(number).key().cmp(&below).is_lt()
+}
+
+/// Puts the rows of a shelf behind what is written by their numbers, as long as that is the order of
+/// their keys, and tells whether all of them were put.
+fn put_in_turn<X: HeadRow>(out: &mut Vec<u8>, shelf: &Shelf<X>) -> bool
+    requires room { vec_len out.old + 344 * length shelf.now.rows ≤ vec_capacity out.old }
+    ensures bytes { result ≡ true
+        → out.new.items ≡ out.old.items ++ flat_map X.format.spelling shelf.entry.now.rows }
+    ensures fits { result ≡ true → AllByRecursion X.format.Fits shelf.entry.now.rows }
+    ensures front { take (vec_len out.old) out.new.items ≡ out.old.items }
+    ensures few { vec_len out.new ≤ vec_len out.old + 344 * length shelf.entry.now.rows }
+    ensures kept { vec_capacity out.old ≤ vec_capacity out.new }
+{
+    shelf.may_be_in_order();
+    for number in 0..shelf.len() {
+        if !stands_behind(shelf, number) {
+            return false;
+        }
+        put_row(out, shelf.at(number));
+    }
+    true
+}
+
 /// Puts the rows of a shelf behind what is written, in the order of their keys.
 fn put_rows<X: HeadRow>(out: &mut Vec<u8>, order: &mut Vec<u32>, shelf: &Shelf<X>)
     requires room { vec_len out.old + 344 * length shelf.now.rows ≤ vec_capacity out.old }
@@ -72,6 +108,11 @@ fn put_rows<X: HeadRow>(out: &mut Vec<u8>, order: &mut Vec<u32>, shelf: &Shelf<X
     ensures kept { vec_capacity out.old ≤ vec_capacity out.new }
     ensures order { vec_capacity order.new ≡ vec_capacity order.old }
 {
+    let written = out.len();
+    if put_in_turn(out, shelf) {
+        return;
+    }
+    out.truncate(written);
     shelf.order_into(order);
     put_numbered(out, shelf, order);
 }
