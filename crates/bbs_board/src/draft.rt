@@ -21,6 +21,9 @@ pub struct Draft {
     pub(crate) order: Vec<u32>,
 }
 
+// How many rows at the end of a table are looked at first: those that came since the last checkpoint stand there.
+const LATEST: usize = 4_096;
+
 /// Puts the front of a head behind what is written.
 fn put_front(out: &mut Vec<u8>, front: Counts)
     requires { vec_len out.old + 344 ≤ vec_capacity out.old }
@@ -76,6 +79,19 @@ fn stands_behind<X: HeadRow>(shelf: &Shelf<X>, number: usize) -> bool
     !shelf.at(number).key().cmp(&below).is_lt()
 }
 
+/// Whether the rows that came last stand in the order of their keys. Where they don't, it isn't worth while to
+/// write all that stand before them by their numbers.
+fn ends_in_turn<X: HeadRow>(shelf: &Shelf<X>) -> bool {
+    shelf.may_be_in_order();
+    let len = shelf.len();
+    for number in (len.saturating_sub(LATEST)..len).rev() {
+        if !stands_behind(shelf, number) {
+            return false;
+        }
+    }
+    true
+}
+
 /// Puts the rows of a shelf behind what is written by their numbers, as long as that is the order of
 /// their keys, and tells whether all of them were put.
 fn put_in_turn<X: HeadRow>(out: &mut Vec<u8>, shelf: &Shelf<X>) -> bool
@@ -109,7 +125,7 @@ fn put_rows<X: HeadRow>(out: &mut Vec<u8>, order: &mut Vec<u32>, shelf: &Shelf<X
     ensures order { vec_capacity order.new ≡ vec_capacity order.old }
 {
     let written = out.len();
-    if put_in_turn(out, shelf) {
+    if ends_in_turn(shelf) && put_in_turn(out, shelf) {
         return;
     }
     out.truncate(written);
