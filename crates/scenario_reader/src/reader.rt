@@ -53,7 +53,7 @@ fn add_line(alloc: Global, reading: &mut Reading, line: TextLine<'_>) -> Result<
     add_said(alloc, reading, line, said)
 }
 
-// What a line comes to that says this. It stands apart, so that the lines of actors clear no room for it.
+// What a line comes to that says this.
 fn add_said(
     alloc: Global,
     reading: &mut Reading,
