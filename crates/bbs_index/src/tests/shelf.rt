@@ -43,29 +43,6 @@ fn rows_come_out_in_the_order_of_their_keys(rt: HostRuntime) -> Result<(), Fail>
 }
 
 #[test]
-fn numbers_are_told_in_the_order_of_their_keys(rt: HostRuntime) -> Result<(), Fail> {
-    let mut shelf = Shelf::new(rt.alloc());
-    // In no order, and with one key twice: its row keeps its number.
-    for (process, instances) in [(b"web-2", 1), (b"api-1", 2), (b"web-1", 3), (b"api-1", 4)] {
-        add(&mut shelf, desired(process, instances)?)?;
-    }
-    let mut order: Vec<u32> = Vec::with_capacity(rt.alloc(), 3)?;
-    shelf.order_into(&mut order);
-    assert_eq!(rt; order.as_slice(), [1, 2, 0].as_slice());
-    for (number, wanted) in order.iter().zip([4, 3, 1]) {
-        assert_eq!(rt; shelf.at(*number as usize).instances, wanted);
-    }
-    // Once more into the same numbers, one row less.
-    shelf.remove(&Name::read(b"web-1")?);
-    shelf.order_into(&mut order);
-    assert_eq!(rt; order.len(), 2);
-    for (number, wanted) in order.iter().zip([4, 1]) {
-        assert_eq!(rt; shelf.at(*number as usize).instances, wanted);
-    }
-    Ok(())
-}
-
-#[test]
 fn a_put_at_a_known_key_takes_the_place_of_the_row_there(rt: HostRuntime) -> Result<(), Fail> {
     let mut shelf = Shelf::new(rt.alloc());
     let row = desired(b"web", 1)?;
