@@ -1,10 +1,8 @@
 -- The rows of the four tables, as they are printed: members in byte order of their names, and null for what isn't there.
-use Rattle.std.specs.Prelude.{ℕ, Bool, List, Option, Some, None, codes}
+use Rattle.std.specs.Prelude.{Bool, Option, Some, None, codes}
 use Rattle.serde_json.specs.Data.{Data, boolean, string, object, member, no_members}
 use Rattle.lrp_records.specs.declared.actual.Actual.{Actual}
 use Rattle.lrp_records.specs.declared.desired.Desired.{Desired}
-use Rattle.lrp_records.specs.declared.state.LrpState.{LrpState}
-use Rattle.lrp_records.specs.declared.state.LrpState.TheVariants as lrp
 use Rattle.lrp_records.specs.States.{holder_of, name_of as lrp_name_of, cell_of}
 use Rattle.task_records.specs.declared.state.TaskState.{TaskState}
 use Rattle.task_records.specs.declared.state.TaskState.TheVariants as task

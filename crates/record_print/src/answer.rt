@@ -1,18 +1,19 @@
 //! The line that tells how a call ended, or that none was made.
-ghost use Rattle.std.specs.Prelude.{◌≡◌, IfOk};
-ghost use Rattle.serde_json.specs.View.{view};
+ghost use Rattle.std.specs.Prelude.{◌≡◌, IfOk, OnOk};
 ghost use Rattle.serde_json.specs.Data.{no_members as nothing_more};
 ghost use Rattle.record_print.specs.Printed.{line_text, answer_data, answer_members, refused_data};
+ghost use Rattle.record_print.specs.Writing.{AddsValue};
 
 use crate::asked::Asked;
-use crate::line::line_text;
+use crate::line::{line_begun, line_ended};
+use crate::member::{begin, end, put_number, put_text};
 use crate::spelled::asked_subject;
 use crate::why::{rep_why_text, why_text};
 use crate::word::{asked_word, end_word};
 use bbs_model::Reply;
 use cell_rep::CallEnd;
 use diego_names::Name;
-use serde_json::{Value, json};
+use json::Writer;
 use std::alloc::{AllocError, Global};
 
 /// The answer to an actor at a line of the scenario.
@@ -26,62 +27,66 @@ pub fn answer_text(
     ensures { IfOk result
         (λ v. v.items ≡ line_text (answer_data actor.now line asked.now end.now)) }
 {
-    let answer = answer_value(alloc, actor, line, asked, end)?;
-    line_text(alloc, &answer)
+    let mut text = line_begun(alloc)?;
+    put_answer(&mut text, alloc, actor, line, asked, end)?;
+    line_ended(text)
 }
 
-fn answer_value(
+fn put_answer(
+    text: &mut Writer,
     alloc: Global,
     actor: &Name,
     line: u32,
     asked: &Asked,
     end: &CallEnd,
-) -> Result<Value, AllocError>
-    ensures { IfOk result (λ v. view v ≡ answer_data actor.now line asked.now end.now) }
+) -> Result<(), AllocError>
+    ensures { OnOk result (AddsValue text.old text.new (answer_data actor.now line asked.now end.now)) }
 {
     match end {
         CallEnd::Got(Reply::Refused { why, place: _ }) => {
-            refused_value(alloc, actor, line, asked, &why_text(alloc, why)?)
+            put_refused(text, alloc, actor, line, asked, &why_text(alloc, why)?)
         }
-        CallEnd::Local(why) => refused_value(alloc, actor, line, asked, rep_why_text(*why)),
-        _ => plain_value(alloc, actor, line, asked, end_word(end)),
+        CallEnd::Local(why) => put_refused(text, alloc, actor, line, asked, rep_why_text(*why)),
+        _ => put_plain(text, alloc, actor, line, asked, end_word(end)),
     }
 }
 
-fn plain_value(
+fn put_plain(
+    text: &mut Writer,
     alloc: Global,
     actor: &Name,
     line: u32,
     asked: &Asked,
     word: &str,
-) -> Result<Value, AllocError>
-    ensures { IfOk result
-        (λ v. view v ≡ answer_members actor.now word.now line asked.now nothing_more) }
+) -> Result<(), AllocError>
+    ensures { OnOk result (AddsValue text.old text.new
+        (answer_members actor.now word.now line asked.now nothing_more)) }
 {
-    json!(in alloc; {
-        "actor": actor.as_str(),
-        "answer": word,
-        "call": asked_word(asked),
-        "line": line,
-        "subject": asked_subject(alloc, actor, asked)?
-    })
+    begin(text)?;
+    put_text(text, "actor", actor.as_str())?;
+    put_text(text, "answer", word)?;
+    put_text(text, "call", asked_word(asked))?;
+    put_number(text, "line", line as u64)?;
+    put_text(text, "subject", &asked_subject(alloc, actor, asked)?)?;
+    end(text)
 }
 
-fn refused_value(
+fn put_refused(
+    text: &mut Writer,
     alloc: Global,
     actor: &Name,
     line: u32,
     asked: &Asked,
     why: &str,
-) -> Result<Value, AllocError>
-    ensures { IfOk result (λ v. view v ≡ refused_data actor.now line asked.now why.now) }
+) -> Result<(), AllocError>
+    ensures { OnOk result (AddsValue text.old text.new (refused_data actor.now line asked.now why.now)) }
 {
-    json!(in alloc; {
-        "actor": actor.as_str(),
-        "answer": "refused",
-        "call": asked_word(asked),
-        "line": line,
-        "subject": asked_subject(alloc, actor, asked)?,
-        "why": why
-    })
+    begin(text)?;
+    put_text(text, "actor", actor.as_str())?;
+    put_text(text, "answer", "refused")?;
+    put_text(text, "call", asked_word(asked))?;
+    put_number(text, "line", line as u64)?;
+    put_text(text, "subject", &asked_subject(alloc, actor, asked)?)?;
+    put_text(text, "why", why)?;
+    end(text)
 }

@@ -1,12 +1,13 @@
 //! The line that tells what a board's disk holds.
-ghost use Rattle.std.specs.Prelude.{◌≡◌, IfOk};
-ghost use Rattle.serde_json.specs.View.{view};
+ghost use Rattle.std.specs.Prelude.{◌≡◌, IfOk, OnOk};
 ghost use Rattle.record_print.specs.Printed.{check_data, line_text};
+ghost use Rattle.record_print.specs.Writing.{AddsValue};
 
-use crate::line::line_text;
+use crate::line::{line_begun, line_ended};
+use crate::member::{begin, end, put_number, put_text};
 use crate::word::area_word;
 use disk_trait::Area;
-use serde_json::{Value, json};
+use json::Writer;
 use std::alloc::{AllocError, Global};
 
 /// What a check of a board finds.
@@ -26,17 +27,18 @@ pub struct Check {
 pub fn check_text(alloc: Global, check: Check) -> Result<Vec<u8>, AllocError>
     ensures { IfOk result (λ v. v.items ≡ line_text (check_data check)) }
 {
-    let line = check_value(alloc, check)?;
-    line_text(alloc, &line)
+    let mut line = line_begun(alloc)?;
+    put_check(&mut line, check)?;
+    line_ended(line)
 }
 
-fn check_value(alloc: Global, check: Check) -> Result<Value, AllocError>
-    ensures { IfOk result (λ v. view v ≡ check_data check) }
+fn put_check(line: &mut Writer, check: Check) -> Result<(), AllocError>
+    ensures { OnOk result (AddsValue line.old line.new (check_data check)) }
 {
-    json!(in alloc; {
-        "area": area_word(check.area),
-        "frames": check.frames,
-        "generation": check.generation,
-        "next": check.next
-    })
+    begin(line)?;
+    put_text(line, "area", area_word(check.area))?;
+    put_number(line, "frames", check.frames)?;
+    put_number(line, "generation", check.generation)?;
+    put_number(line, "next", check.next)?;
+    end(line)
 }

@@ -1,46 +1,49 @@
 //! The lines that tell a row, and what became of one.
-ghost use Rattle.std.specs.Prelude.{◌≡◌, IfOk};
-ghost use Rattle.serde_json.specs.View.{view};
+ghost use Rattle.std.specs.Prelude.{◌≡◌, IfOk, OnOk};
 ghost use Rattle.record_print.specs.Printed.{event_data, line_text, record_data};
+ghost use Rattle.record_print.specs.Writing.{AddsValue};
 
-use crate::line::line_text;
-use crate::rows::row_value;
+use crate::line::{line_begun, line_ended};
+use crate::member::{begin, end, put_text};
+use crate::rows::put_row;
 use crate::word::{change_word, table_word};
 use bbs_model::{Event, Row};
-use serde_json::{Value, json};
+use json::Writer;
 use std::alloc::{AllocError, Global};
 
 /// An event of the board.
 pub fn event_text(alloc: Global, event: &Event) -> Result<Vec<u8>, AllocError>
     ensures { IfOk result (λ v. v.items ≡ line_text (event_data event.now)) }
 {
-    let line = event_value(alloc, event)?;
-    line_text(alloc, &line)
+    let mut line = line_begun(alloc)?;
+    put_event(&mut line, alloc, event)?;
+    line_ended(line)
 }
 
-fn event_value(alloc: Global, event: &Event) -> Result<Value, AllocError>
-    ensures { IfOk result (λ v. view v ≡ event_data event.now) }
+fn put_event(line: &mut Writer, alloc: Global, event: &Event) -> Result<(), AllocError>
+    ensures { OnOk result (AddsValue line.old line.new (event_data event.now)) }
 {
-    json!(in alloc; {
-        "event": change_word(event.change),
-        "row": row_value(alloc, &event.row)?,
-        "table": table_word(&event.row)
-    })
+    begin(line)?;
+    put_text(line, "event", change_word(event.change))?;
+    put_row(line, alloc, &event.row)?;
+    put_text(line, "table", table_word(&event.row))?;
+    end(line)
 }
 
 /// A row of the board.
 pub fn row_text(alloc: Global, row: &Row) -> Result<Vec<u8>, AllocError>
     ensures { IfOk result (λ v. v.items ≡ line_text (record_data row.now)) }
 {
-    let line = record_value(alloc, row)?;
-    line_text(alloc, &line)
+    let mut line = line_begun(alloc)?;
+    put_record(&mut line, alloc, row)?;
+    line_ended(line)
 }
 
-fn record_value(alloc: Global, row: &Row) -> Result<Value, AllocError>
-    ensures { IfOk result (λ v. view v ≡ record_data row.now) }
+fn put_record(line: &mut Writer, alloc: Global, row: &Row) -> Result<(), AllocError>
+    ensures { OnOk result (AddsValue line.old line.new (record_data row.now)) }
 {
-    json!(in alloc; {
-        "row": row_value(alloc, row)?,
-        "table": table_word(row)
-    })
+    begin(line)?;
+    put_row(line, alloc, row)?;
+    put_text(line, "table", table_word(row))?;
+    end(line)
 }

@@ -6,7 +6,7 @@ mod asked;
 mod check;
 mod event;
 mod line;
-mod optional;
+mod member;
 mod round;
 mod rows;
 mod spelled;

@@ -1,18 +1,25 @@
-//! One line of output.
-ghost use Rattle.std.specs.Prelude.{◌≡◌, IfOk, false};
-ghost use Rattle.serde_json.specs.Written.{has_float};
-ghost use Rattle.serde_json.specs.View.{view};
-ghost use Rattle.record_print.specs.Printed.{line_text};
+//! One line of output: an object, written member by member, and a newline.
+ghost use Rattle.std.specs.Prelude.{◌≡◌, ◌++◌, ◌∷◌, [], IfOk};
+ghost use Rattle.json.specs.Print.{print};
 
-use serde_json::Value;
+use json::Writer;
 use std::alloc::{AllocError, Global};
 
-/// The compact text of a value, and a newline.
-pub fn line_text(alloc: Global, value: &Value) -> Result<Vec<u8>, AllocError>
-    requires { has_float (view value.now) ≡ false }
-    ensures { IfOk result (λ v. v.items ≡ line_text (view value.now)) }
+/// As many bytes as most lines have.
+const USUAL: usize = 512;
+
+/// A line of which nothing is written.
+pub fn line_begun(alloc: Global) -> Result<Writer, AllocError>
+    ensures { IfOk result (λ line. (line.before ≡ []) × (line.tokens ≡ [])) }
 {
-    let mut text = value.to_string(alloc)?.into_bytes();
+    Ok(Writer::new(Vec::with_capacity(alloc, USUAL)?))
+}
+
+/// The text of what was written, and a newline.
+pub fn line_ended(line: Writer) -> Result<Vec<u8>, AllocError>
+    ensures { IfOk result (λ text. text.items ≡ (line.before ++ print line.tokens) ++ 10 ∷ []) }
+{
+    let mut text = line.into_inner();
     text.push(b'\n')?;
     Ok(text)
 }

@@ -1,40 +1,41 @@
 //! The lines that tell of a round: what it reports, or that a fault of the disk ended it.
-ghost use Rattle.std.specs.Prelude.{◌≡◌, IfOk};
-ghost use Rattle.serde_json.specs.View.{view};
+ghost use Rattle.std.specs.Prelude.{◌≡◌, codes, IfOk, OnOk};
 ghost use Rattle.record_print.specs.PrintedRounds.{failed_round_data, is_complete, report_data, subjects_data};
 ghost use Rattle.record_print.specs.Printed.{line_text};
+ghost use Rattle.record_print.specs.Writing.{AddsMember, AddsTokens, AddsValue, job_tokens};
 
-use crate::line::line_text;
+use crate::line::{line_begun, line_ended};
+use crate::member::{begin, begin_list, end, end_list, put_key, put_number, put_text, put_truth};
 use crate::spelled::job_text;
 use cell_records::JobName;
 use convergence::Report;
-use serde_json::{Value, json};
+use json::Writer;
 use std::alloc::{AllocError, Global};
 
 /// What a round reports.
-#[tactic(auto, using(crate::proofs::Floats::report_has_no_float))]
 pub fn report_text(alloc: Global, report: &Report) -> Result<Vec<u8>, AllocError>
     ensures { IfOk result (λ v. v.items ≡ line_text (report_data report.now)) }
 {
-    let line = report_value(alloc, report)?;
-    line_text(alloc, &line)
+    let mut line = line_begun(alloc)?;
+    put_report(&mut line, alloc, report)?;
+    line_ended(line)
 }
 
-fn report_value(alloc: Global, report: &Report) -> Result<Value, AllocError>
-    ensures { IfOk result (λ v. view v ≡ report_data report.now) }
+fn put_report(line: &mut Writer, alloc: Global, report: &Report) -> Result<(), AllocError>
+    ensures { OnOk result (AddsValue line.old line.new (report_data report.now)) }
 {
-    json!(in alloc; {
-        "asked": report.asked,
-        "complete": is_complete(report),
-        "foreign": report.foreign,
-        "line": report.line,
-        "lost": report.lost,
-        "op": "round",
-        "own": report.own,
-        "refused": report.refused.len(),
-        "stopped": report.stopped.len(),
-        "unplaced": subjects_value(alloc, report.unplaced.items())?
-    })
+    begin(line)?;
+    put_number(line, "asked", report.asked as u64)?;
+    put_truth(line, "complete", is_complete(report))?;
+    put_number(line, "foreign", report.foreign)?;
+    put_number(line, "line", report.line as u64)?;
+    put_number(line, "lost", report.lost)?;
+    put_text(line, "op", "round")?;
+    put_number(line, "own", report.own)?;
+    put_number(line, "refused", report.refused.len() as u64)?;
+    put_number(line, "stopped", report.stopped.len() as u64)?;
+    put_unplaced(line, alloc, report.unplaced.items())?;
+    end(line)
 }
 
 fn is_complete(report: &Report) -> bool
@@ -46,30 +47,46 @@ fn is_complete(report: &Report) -> bool
         && report.foreign == 0
 }
 
-fn subjects_value(alloc: Global, jobs: &[JobName]) -> Result<Value, AllocError>
-    ensures { IfOk result (λ v. view v ≡ subjects_data jobs.now) }
+fn put_unplaced(line: &mut Writer, alloc: Global, jobs: &[JobName]) -> Result<(), AllocError>
+    ensures { OnOk result
+        (AddsMember line.old line.new (codes "unplaced") (subjects_data jobs.now)) }
 {
-    let mut subjects = Vec::new(alloc);
+    put_key(line, "unplaced")?;
+    put_subjects(line, alloc, jobs)
+}
+
+fn put_subjects(line: &mut Writer, alloc: Global, jobs: &[JobName]) -> Result<(), AllocError>
+    ensures { OnOk result (AddsValue line.old line.new (subjects_data jobs.now)) }
+{
+    begin_list(line)?;
+    put_jobs(line, alloc, jobs)?;
+    end_list(line)
+}
+
+fn put_jobs(line: &mut Writer, alloc: Global, jobs: &[JobName]) -> Result<(), AllocError>
+    ensures { OnOk result (AddsTokens line.old line.new (job_tokens jobs.now)) }
+{
     for job in jobs {
-        subjects.push(Value::String(job_text(alloc, job)?))?;
+        line.string(&job_text(alloc, job)?)?;
     }
-    Ok(Value::Array(subjects))
+    Ok(())
 }
 
 /// A round that a fault of the disk ended, at this line of the scenario. It has no report.
 pub fn failed_round_text(alloc: Global, line: u32) -> Result<Vec<u8>, AllocError>
     ensures { IfOk result (λ v. v.items ≡ line_text (failed_round_data line)) }
 {
-    let line = failed_round_value(alloc, line)?;
-    line_text(alloc, &line)
+    let mut text = line_begun(alloc)?;
+    put_failed_round(&mut text, line)?;
+    line_ended(text)
 }
 
-fn failed_round_value(alloc: Global, line: u32) -> Result<Value, AllocError>
-    ensures { IfOk result (λ v. view v ≡ failed_round_data line) }
+fn put_failed_round(text: &mut Writer, line: u32) -> Result<(), AllocError>
+    ensures { OnOk result (AddsValue text.old text.new (failed_round_data line)) }
 {
-    json!(in alloc; {
-        "answer": "disk",
-        "line": line,
-        "op": "round"
-    })
+    begin(text)?;
+    put_text(text, "answer", "disk")?;
+    put_number(text, "line", line as u64)?;
+    put_text(text, "op", "round")?;
+    end(text)
 }

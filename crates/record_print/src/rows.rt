@@ -1,28 +1,37 @@
-//! The rows of the four tables as values, with the members that are printed.
-ghost use Rattle.std.specs.Prelude.{◌≡◌, IfOk};
-ghost use Rattle.serde_json.specs.View.{view};
+//! The rows of the four tables as objects, with the members that are printed.
+ghost use Rattle.std.specs.Prelude.{codes, OnOk};
 ghost use Rattle.record_print.specs.PrintedRows.{row_data};
+ghost use Rattle.record_print.specs.Writing.{AddsMember, AddsValue};
 
 mod actual;
 mod cell;
 mod desired;
 mod task;
 
-use actual::actual_value;
+use crate::member::put_key;
+use actual::put_actual;
 use bbs_model::Row;
-use cell::cell_value;
-use desired::desired_value;
-use serde_json::Value;
+use cell::put_cell;
+use desired::put_desired;
+use json::Writer;
 use std::alloc::{AllocError, Global};
-use task::task_value;
+use task::put_task;
 
-pub fn row_value(alloc: Global, row: &Row) -> Result<Value, AllocError>
-    ensures { IfOk result (λ v. view v ≡ row_data row.now) }
+/// The member `row`.
+pub fn put_row(line: &mut Writer, alloc: Global, row: &Row) -> Result<(), AllocError>
+    ensures { OnOk result (AddsMember line.old line.new (codes "row") (row_data row.now)) }
+{
+    put_key(line, "row")?;
+    put_row_value(line, alloc, row)
+}
+
+fn put_row_value(line: &mut Writer, alloc: Global, row: &Row) -> Result<(), AllocError>
+    ensures { OnOk result (AddsValue line.old line.new (row_data row.now)) }
 {
     match row {
-        Row::Desired(desired) => desired_value(alloc, desired),
-        Row::Actual(actual) => actual_value(alloc, actual),
-        Row::Task(task) => task_value(alloc, task),
-        Row::Cell(cell) => cell_value(alloc, cell),
+        Row::Desired(desired) => put_desired(line, desired),
+        Row::Actual(actual) => put_actual(line, alloc, actual),
+        Row::Task(task) => put_task(line, alloc, task),
+        Row::Cell(cell) => put_cell(line, cell),
     }
 }

@@ -1,10 +1,11 @@
 //! The last line of a run.
-ghost use Rattle.std.specs.Prelude.{◌≡◌, IfOk};
-ghost use Rattle.serde_json.specs.View.{view};
+ghost use Rattle.std.specs.Prelude.{◌≡◌, IfOk, OnOk};
 ghost use Rattle.record_print.specs.Printed.{line_text, summary_data};
+ghost use Rattle.record_print.specs.Writing.{AddsValue};
 
-use crate::line::line_text;
-use serde_json::{Value, json};
+use crate::line::{line_begun, line_ended};
+use crate::member::{begin, end, put_number};
+use json::Writer;
 use std::alloc::{AllocError, Global};
 
 /// The counts of a run.
@@ -24,17 +25,18 @@ pub struct Summary {
 pub fn summary_text(alloc: Global, summary: Summary) -> Result<Vec<u8>, AllocError>
     ensures { IfOk result (λ v. v.items ≡ line_text (summary_data summary)) }
 {
-    let line = summary_value(alloc, summary)?;
-    line_text(alloc, &line)
+    let mut line = line_begun(alloc)?;
+    put_summary(&mut line, summary)?;
+    line_ended(line)
 }
 
-fn summary_value(alloc: Global, summary: Summary) -> Result<Value, AllocError>
-    ensures { IfOk result (λ v. view v ≡ summary_data summary) }
+fn put_summary(line: &mut Writer, summary: Summary) -> Result<(), AllocError>
+    ensures { OnOk result (AddsValue line.old line.new (summary_data summary)) }
 {
-    json!(in alloc; {
-        "done": summary.done,
-        "doubts": summary.doubts,
-        "next": summary.next,
-        "phases": summary.phases
-    })
+    begin(line)?;
+    put_number(line, "done", summary.done)?;
+    put_number(line, "doubts", summary.doubts)?;
+    put_number(line, "next", summary.next)?;
+    put_number(line, "phases", summary.phases)?;
+    end(line)
 }

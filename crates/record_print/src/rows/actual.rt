@@ -1,43 +1,31 @@
-ghost use Rattle.std.specs.Prelude.{◌≡◌, IfOk};
-ghost use Rattle.serde_json.specs.View.{view};
-ghost use Rattle.lrp_records.specs.States.{holder_of, name_of, cell_of};
+ghost use Rattle.std.specs.Prelude.{◌≡◌, OnOk};
+ghost use Rattle.lrp_records.specs.States.{name_of};
 ghost use Rattle.record_print.specs.PrintedRows.{actual_data};
-ghost use Rattle.record_print.specs.Spelled.{optional_instance_data, optional_name_data};
 ghost use Rattle.record_print.specs.Words.{state_word};
+ghost use Rattle.record_print.specs.Writing.{AddsValue};
 
-use crate::optional::{optional_instance_value, optional_name_value};
+use crate::member::{
+    begin, end, put_number, put_optional_instance, put_optional_name, put_text, put_truth,
+};
 use crate::word::{presence_word, state_word};
-use diego_names::Name;
+use json::Writer;
 use lrp_records::{Actual, LrpState};
-use serde_json::{Value, json};
 use std::alloc::{AllocError, Global};
 
-pub fn actual_value(alloc: Global, row: &Actual) -> Result<Value, AllocError>
-    ensures { IfOk result (λ v. view v ≡ actual_data row.now) }
+pub fn put_actual(line: &mut Writer, alloc: Global, row: &Actual) -> Result<(), AllocError>
+    ensures { OnOk result (AddsValue line.old line.new (actual_data row.now)) }
 {
-    json!(in alloc; {
-        "cell": cell_value(alloc, &row.state)?,
-        "count": row.count,
-        "error": row.error,
-        "index": row.key.index,
-        "instance": instance_value(alloc, &row.state)?,
-        "presence": presence_word(row.presence),
-        "process": row.key.process.as_str(),
-        "since": row.since.0,
-        "state": word_of(&row.state)
-    })
-}
-
-fn cell_value(alloc: Global, state: &LrpState) -> Result<Value, AllocError>
-    ensures { IfOk result (λ v. view v ≡ optional_name_data (cell_of state.now)) }
-{
-    optional_name_value(alloc, &state.cell())
-}
-
-fn instance_value(alloc: Global, state: &LrpState) -> Result<Value, AllocError>
-    ensures { IfOk result (λ v. view v ≡ optional_instance_data (holder_of state.now)) }
-{
-    optional_instance_value(alloc, &state.holder())
+    begin(line)?;
+    put_optional_name(line, "cell", &row.state.cell())?;
+    put_number(line, "count", row.count as u64)?;
+    put_truth(line, "error", row.error)?;
+    put_number(line, "index", row.key.index as u64)?;
+    put_optional_instance(line, alloc, "instance", &row.state.holder())?;
+    put_text(line, "presence", presence_word(row.presence))?;
+    put_text(line, "process", row.key.process.as_str())?;
+    put_number(line, "since", row.since.0 as u64)?;
+    put_text(line, "state", word_of(&row.state))?;
+    end(line)
 }
 
 fn word_of(state: &LrpState) -> &'static str

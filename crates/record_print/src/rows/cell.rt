@@ -1,24 +1,24 @@
-ghost use Rattle.std.specs.Prelude.{◌≡◌, IfOk};
-ghost use Rattle.serde_json.specs.View.{view};
+ghost use Rattle.std.specs.Prelude.{OnOk};
 ghost use Rattle.record_print.specs.PrintedRows.{cell_data};
+ghost use Rattle.record_print.specs.Writing.{AddsValue};
 
-use crate::optional::optional_name_value;
+use crate::member::{begin, end, put_number, put_optional_name, put_text, put_truth};
 use cell_records::CellRow;
-use serde_json::{Value, json};
-use std::alloc::{AllocError, Global};
+use json::Writer;
+use std::alloc::AllocError;
 
-pub fn cell_value(alloc: Global, row: &CellRow) -> Result<Value, AllocError>
-    ensures { IfOk result (λ v. view v ≡ cell_data row.now) }
+pub fn put_cell(line: &mut Writer, row: &CellRow) -> Result<(), AllocError>
+    ensures { OnOk result (AddsValue line.old line.new (cell_data row.now)) }
 {
-    json!(in alloc; {
-        "cell": row.cell.as_str(),
-        "containers": row.totals.containers,
-        "disk": row.totals.disk,
-        "epoch": row.epoch,
-        "evacuating": row.evacuating,
-        "memory": row.totals.memory,
-        "tag": optional_name_value(alloc, &row.tag)?,
-        "until": row.until,
-        "zone": row.zone.as_str()
-    })
+    begin(line)?;
+    put_text(line, "cell", row.cell.as_str())?;
+    put_number(line, "containers", row.totals.containers as u64)?;
+    put_number(line, "disk", row.totals.disk as u64)?;
+    put_number(line, "epoch", row.epoch)?;
+    put_truth(line, "evacuating", row.evacuating)?;
+    put_number(line, "memory", row.totals.memory as u64)?;
+    put_optional_name(line, "tag", &row.tag)?;
+    put_number(line, "until", row.until)?;
+    put_text(line, "zone", row.zone.as_str())?;
+    end(line)
 }

@@ -1,23 +1,23 @@
-ghost use Rattle.std.specs.Prelude.{◌≡◌, IfOk};
-ghost use Rattle.serde_json.specs.View.{view};
+ghost use Rattle.std.specs.Prelude.{OnOk};
 ghost use Rattle.record_print.specs.PrintedRows.{desired_data};
+ghost use Rattle.record_print.specs.Writing.{AddsValue};
 
-use crate::optional::optional_name_value;
+use crate::member::{begin, end, put_number, put_optional_name, put_text};
+use json::Writer;
 use lrp_records::Desired;
-use serde_json::{Value, json};
-use std::alloc::{AllocError, Global};
+use std::alloc::AllocError;
 
-pub fn desired_value(alloc: Global, row: &Desired) -> Result<Value, AllocError>
-    ensures { IfOk result (λ v. view v ≡ desired_data row.now) }
+pub fn put_desired(line: &mut Writer, row: &Desired) -> Result<(), AllocError>
+    ensures { OnOk result (AddsValue line.old line.new (desired_data row.now)) }
 {
-    json!(in alloc; {
-        "disk": row.disk,
-        "domain": row.domain.as_str(),
-        "instances": row.instances,
-        "memory": row.memory,
-        "port": row.port,
-        "process": row.process.as_str(),
-        "route": optional_name_value(alloc, &row.route)?,
-        "tag": optional_name_value(alloc, &row.tag)?
-    })
+    begin(line)?;
+    put_number(line, "disk", row.disk as u64)?;
+    put_text(line, "domain", row.domain.as_str())?;
+    put_number(line, "instances", row.instances as u64)?;
+    put_number(line, "memory", row.memory as u64)?;
+    put_number(line, "port", row.port as u64)?;
+    put_text(line, "process", row.process.as_str())?;
+    put_optional_name(line, "route", &row.route)?;
+    put_optional_name(line, "tag", &row.tag)?;
+    end(line)
 }

@@ -1,52 +1,41 @@
-ghost use Rattle.std.specs.Prelude.{◌≡◌, IfOk};
-ghost use Rattle.serde_json.specs.View.{view};
-ghost use Rattle.task_records.specs.States.{task_state_name, runner_of, task_cell_of};
+ghost use Rattle.std.specs.Prelude.{◌≡◌, OnOk};
+ghost use Rattle.task_records.specs.States.{task_state_name};
 ghost use Rattle.record_print.specs.PrintedRows.{failed_of, task_data};
-ghost use Rattle.record_print.specs.Spelled.{optional_instance_data, optional_name_data, optional_truth_data};
 ghost use Rattle.record_print.specs.Words.{state_word};
+ghost use Rattle.record_print.specs.Writing.{AddsValue};
 
-use crate::optional::{optional_instance_value, optional_name_value};
+use crate::member::{
+    begin, end, put_number, put_optional_instance, put_optional_name, put_optional_truth, put_text,
+};
 use crate::word::state_word;
-use serde_json::{Value, json};
+use json::Writer;
 use std::alloc::{AllocError, Global};
 use task_records::{Task, TaskState};
 
-pub fn task_value(alloc: Global, row: &Task) -> Result<Value, AllocError>
-    ensures { IfOk result (λ v. view v ≡ task_data row.now) }
+pub fn put_task(line: &mut Writer, alloc: Global, row: &Task) -> Result<(), AllocError>
+    ensures { OnOk result (AddsValue line.old line.new (task_data row.now)) }
 {
-    json!(in alloc; {
-        "birth": row.birth,
-        "cell": cell_value(alloc, &row.state)?,
-        "disk": row.disk,
-        "failed": failed_value(&row.state),
-        "instance": instance_value(alloc, &row.state)?,
-        "memory": row.memory,
-        "name": row.name.as_str(),
-        "since": row.since.0,
-        "state": word_of(&row.state),
-        "tag": optional_name_value(alloc, &row.tag)?
-    })
-}
-
-fn cell_value(alloc: Global, state: &TaskState) -> Result<Value, AllocError>
-    ensures { IfOk result (λ v. view v ≡ optional_name_data (task_cell_of state.now)) }
-{
-    optional_name_value(alloc, &state.cell())
-}
-
-fn instance_value(alloc: Global, state: &TaskState) -> Result<Value, AllocError>
-    ensures { IfOk result (λ v. view v ≡ optional_instance_data (runner_of state.now)) }
-{
-    optional_instance_value(alloc, &state.runner())
+    begin(line)?;
+    put_number(line, "birth", row.birth)?;
+    put_optional_name(line, "cell", &row.state.cell())?;
+    put_number(line, "disk", row.disk as u64)?;
+    put_optional_truth(line, "failed", failed_of(&row.state))?;
+    put_optional_instance(line, alloc, "instance", &row.state.runner())?;
+    put_number(line, "memory", row.memory as u64)?;
+    put_text(line, "name", row.name.as_str())?;
+    put_number(line, "since", row.since.0 as u64)?;
+    put_text(line, "state", word_of(&row.state))?;
+    put_optional_name(line, "tag", &row.tag)?;
+    end(line)
 }
 
 // Only a task that has its outcome has failed or not.
-fn failed_value(state: &TaskState) -> Value
-    ensures { view result ≡ optional_truth_data (failed_of state.now) }
+fn failed_of(state: &TaskState) -> Option<bool>
+    ensures { result ≡ failed_of state.now }
 {
     match state {
-        TaskState::Pending | TaskState::Running { .. } => Value::Null,
-        TaskState::Completed { failed } | TaskState::Resolving { failed } => Value::Bool(*failed),
+        TaskState::Pending | TaskState::Running { .. } => None,
+        TaskState::Completed { failed } | TaskState::Resolving { failed } => Some(*failed),
     }
 }
 

@@ -1,0 +1,5 @@
+use Rattle.record_print.proofs.Lines.{keyed}
+use Rattle.record_print.proofs.round.put_unplaced.Goals as goal
+
+pub returns : goal.returns
+returns c = keyed _ _ c.put_subjects.result c.in_ok-put_key.ensures c.put_subjects.ensures
