@@ -75,8 +75,7 @@ fn stands_behind<X: HeadRow>(shelf: &Shelf<X>, number: usize) -> bool
     if number == 0 {
         return true;
     }
-    let below = shelf.at(number - 1).key();
-    !shelf.at(number).key().cmp(&below).is_lt()
+    !shelf.compare(number, number - 1).is_lt()
 }
 
 /// Whether the rows that came last stand in the order of their keys. Where they don't, it isn't worth while to

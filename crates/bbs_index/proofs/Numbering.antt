@@ -85,6 +85,15 @@ module _ {K X : Type 0} {R : K → K → Ordering} (o : IsKeyOrder R) {eq : K �
     key_there : (n : ℕ) (x : X) → slice_get rows n ≡ Some x → option_map (λ e. e.0) (slice_get es n) ≡ Some (key x)
     key_there n x is = by_entry n x (slice_get es n) refl (sym (slice_get-map (λ e. e.1) es n) ∙ is)
 
+    key_of : (n : ℕ) (x : X) → n < length rows → slice_get (map (λ e. e.0) es) n ≡ Some (key (get_or rows n x))
+    key_of n x lt = slice_get-map (λ e. e.0) es n ∙ key_there n (get_or rows n x) (slice_get-get_or rows n x lt)
+
+    -- the keys at two numbers compare as those of the rows there
+    pub keys_compare : (keys : List K) → keys ≡ map (λ e. e.0) es → (m n : ℕ) (x : X) → m < length rows → n < length rows
+        → option_cmp R (slice_get keys m) (slice_get keys n) ≡ R (key (get_or rows m x)) (key (get_or rows n x))
+    keys_compare keys are m n x low high =
+        (λ i. option_cmp R (slice_get (are i) m) (slice_get (are i) n)) ∙ (λ i. option_cmp R (key_of m x low i) (key_of n x high i))
+
     module _ (d : X) (numbers order : List ℕ) (are : AreNumbered rows numbers rows) (moved : IsPermutation numbers order)
         (sorted : IsSortedByKey (λ n. option_map (λ e. e.0) (slice_get es n)) (option_cmp R) order) where
       abbrev row_at : ℕ → X

@@ -1,6 +1,6 @@
 //! A shelf is a map from each row's key to the row, and contracts see it as the table of its rows.
 
-ghost use Rattle.std.specs.Prelude.{◌≡◌, ℕ, ◌<◌, ◌≤◌, ◌^◌, [], length, vec_capacity, slice_get, Some, IfSome, IsOk, IfOk, OnOk};
+ghost use Rattle.std.specs.Prelude.{◌≡◌, ℕ, ◌<◌, ◌≤◌, ◌^◌, [], length, vec_capacity, slice_get, slice_index_or, Some, IfSome, IsOk, IfOk, OnOk};
 ghost use Rattle.std.specs.List.Sorted.{IsSortedByKey};
 ghost use Rattle.std.specs.Option.{option_map, option_copied, option_and_then};
 ghost use Rattle.row_tables.specs.Table.{find_row, put_row, without_row, IsRising};
@@ -8,10 +8,11 @@ ghost use Rattle.bbs_model.specs.Store.{HasRoom, TakesRoom};
 ghost use Rattle.bbs_index.specs.Shelf.{AreNumbered};
 
 use crate::entries::{put_entry, put_entry_at, remove_entry};
-use crate::sorted::{order_entries, sorted_rows};
+use crate::sorted::{compare_at, order_entries, sorted_rows};
 use bbs_model::Rowed;
 use indexmap::IndexMap;
 use std::alloc::{AllocError, Global};
+use std::cmp::Ordering;
 use std::marker::Model;
 
 /// Rows of one kind, each under its own key. Every look-up, put and removal is a constant number
@@ -105,6 +106,18 @@ impl<X: Rowed> Shelf<X> {
         ensures { slice_get self.now.numbered number ≡ Some result.now }
     {
         &self.map[number]
+    }
+
+    /// How the keys of the rows of two numbers compare. They are compared where they lie.
+    pub fn compare(&self, first: usize, second: usize) -> Ordering
+        requires first { first < length self.now.numbered }
+        requires second { second < length self.now.numbered }
+        ensures { (x : X) → result ≡ X.Key.cmp
+            (X.key (slice_index_or self.now.numbered first x))
+            (X.key (slice_index_or self.now.numbered second x)) }
+    {
+        let keys = self.map.keys().as_slice();
+        compare_at(keys, first, second)
     }
 
     /// Where no row stands before one with a lower key by their numbers, that is the order of their

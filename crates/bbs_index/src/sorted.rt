@@ -11,7 +11,7 @@ use std::cmp::Ordering;
 
 // How the keys of two numbers compare. They are compared where they lie, since a sort compares often
 // and a key is long.
-fn compare_at<K: Ord>(keys: &[K], first: usize, second: usize) -> Ordering
+pub(crate) fn compare_at<K: Ord>(keys: &[K], first: usize, second: usize) -> Ordering
     ensures { result ≡ option_cmp K.cmp (slice_get keys.now first) (slice_get keys.now second) }
 {
     keys.get(first).cmp(&keys.get(second))
