@@ -189,7 +189,7 @@ impl Draft {
         Ok(())
     }
 
-    /// Writes the head of the rows of an index over what stands there. It takes no memory.
+    /// Writes the head of the rows of an index over what stands there. It never fails for want of memory.
     pub fn write(&mut self, index: &Index)
         requires valid { IsValid index.now.rows }
         requires room { row_count index.now.rows + 1

@@ -166,8 +166,8 @@ impl<X: Rowed> Shelf<X> {
         remove_entry(&mut self.map, key);
     }
 
-    /// The numbers of the rows in the order of their keys, for which there is room. It takes no
-    /// memory.
+    /// The numbers of the rows in the order of their keys, for which there is room. It takes memory for
+    /// the time of the call where there is some, and works without.
     pub fn order_into(&self, order: &mut Vec<u32>)
         requires few { length self.now.rows < 2 ^ 32 }
         requires room { length self.now.rows ≤ vec_capacity order.old }

@@ -1,5 +1,6 @@
 //! The order of a map's entries is made when they are read out.
 ghost use Rattle.std.specs.Prelude.{◌≡◌, ◌<◌, ◌≤◌, ◌^◌, slice_get, vec_capacity, IfOk};
+ghost use Rattle.std.specs.List.Sorted.{IsPermutation, IsSortedByKey};
 ghost use Rattle.std.specs.Option.{option_cmp};
 ghost use Rattle.indexmap.specs.IndexMap.{index_map_len, values};
 ghost use Rattle.bbs_index.specs.Shelf.{table_of, AreNumbered, IsShelf};
@@ -17,7 +18,23 @@ pub(crate) fn compare_at<K: Ord>(keys: &[K], first: usize, second: usize) -> Ord
     keys.get(first).cmp(&keys.get(second))
 }
 
-// The numbers of the entries in the order of their keys, sorted where they stand.
+// Puts numbers in the order of the keys that they stand for. The stable sort keeps long runs that are in
+// order, and merges what it sorted between them, so that rows in order with new ones behind them take
+// little more than the new ones. It takes a buffer for the time of the call; where there is no memory
+// for it, the numbers are sorted where they stand.
+fn sort_numbers<X: Rowed>(keys: &[X::Key], numbers: &mut Vec<u32>)
+    ensures permutation { IsPermutation numbers.old.items numbers.new.items }
+    ensures sorted { IsSortedByKey (slice_get keys.now) (option_cmp X.Key.cmp) numbers.new.items }
+    ensures capacity { vec_capacity numbers.new ≡ vec_capacity numbers.old }
+{
+    let by_key = |first: &u32, second: &u32| compare_at(keys, *first as usize, *second as usize);
+    if numbers.sort_by(by_key).is_ok() {
+        return;
+    }
+    numbers.sort_unstable_by(by_key);
+}
+
+// The numbers of the entries in the order of their keys.
 pub(crate) fn order_entries<X: Rowed>(map: &IndexMap<X::Key, X>, order: &mut Vec<u32>)
     requires shelf { IsShelf X.Key.cmp X.Key.eq X.key map.now.entries }
     requires few { index_map_len map.now < 2 ^ 32 }
@@ -30,7 +47,7 @@ pub(crate) fn order_entries<X: Rowed>(map: &IndexMap<X::Key, X>, order: &mut Vec
         order.push_reserved(number);
     }
     let keys = map.keys().as_slice();
-    order.sort_unstable_by(|first, second| compare_at(keys, *first as usize, *second as usize));
+    sort_numbers::<X>(keys, order);
 }
 
 // The numbers of the entries in the order of their keys.
@@ -47,7 +64,7 @@ fn sorted_numbers<X: Rowed>(
         order.push_reserved(number);
     }
     let keys = map.keys().as_slice();
-    order.sort_unstable_by(|first, second| compare_at(keys, *first, *second));
+    order.sort_by(|first, second| compare_at(keys, *first, *second))?;
     Ok(order)
 }
 

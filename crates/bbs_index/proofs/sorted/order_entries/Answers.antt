@@ -1,11 +1,7 @@
-use Rattle.std.proofs.Common.{◌≡◌, ◌<◌, ℕ, ◌∙◌, length, slice_get, subst, ap, arith, rules, take_all}
-use Rattle.std.specs.Cmp.Lexicographic.{options_total}
+use Rattle.std.proofs.Common.{◌≡◌, ◌<◌, ℕ, ◌∙◌, length, slice_get, subst, ap, arith, take_all}
 use Rattle.std.specs.Option.{option_cmp, option_map}
 use Rattle.std.specs.List.Sorted.{IsSortedByKey}
-use Rattle.std.specs.Ordering.{is_lt}
 use Rattle.std.proofs.lemmas.List.{length-map}
-use Rattle.std.proofs.lemmas.Fn.{always_returns_same}
-use Rattle.std.proofs.lemmas.List.MinMax.{ranks_by}
 use Rattle.std.proofs.lemmas.Option.{slice_get-map}
 use Rattle.indexmap.specs.IndexMap.{values}
 use Rattle.bbs_index.specs.Shelf.{AreNumbered}
@@ -29,11 +25,9 @@ pub returns-clause-rows : goal.returns-clause-rows
 returns-clause-rows g c =
     let entries = c.args.map.now.entries in
     let rows = values c.args.map.now in
-    let key_there = λ (n : ℕ). slice_get c.as_slice-keys.result.now n in
-    let by_entry : (n : ℕ) → key_there n ≡ option_map (λ e. e.0) (slice_get entries n) = λ n. ap (λ ks. slice_get ks n) (c.as_slice-keys.ensures ∙ c.keys.ensures.rest) ∙ slice_get-map (λ e. e.0) entries n in
+    let by_entry : (n : ℕ) → slice_get c.as_slice-keys.result.now n ≡ option_map (λ e. e.0) (slice_get entries n) = λ n. ap (λ ks. slice_get ks n) (c.as_slice-keys.ensures ∙ c.keys.ensures.rest) ∙ slice_get-map (λ e. e.0) entries n in
     AreNumbered-sorted g.met.X.Rowed.ordered g.met.X.Key.Eq.laws g.met.X.Key.Ord.matches_eq g.X.Rowed.key entries c.requires.shelf c.len-number-end.ensures.unique
-    c.loop-number.order.items c.sort_unstable_by.new.self.items
+    c.loop-number.order.items c.sort_numbers.new.numbers.items
     (subst (λ xs. AreNumbered rows c.loop-number.order.items xs) (take_all c.loop-number.number rows (omega (arith, c.loop-number-test.false, c.loop-number.invariant.ends, length-map c.args.map.now.entries (λ e. e.1)))) c.loop-number.invariant.numbers)
-    c.sort_unstable_by.ensures.permutation
-    (subst (λ key. IsSortedByKey key (option_cmp g.X.Key.Ord.cmp) c.sort_unstable_by.new.self.items) (λ i n. by_entry n i)
-    (c.sort_unstable_by.ensures.sorted (λ m n. is_lt (option_cmp g.X.Key.Ord.cmp (key_there m) (key_there n))) (ranks_by (options_total g.met.X.Rowed.ordered.total) key_there) (always_returns_same _ _ _ (λ a r f k. search rules))))
+    c.sort_numbers.ensures.permutation
+    (subst (λ key. IsSortedByKey key (option_cmp g.X.Key.Ord.cmp) c.sort_numbers.new.numbers.items) (λ i n. by_entry n i) c.sort_numbers.ensures.sorted)

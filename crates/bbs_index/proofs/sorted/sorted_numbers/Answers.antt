@@ -32,8 +32,8 @@ returns g c =
     let key_there = λ (n : ℕ). slice_get c.as_slice-keys.result.now n in
     let by_entry : (n : ℕ) → key_there n ≡ option_map (λ e. e.0) (slice_get entries n) = λ n. ap (λ ks. slice_get ks n) (c.as_slice-keys.ensures ∙ c.keys.ensures.rest) ∙ slice_get-map (λ e. e.0) entries n in
     AreNumbered-sorted g.met.X.Rowed.ordered g.met.X.Key.Eq.laws g.met.X.Key.Ord.matches_eq g.X.Rowed.key entries c.requires c.len-number-end.ensures.unique
-    c.loop-number.order.items c.sort_unstable_by.new.self.items
+    c.loop-number.order.items c.sort_by.new.self.items
     (subst (λ xs. AreNumbered rows c.loop-number.order.items xs) (take_all c.loop-number.number rows (omega (arith, c.loop-number-test.false, c.loop-number.invariant.ends, length-map c.args.map.now.entries (λ e. e.1)))) c.loop-number.invariant.numbers)
-    c.sort_unstable_by.ensures.permutation
-    (subst (λ key. IsSortedByKey key (option_cmp g.X.Key.Ord.cmp) c.sort_unstable_by.new.self.items) (λ i n. by_entry n i)
-    (c.sort_unstable_by.ensures.sorted (λ m n. is_lt (option_cmp g.X.Key.Ord.cmp (key_there m) (key_there n))) (ranks_by (options_total g.met.X.Rowed.ordered.total) key_there) (always_returns_same _ _ _ (λ a r f k. search rules))))
+    c.in_ok-sort_by.ensures.permutation
+    (subst (λ key. IsSortedByKey key (option_cmp g.X.Key.Ord.cmp) c.sort_by.new.self.items) (λ i n. by_entry n i)
+    (c.in_ok-sort_by.ensures.sorted (λ m n. is_lt (option_cmp g.X.Key.Ord.cmp (key_there m) (key_there n))) (ranks_by (options_total g.met.X.Rowed.ordered.total) key_there) (always_returns_same _ _ _ (λ a r f k. search rules))))
