@@ -17,7 +17,7 @@ use Rattle.bbs_model.specs.declared.command.Command.{Command}
 use Rattle.bbs_model.specs.declared.event.Row.{Row}
 use Rattle.bbs_model.specs.declared.event.Row.TheVariants as row
 use Rattle.bbs_model.specs.declared.rows.Rows.{Rows}
-use Rattle.bbs_board.specs.Room.{row_count, places_in, places_left, calls_for}
+use Rattle.bbs_board.specs.Room.{row_count, places_left, calls_for}
 
 module _ {K X : Type 0} (R : K → K → Ordering) (key : X → K) where
   few_by : (o : Ordering) (a b c : List X) (n : ℕ) → length a ≤ n → length b ≤ n → length c ≤ n → length (by_order o a b c) ≤ n
@@ -78,18 +78,13 @@ few_after rows c = few_changed rows (attempt_of rows c)
 pub calls_more : (r i p r' i' p' : ℕ) → r ≤ r' → i ≤ i' → p ≤ p' → calls_for r i p ≤ calls_for r' i' p'
 calls_more r i p r' i' p' one two three = omega (arith, one, two, three)
 
-pub places_more : (b n b' n' : ℕ) → b ≤ b' → n ≤ n' → places_in b n ≤ places_in b' n'
-places_more b n b' n' one two = omega (arith, one, two)
-
 -- a call takes one at most
 pub calls_less : (r i p r' i' p' : ℕ) → r ≤ r' + 2 → i ≤ i' + 1 → p ≤ p' + 2 → calls_for r i p ≤ calls_for r' i' p' + 1
 calls_less r i p r' i' p' one two three = omega (arith, one, two, three)
 
 -- what is left for heads after a command
-pub places_kept : (b n b' n' : ℕ) (rows rows' : Rows) → b ≤ b' → n ≤ n' → row_count rows' ≤ row_count rows + 2 → places_left (places_in b n) rows ≤ places_left (places_in b' n') rows' + 2
-places_kept b n b' n' rows rows' one two few =
-    let more = places_more b n b' n' one two in
-    left_more (places_in b n) (places_in b' n') (row_count rows) (row_count rows') more few
+pub places_kept : (p p' : ℕ) (rows rows' : Rows) → p ≤ p' → row_count rows' ≤ row_count rows + 2 → places_left p rows ≤ places_left p' rows' + 2
+places_kept p p' rows rows' more few = left_more p p' (row_count rows) (row_count rows') more few
   where
     left_more : (p p' r r' : ℕ) → p ≤ p' → r' ≤ r + 2 → p - (r + 1) ≤ p' - (r' + 1) + 2
     left_more p p' r r' more few = omega (arith, more, few)

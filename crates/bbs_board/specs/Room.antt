@@ -1,15 +1,22 @@
 -- How many more calls there is memory for.
-use Rattle.std.specs.Prelude.{ℕ, ◌+◌, ◌-◌, ◌/◌, min, length}
+use Rattle.std.specs.Prelude.{ℕ, ◌+◌, ◌-◌, ◌/◌, min, length, vec_capacity}
+use Rattle.bbs_index.specs.Index.{least_room}
 use Rattle.bbs_model.specs.declared.rows.Rows.{Rows}
+use Rattle.bbs_board.specs.declared.draft.Draft.{Draft}
+use Rattle.bbs_board.specs.declared.orders.Orders.{Orders}
 
 -- how many rows a board has
 abbrev pub row_count : Rows → ℕ
 row_count rows = length rows.desired + length rows.actual + length rows.tasks + length rows.cells
 
+-- how many rows every table may have, so that its order has room
+abbrev pub numbers_in : Orders → ℕ
+numbers_in o = least_room o.desired.room o.actual.room o.tasks.room o.cells.room
+
 -- how many places there are for a head, which takes one for its front and one for each row: a place is 344 bytes, and
--- each row has a number besides
-abbrev pub places_in : ℕ → ℕ → ℕ
-places_in bytes numbers = min (bytes / 344) (numbers + 1)
+-- each row has a number besides, in whichever table it is
+abbrev pub places_in : Draft → ℕ
+places_in draft = min (vec_capacity draft.bytes / 344) (numbers_in draft.orders + 1)
 
 -- how many of these the head of the rows leaves
 abbrev pub places_left : ℕ → Rows → ℕ

@@ -38,13 +38,12 @@ pub struct Board<D: Disk> {
     // The disk's clock and its count of faults at the end of the load.
     pub(crate) since: u64,
     pub(crate) faults: u64,
-    // Room for the head of a checkpoint.
+    // Room for the head of a checkpoint, and the orders of the last one.
     pub(crate) draft: Draft,
 }
 
 impl<D: Disk> Model for Board<D> {
     ghost use Rattle.bbs_journal.specs.View.{is_waiting};
-    ghost use Rattle.std.specs.Prelude.{vec_capacity};
     ghost use Rattle.bbs_board.specs.Room.{calls_for, places_in, places_left};
     ghost use Rattle.bbs_board.specs.View.{View, IsSound};
 
@@ -59,8 +58,7 @@ impl<D: Disk> Model for Board<D> {
       faults = b.faults;
       waits = is_waiting b.journal.waiting;
       frames = b.journal.frames;
-      spare = calls_for b.index.spare b.history.room (places_left
-          (places_in (vec_capacity b.draft.bytes) (vec_capacity b.draft.order)) b.index.rows);
+      spare = calls_for b.index.spare b.history.room (places_left (places_in b.draft) b.index.rows);
     } };
 
     ghost invariant = { λ b. IsSound D.told D.fault_count b.index.rows b.base.value.rows

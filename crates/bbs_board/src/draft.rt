@@ -7,18 +7,19 @@ ghost use Rattle.bbs_index.specs.Shelf.{AreNumbered};
 ghost use Rattle.bbs_model.specs.Valid.{IsValid};
 ghost use Rattle.bbs_board.specs.Room.{row_count, places_in};
 
-use bbs_index::{Index, Shelf};
+use crate::orders::Orders;
+use bbs_index::{Index, Order, Shelf};
 use bbs_model::RowStore;
 use diego_names::OutOfMemory;
 use head_codec::{Counts, HeadRow, ROW_BYTES, append_front, append_row};
 use std::alloc::Global;
 
-/// A head in bytes, and the numbers of one table's rows at a time. Their room is kept from one
-/// checkpoint to the next.
+/// A head in bytes, and the orders of the tables' rows. Both are kept from one checkpoint to the next: the
+/// bytes for their room, the orders since the next ones begin with them.
 #[derive(Drop)]
 pub struct Draft {
     pub(crate) bytes: Vec<u8>,
-    pub(crate) order: Vec<u32>,
+    pub(crate) orders: Orders,
 }
 
 // How many rows at the end of a table are looked at first: those that came since the last checkpoint stand there.
@@ -113,15 +114,15 @@ fn put_in_turn<X: HeadRow>(out: &mut Vec<u8>, shelf: &Shelf<X>) -> bool
 }
 
 /// Puts the rows of a shelf behind what is written, in the order of their keys.
-fn put_rows<X: HeadRow>(out: &mut Vec<u8>, order: &mut Vec<u32>, shelf: &Shelf<X>)
+fn put_rows<X: HeadRow>(out: &mut Vec<u8>, order: &mut Order, shelf: &Shelf<X>)
     requires room { vec_len out.old + 344 * length shelf.now.rows ≤ vec_capacity out.old }
-    requires numbers { length shelf.now.rows ≤ vec_capacity order.old }
+    requires numbers { length shelf.now.rows ≤ order.old.room }
     requires countable { length shelf.now.rows < 2 ^ 32 }
     ensures bytes { out.new.items ≡ out.old.items ++ flat_map X.format.spelling shelf.entry.now.rows }
     ensures fits { AllByRecursion X.format.Fits shelf.entry.now.rows }
     ensures few { vec_len out.new ≤ vec_len out.old + 344 * length shelf.entry.now.rows }
     ensures kept { vec_capacity out.old ≤ vec_capacity out.new }
-    ensures order { vec_capacity order.new ≡ vec_capacity order.old }
+    ensures order { order.new.room ≡ order.old.room }
 {
     let written = out.len();
     if ends_in_turn(shelf) && put_in_turn(out, shelf) {
@@ -129,7 +130,7 @@ fn put_rows<X: HeadRow>(out: &mut Vec<u8>, order: &mut Vec<u32>, shelf: &Shelf<X
     }
     out.truncate(written);
     shelf.order_into(order);
-    put_numbered(out, shelf, order);
+    put_numbered(out, shelf, order.numbers());
 }
 
 fn front_of(index: &Index) -> Counts
@@ -168,43 +169,44 @@ impl Draft {
     pub fn new(alloc: Global) -> Draft {
         Draft {
             bytes: Vec::new(alloc),
-            order: Vec::new(alloc),
+            orders: Orders::new(alloc),
         }
     }
 
     /// Makes room for the head of so many rows. It fails only for want of memory.
     pub fn reserve(&mut self, rows: usize) -> Result<(), OutOfMemory>
         requires { rows < 2 ^ 40 }
-        ensures room { OnOk result (rows + 1
-            ≤ places_in (vec_capacity self.new.bytes) (vec_capacity self.new.order)) }
-        ensures succeeds { rows + 1
-            ≤ places_in (vec_capacity self.old.bytes) (vec_capacity self.old.order) → IsOk result }
-        ensures kept { (vec_capacity self.old.bytes ≤ vec_capacity self.new.bytes)
-            × (vec_capacity self.old.order ≤ vec_capacity self.new.order) }
+        ensures room { OnOk result (rows + 1 ≤ places_in self.new) }
+        ensures succeeds { rows + 1 ≤ places_in self.old → IsOk result }
+        ensures kept { places_in self.old ≤ places_in self.new }
     {
         self.bytes.clear();
-        self.order.clear();
         self.bytes.reserve(ROW_BYTES * (rows + 1))?;
-        self.order.reserve(rows)?;
-        Ok(())
+        self.orders.reserve(rows)
     }
 
     /// Writes the head of the rows of an index over what stands there. It never fails for want of memory.
     pub fn write(&mut self, index: &Index)
         requires valid { IsValid index.now.rows }
-        requires room { row_count index.now.rows + 1
-            ≤ places_in (vec_capacity self.old.bytes) (vec_capacity self.old.order) }
+        requires room { row_count index.now.rows + 1 ≤ places_in self.old }
         ensures bytes { self.new.bytes.items ≡ head_spelled index.entry.now.rows }
         ensures fits { FitsHead index.entry.now.rows }
         ensures few { length self.new.bytes.items < 2 ^ 32 }
-        ensures kept { (vec_capacity self.old.bytes ≤ vec_capacity self.new.bytes)
-            × (vec_capacity self.old.order ≤ vec_capacity self.new.order) }
+        ensures kept { places_in self.old ≤ places_in self.new }
     {
         self.bytes.clear();
         put_front(&mut self.bytes, front_of(index));
-        put_rows(&mut self.bytes, &mut self.order, index.desired_shelf());
-        put_rows(&mut self.bytes, &mut self.order, index.actual_shelf());
-        put_rows(&mut self.bytes, &mut self.order, index.tasks_shelf());
-        put_rows(&mut self.bytes, &mut self.order, index.cells_shelf());
+        put_rows(
+            &mut self.bytes,
+            &mut self.orders.desired,
+            index.desired_shelf(),
+        );
+        put_rows(
+            &mut self.bytes,
+            &mut self.orders.actual,
+            index.actual_shelf(),
+        );
+        put_rows(&mut self.bytes, &mut self.orders.tasks, index.tasks_shelf());
+        put_rows(&mut self.bytes, &mut self.orders.cells, index.cells_shelf());
     }
 }

@@ -11,6 +11,7 @@ mod kept_in;
 mod laws;
 mod loading;
 mod memory_loading;
+mod orders;
 mod putting;
 mod reading;
 mod redoing;

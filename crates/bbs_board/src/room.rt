@@ -1,5 +1,5 @@
 //! The memory that calls need, had before their first device call.
-ghost use Rattle.std.specs.Prelude.{◌≡◌, ◌+◌, ◌≤◌, ◌<◌, ◌*◌, ◌^◌, true, vec_capacity, OnOk, IsOk};
+ghost use Rattle.std.specs.Prelude.{◌≡◌, ◌+◌, ◌≤◌, ◌<◌, ◌*◌, ◌^◌, true, OnOk, IsOk};
 ghost use Rattle.bbs_model.specs.Valid.{IsValid};
 ghost use Rattle.bbs_board.specs.Room.{calls_for, places_in, places_left};
 ghost use Rattle.bbs_board.specs.Storing.{IsHeadOf};
@@ -38,11 +38,9 @@ pub fn make_room(
     ensures rows { index.new.rows ≡ index.old.rows }
     ensures history { history.new ≡ record history.old { room = history.new.room } }
     ensures room { OnOk result (n ≤ calls_for index.new.spare history.new.room
-        (places_left (places_in (vec_capacity draft.new.bytes) (vec_capacity draft.new.order))
-        index.new.rows)) }
+        (places_left (places_in draft.new) index.new.rows)) }
     ensures kept { (index.old.spare ≤ index.new.spare) × (history.old.room ≤ history.new.room)
-        × (vec_capacity draft.old.bytes ≤ vec_capacity draft.new.bytes)
-        × (vec_capacity draft.old.order ≤ vec_capacity draft.new.order) }
+        × (places_in draft.old ≤ places_in draft.new) }
 {
     make_item_room(index, history, n)?;
     draft.reserve(row_count(index) + 2 * n as usize)?;
@@ -61,11 +59,9 @@ pub fn prepare_call(
     ensures history { history.new ≡ record history.old { room = history.new.room } }
     ensures room { OnOk result ((2 ≤ index.new.spare) × (1 ≤ history.new.room)) }
     ensures succeeds { 0 < calls_for index.old.spare history.old.room
-        (places_left (places_in (vec_capacity draft.old.bytes) (vec_capacity draft.old.order))
-        index.old.rows) → IsOk result }
+        (places_left (places_in draft.old) index.old.rows) → IsOk result }
     ensures kept { (index.old.spare ≤ index.new.spare) × (history.old.room ≤ history.new.room)
-        × (vec_capacity draft.old.bytes ≤ vec_capacity draft.new.bytes)
-        × (vec_capacity draft.old.order ≤ vec_capacity draft.new.order) }
+        × (places_in draft.old ≤ places_in draft.new) }
     ensures head { OnOk result (due ≡ true → IsHeadOf index.old.rows draft.new.bytes.items) }
 {
     make_item_room(index, history, 1)?;

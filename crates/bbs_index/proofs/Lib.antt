@@ -4,5 +4,6 @@ pub mod Counting
 pub mod Boards
 pub mod Numbers
 pub mod Numbering
+pub mod Ordering
 pub mod Gone
 pub mod Reading

@@ -1,3 +1,4 @@
 pub mod Shelf
+pub mod Order
 pub mod Index
 pub mod Redone

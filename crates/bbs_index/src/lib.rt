@@ -4,6 +4,7 @@
 
 mod entries;
 mod index;
+mod order;
 mod placed;
 mod redoing;
 mod row_store;
@@ -12,6 +13,7 @@ mod sorted;
 mod wanted;
 
 pub use index::Index;
+pub use order::Order;
 pub use shelf::Shelf;
 
 #[cfg(test)]

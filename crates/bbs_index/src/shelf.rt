@@ -1,12 +1,13 @@
 //! A shelf is a map from each row's key to the row, and contracts see it as the table of its rows.
 
-ghost use Rattle.std.specs.Prelude.{◌≡◌, ℕ, ◌<◌, ◌≤◌, ◌^◌, [], length, vec_capacity, slice_get, slice_index_or, Some, IfSome, IsOk, IfOk, OnOk};
+ghost use Rattle.std.specs.Prelude.{◌≡◌, ℕ, ◌<◌, ◌≤◌, ◌^◌, [], length, slice_get, slice_index_or, Some, IfSome, IsOk, IfOk, OnOk};
 ghost use Rattle.std.specs.List.Sorted.{IsSortedByKey};
 ghost use Rattle.std.specs.Option.{option_map, option_copied, option_and_then};
 ghost use Rattle.row_tables.specs.Table.{find_row, put_row, without_row, IsRising};
 ghost use Rattle.bbs_model.specs.Store.{HasRoom, TakesRoom};
 ghost use Rattle.bbs_index.specs.Shelf.{AreNumbered};
 
+use crate::Order;
 use crate::entries::{put_entry, put_entry_at, remove_entry};
 use crate::sorted::{compare_at, order_entries, sorted_rows};
 use bbs_model::Rowed;
@@ -166,13 +167,14 @@ impl<X: Rowed> Shelf<X> {
         remove_entry(&mut self.map, key);
     }
 
-    /// The numbers of the rows in the order of their keys, for which there is room. It takes memory for
-    /// the time of the call where there is some, and works without.
-    pub fn order_into(&self, order: &mut Vec<u32>)
+    /// Makes the order that of the rows by their keys. It has room for them, so that this never fails. It is
+    /// begun with as it stands where it has no more numbers than there are rows, and with none where it has
+    /// more. It takes memory for the time of the call where there is some, and works without.
+    pub fn order_into(&self, order: &mut Order)
         requires few { length self.now.rows < 2 ^ 32 }
-        requires room { length self.now.rows ≤ vec_capacity order.old }
-        ensures rows { AreNumbered self.now.numbered order.new.items self.now.rows }
-        ensures capacity { vec_capacity order.new ≡ vec_capacity order.old }
+        requires room { length self.now.rows ≤ order.old.room }
+        ensures rows { AreNumbered self.now.numbered order.new.numbers self.now.rows }
+        ensures room { order.new.room ≡ order.old.room }
     {
         order_entries(&self.map, order);
     }

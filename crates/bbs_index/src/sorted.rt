@@ -5,6 +5,7 @@ ghost use Rattle.std.specs.Option.{option_cmp};
 ghost use Rattle.indexmap.specs.IndexMap.{index_map_len, values};
 ghost use Rattle.bbs_index.specs.Shelf.{table_of, AreNumbered, IsShelf};
 
+use crate::Order;
 use bbs_model::Rowed;
 use indexmap::IndexMap;
 use std::alloc::{AllocError, Global};
@@ -22,7 +23,7 @@ pub(crate) fn compare_at<K: Ord>(keys: &[K], first: usize, second: usize) -> Ord
 // order, and merges what it sorted between them, so that rows in order with new ones behind them take
 // little more than the new ones. It takes a buffer for the time of the call; where there is no memory
 // for it, the numbers are sorted where they stand.
-fn sort_numbers<X: Rowed>(keys: &[X::Key], numbers: &mut Vec<u32>)
+pub(crate) fn sort_numbers<X: Rowed>(keys: &[X::Key], numbers: &mut Vec<u32>)
     ensures permutation { IsPermutation numbers.old.items numbers.new.items }
     ensures sorted { IsSortedByKey (slice_get keys.now) (option_cmp X.Key.cmp) numbers.new.items }
     ensures capacity { vec_capacity numbers.new ≡ vec_capacity numbers.old }
@@ -34,20 +35,16 @@ fn sort_numbers<X: Rowed>(keys: &[X::Key], numbers: &mut Vec<u32>)
     numbers.sort_unstable_by(by_key);
 }
 
-// The numbers of the entries in the order of their keys.
-pub(crate) fn order_entries<X: Rowed>(map: &IndexMap<X::Key, X>, order: &mut Vec<u32>)
+// The numbers of the entries in the order of their keys, begun with the order that is there.
+pub(crate) fn order_entries<X: Rowed>(map: &IndexMap<X::Key, X>, order: &mut Order)
     requires shelf { IsShelf X.Key.cmp X.Key.eq X.key map.now.entries }
     requires few { index_map_len map.now < 2 ^ 32 }
-    requires room { index_map_len map.now ≤ vec_capacity order.old }
-    ensures rows { AreNumbered (values map.now) order.new.items (table_of X.Key.cmp map.now.entries) }
-    ensures capacity { vec_capacity order.new ≡ vec_capacity order.old }
+    requires room { index_map_len map.now ≤ order.old.room }
+    ensures rows { AreNumbered (values map.now) order.new.numbers (table_of X.Key.cmp map.now.entries) }
+    ensures room { order.new.room ≡ order.old.room }
 {
-    order.clear();
-    for number in 0..map.len() as u32 {
-        order.push_reserved(number);
-    }
     let keys = map.keys().as_slice();
-    sort_numbers::<X>(keys, order);
+    order.follow::<X>(keys);
 }
 
 // The numbers of the entries in the order of their keys.

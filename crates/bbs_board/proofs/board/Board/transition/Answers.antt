@@ -1,4 +1,4 @@
-use Rattle.std.proofs.Common.{◌≡◌, ◌∙◌, ◌+◌, ◌≤◌, Bool, true, false, List, ℕ, vec_capacity, Option, Some, None, [], ◌∷◌, ◌++◌, is_ok, length, sym, ap, subst, arith, rules}
+use Rattle.std.proofs.Common.{◌≡◌, ◌∙◌, ◌+◌, ◌≤◌, Bool, true, false, List, ℕ, Option, Some, None, [], ◌∷◌, ◌++◌, is_ok, length, sym, ap, subst, arith, rules}
 use Rattle.std.specs.Option.{ForSome}
 use Rattle.std.specs.Prelude.{is_err}
 use Rattle.byte_ports.specs.Cause.{HasCause}
@@ -12,7 +12,7 @@ use Rattle.bbs_model.specs.declared.verdict.Verdict.TheVariants as verdict
 use Rattle.bbs_board.specs.Calls.{Passes}
 use Rattle.bbs_board.specs.History.{Entries, with_item}
 use Rattle.bbs_board.specs.KeptIn.{StaysShort, most_after}
-use Rattle.bbs_board.specs.Room.{row_count}
+use Rattle.bbs_board.specs.Room.{row_count, places_in}
 use Rattle.bbs_board.specs.Storing.{HasStored, IsHeadOf, StoreTakes}
 use Rattle.bbs_board.specs.View.{View, rows_of, wants_checkpoint}
 use Rattle.bbs_board.proofs.Counting.{few_after, places_kept, calls_less}
@@ -155,8 +155,8 @@ returns-clause-grows g c =
     let more = c.prepare_call.ensures.kept in
     let added = c.add-2.ensures ∙ ap (with_item c.args.by c.args.command.now c.clock-mark.result (Some c.apply-events.result)) c.prepare_call.ensures.history in
     let after : c.apply-events.new.store.rows ≡ rows_after b.index.rows c.args.command.now = c.apply-events.ensures.state ∙ ap (λ (r : Rows). rows_after r c.args.command.now) c.prepare_call.ensures.rows in
-    let places = places_kept (vec_capacity b.draft.bytes) (vec_capacity b.draft.order) (vec_capacity c.prepare_call.new.draft.bytes) (vec_capacity c.prepare_call.new.draft.order) b.index.rows c.apply-events.new.store.rows
-    more.2 more.3 (subst (λ (r : Rows). row_count r ≤ row_count b.index.rows + 2) (sym after) (few_after b.index.rows c.args.command.now)) in
+    let places = places_kept (places_in b.draft) (places_in c.prepare_call.new.draft) b.index.rows c.apply-events.new.store.rows
+    more.2 (subst (λ (r : Rows). row_count r ≤ row_count b.index.rows + 2) (sym after) (few_after b.index.rows c.args.command.now)) in
     let index : b.index.spare ≤ c.apply-events.new.store.spare + 2 = omega (arith, more.0, c.apply-events.ensures.spare) in
     let history : b.history.room ≤ c.add-2.new.self.room + 1 = omega (arith, more.1, ap (λ (e : Entries). e.room) added) in
     let less = calls_less b.index.spare b.history.room _ c.apply-events.new.store.spare c.add-2.new.self.room _ index history places in
