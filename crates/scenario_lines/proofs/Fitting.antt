@@ -2,10 +2,11 @@
 use Rattle.std.proofs.Common.{◌≡◌, ℕ, ◌≤◌, Bool, true, false, ◌&&◌, if◌then◌else◌, nat_le, List, Option, Some, None, option_and_then, Result, Ok, Err, IfOk, refl, arith}
 use Rattle.std.proofs.lemmas.Bool.{leb-true}
 use Rattle.serde_json.specs.Data.{Data}
+use Rattle.bbs_model.specs.declared.command.Op.{Op}
 use Rattle.cell_rep.specs.declared.cell_act.CellAct.{CellAct}
 use Rattle.scenario_lines.specs.Acts.{is_of_cell}
 use Rattle.scenario_lines.specs.CellActs.{as_act, done_in}
-use Rattle.scenario_lines.specs.ClientActs.{asked_in}
+use Rattle.scenario_lines.specs.ClientActs.{as_ask, asked_in}
 use Rattle.scenario_lines.specs.Contents.{cell_line, client_in, content_in, content_of, losses_in, phase_in}
 use Rattle.scenario_lines.specs.Flaws.{◌>>=◌, json_said, or_shape}
 use Rattle.scenario_lines.specs.Kinds.{in_times, number_said, times_of}
@@ -15,12 +16,12 @@ use Rattle.scenario_lines.specs.Names.{name_given}
 use Rattle.scenario_lines.specs.Shapes.{shaped}
 use Rattle.scenario_lines.specs.Values.{lost_in, number_given, times_in}
 use Rattle.scenario_lines.specs.declared.act.Act.{Act}
-use Rattle.scenario_lines.specs.declared.act.Act.TheVariants.{Client}
 use Rattle.scenario_lines.specs.declared.actor.Actor.{Actor}
 use Rattle.scenario_lines.specs.declared.flaw.Flaw.{Flaw}
 use Rattle.scenario_lines.specs.declared.form.CellOp.{CellOp}
 use Rattle.scenario_lines.specs.declared.form.CellOp.TheVariants as cell
 use Rattle.scenario_lines.specs.declared.form.ClientOp.{ClientOp}
+use Rattle.scenario_lines.specs.declared.form.ClientOp.TheVariants as client
 use Rattle.scenario_lines.specs.declared.form.Form.{Form}
 use Rattle.scenario_lines.specs.declared.form.Form.TheVariants as form
 use Rattle.scenario_lines.specs.declared.member.Member.TheVariants as member
@@ -67,11 +68,29 @@ line-fits : (actor : Actor) (act : Act) (d : Data) → actor.cell ≡ is_of_cell
 line-fits actor act d whose =
     then_ok IsActLine (lost_in d) _ (λ lost. from_ok IsTimes IsActLine (times_in d) _ (times_in-within d) (λ times within. record { whose = whose; times = within }))
 
+-- a client's act
+abbrev IsClients : Act → Type 0
+IsClients act = false ≡ is_of_cell act
+
+as_ask-clients : (r : Result Op Flaw) → IfOk (as_ask r) IsClients
+as_ask-clients (Ok op) = refl
+as_ask-clients (Err flaw) = tt
+
+asked_in-clients : (op : ClientOp) (d : Data) → IfOk (asked_in op d) IsClients
+asked_in-clients client.Desire d = as_ask-clients _
+asked_in-clients client.Update d = as_ask-clients _
+asked_in-clients client.Undesire d = as_ask-clients _
+asked_in-clients client.Restart d = as_ask-clients _
+asked_in-clients client.Task d = as_ask-clients _
+asked_in-clients client.Cancel d = as_ask-clients _
+asked_in-clients client.Resolve d = as_ask-clients _
+asked_in-clients client.Delete d = as_ask-clients _
+
 -- a client's line
 client_in-fits : (op : ClientOp) (d : Data) → IfOk (client_in op d) IsActLine
 unfolding client_in
 client_in-fits op d =
-    then_ok IsActLine (name_given member.Client d) _ (λ name. then_ok IsActLine (asked_in op d) _ (λ asked. line-fits (record { cell = false; name = name }) (Client asked) d refl))
+    then_ok IsActLine (name_given member.Client d) _ (λ name. from_ok IsClients IsActLine (asked_in op d) _ (asked_in-clients op d) (λ act is. line-fits (record { cell = false; name = name }) act d is))
 
 -- a cell's act
 abbrev IsCells : Act → Type 0

@@ -6,6 +6,8 @@ use Rattle.bbs_model.specs.declared.command.Op.TheVariants as op
 use Rattle.scenario_lines.specs.Flaws.{◌>>=◌}
 use Rattle.scenario_lines.specs.Names.{name_given, optional_name_in}
 use Rattle.scenario_lines.specs.Values.{key_said, number_given, port_in}
+use Rattle.scenario_lines.specs.declared.act.Act.{Act}
+use Rattle.scenario_lines.specs.declared.act.Act.TheVariants.{Client}
 use Rattle.scenario_lines.specs.declared.flaw.Flaw.{Flaw}
 use Rattle.scenario_lines.specs.declared.form.ClientOp.{ClientOp}
 use Rattle.scenario_lines.specs.declared.form.ClientOp.TheVariants as client
@@ -71,13 +73,17 @@ resolve_in d = name_given member.Name d >>= λ name. Ok (op.ResolveTask name)
 unfoldable pub delete_in : Data → Result Op Flaw
 delete_in d = name_given member.Name d >>= λ name. Ok (op.DeleteTask name)
 
--- what a client asks
-abbrev pub asked_in : ClientOp → Data → Result Op Flaw
-asked_in client.Desire d = desire_said d
-asked_in client.Update d = update_in d
-asked_in client.Undesire d = undesire_in d
-asked_in client.Restart d = restart_in d
-asked_in client.Task d = task_said d
-asked_in client.Cancel d = cancel_in d
-asked_in client.Resolve d = resolve_in d
-asked_in client.Delete d = delete_in d
+-- what a client asks, as an act
+abbrev pub as_ask : Result Op Flaw → Result Act Flaw
+as_ask asked = asked >>= λ op. Ok (Client op)
+
+-- what a client does
+abbrev pub asked_in : ClientOp → Data → Result Act Flaw
+asked_in client.Desire d = as_ask (desire_said d)
+asked_in client.Update d = as_ask (update_in d)
+asked_in client.Undesire d = as_ask (undesire_in d)
+asked_in client.Restart d = as_ask (restart_in d)
+asked_in client.Task d = as_ask (task_said d)
+asked_in client.Cancel d = as_ask (cancel_in d)
+asked_in client.Resolve d = as_ask (resolve_in d)
+asked_in client.Delete d = as_ask (delete_in d)

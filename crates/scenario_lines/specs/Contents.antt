@@ -7,7 +7,6 @@ use Rattle.scenario_lines.specs.Flaws.{◌>>=◌, json_said}
 use Rattle.scenario_lines.specs.Names.{name_given, names_in}
 use Rattle.scenario_lines.specs.Shapes.{shaped}
 use Rattle.scenario_lines.specs.Values.{lost_in, number_given, times_in}
-use Rattle.scenario_lines.specs.declared.act.Act.TheVariants.{Client}
 use Rattle.scenario_lines.specs.declared.content.ActLine.{ActLine}
 use Rattle.scenario_lines.specs.declared.content.Content.{Content}
 use Rattle.scenario_lines.specs.declared.content.Content.TheVariants.{Phase, Acts, Round}
@@ -27,10 +26,10 @@ phase_in d = number_given member.At d >>= λ at. Ok (Phase (record { 0 = at }))
 unfoldable pub client_in : ClientOp → Data → Result ActLine Flaw
 client_in op d = do
   name ← name_given member.Client d
-  asked ← asked_in op d
+  act ← asked_in op d
   lost ← lost_in d
   times ← times_in d
-  Ok (record { actor = record { cell = false; name = name }; act = Client asked; lost = lost; times = times })
+  Ok (record { actor = record { cell = false; name = name }; act = act; lost = lost; times = times })
 
 -- what a cell does, with what is lost and how often it is run
 unfoldable pub cell_line : CellOp → Data → Result ActLine Flaw

@@ -8,6 +8,7 @@ pub mod Kinds
 pub mod Laws
 pub mod Members
 pub mod Names
+pub mod Outlines
 pub mod Places
 pub mod Said
 pub mod Shapes

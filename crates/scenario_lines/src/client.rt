@@ -1,6 +1,6 @@
 //! What a client asks of the board, by its line.
-ghost use Rattle.std.specs.Prelude.{◌≡◌};
 ghost use Rattle.scenario_lines.specs.ClientActs.{asked_in};
+ghost use Rattle.scenario_lines.specs.Flaws.{Leaves};
 ghost use Rattle.scenario_lines.specs.Places.{object_of};
 
 mod desire;
@@ -10,23 +10,23 @@ mod task_end;
 mod undesire;
 mod update;
 
+use crate::act::Act;
 use crate::flaw::Flaw;
 use crate::form::ClientOp;
 use crate::members::Members;
-use bbs_model::Op;
 
-/// What a client asks.
-pub(crate) fn asked_in(op: ClientOp, members: &Members<'_>) -> Result<Op, Flaw>
-    ensures { result ≡ asked_in op (object_of members.now.object.now) }
+/// What a client asks. It is written to its place: each form of it has room for the longest.
+pub(crate) fn asked_into(op: ClientOp, members: &Members<'_>, act: &mut Act) -> Result<(), Flaw>
+    ensures { Leaves result act.new (asked_in op (object_of members.now.object.now)) }
 {
     match op {
-        ClientOp::Desire => desire::desire_in(members),
-        ClientOp::Update => update::update_in(members),
-        ClientOp::Undesire => undesire::undesire_in(members),
-        ClientOp::Restart => restart::restart_in(members),
-        ClientOp::Task => task::task_in(members),
-        ClientOp::Cancel => task_end::cancel_in(members),
-        ClientOp::Resolve => task_end::resolve_in(members),
-        ClientOp::Delete => task_end::delete_in(members),
+        ClientOp::Desire => desire::desire_in(members, act),
+        ClientOp::Update => update::update_in(members, act),
+        ClientOp::Undesire => undesire::undesire_in(members, act),
+        ClientOp::Restart => restart::restart_in(members, act),
+        ClientOp::Task => task::task_in(members, act),
+        ClientOp::Cancel => task_end::cancel_in(members, act),
+        ClientOp::Resolve => task_end::resolve_in(members, act),
+        ClientOp::Delete => task_end::delete_in(members, act),
     }
 }

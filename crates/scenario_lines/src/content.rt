@@ -1,4 +1,7 @@
 //! What a line says.
+ghost use Rattle.std.specs.Prelude.{◌≡◌};
+ghost use Rattle.scenario_lines.specs.Outlines.{content_with};
+
 use crate::act::{Act, Loss};
 use crate::actor::Actor;
 use crash_backoff::Moment;
@@ -24,6 +27,45 @@ pub struct ActLine {
     pub lost: Option<Loss>,
     /// From 1 to 1,000.
     pub times: u32,
+}
+
+/// What a line says, but for what its actor does: that is long, so it is kept where the caller has room for it.
+#[derive(Debug, Drop)]
+pub enum Outline {
+    /// A phase begins.
+    Phase(Moment),
+    /// An actor acts.
+    Acts(ActHead),
+    /// A round of convergence is run.
+    Round(Losses),
+}
+
+/// Who acts, and how often.
+#[derive(Clone, Copy, Debug, PartialEq, Eq)]
+pub struct ActHead {
+    pub actor: Actor,
+    /// What is lost of the first board call of the first run.
+    pub lost: Option<Loss>,
+    /// From 1 to 1,000.
+    pub times: u32,
+}
+
+impl Outline {
+    /// What the line says whose actor, if it has one, does this.
+    pub(crate) fn with(self, act: Act) -> Content
+        ensures { result ≡ content_with act self }
+    {
+        match self {
+            Outline::Phase(at) => Content::Phase(at),
+            Outline::Acts(head) => Content::Acts(ActLine {
+                actor: head.actor,
+                act,
+                lost: head.lost,
+                times: head.times,
+            }),
+            Outline::Round(losses) => Content::Round(losses),
+        }
+    }
 }
 
 /// The cells to which calls of a round are lost, or from which replies are. Names of no cell

@@ -1,5 +1,6 @@
 //! What the lines so far have come to.
 ghost use Rattle.std.specs.Prelude.{◌≡◌, ◌++◌, option_to_list, IfOk, OnOk};
+ghost use Rattle.scenario_lines.specs.Outlines.{content_with, line_with};
 ghost use Rattle.scenario_reader.specs.Phases.{round_line};
 ghost use Rattle.scenario_reader.specs.Steps.{acted, begin_phase, is_before, rounded, script_in, start, step, IsSmall, Leads};
 
@@ -8,7 +9,7 @@ use crate::fault::ScriptFault;
 use crate::open_phase::OpenPhase;
 use crash_backoff::Moment;
 use diego_names::{List, OutOfMemory};
-use scenario_lines::{ActLine, Content, Line, Losses, Phase, RoundLine, Script};
+use scenario_lines::{Act, ActHead, Line, Losses, Outline, Phase, RoundLine, Script};
 use std::alloc::Global;
 use std::mem;
 
@@ -42,16 +43,22 @@ impl Reading {
         }
     }
 
-    /// Adds a line. After a fault nothing more is to be read.
-    pub fn add(&mut self, alloc: Global, line: u32, content: Content) -> Result<(), ScriptFault>
+    /// Adds a line, whose actor does this if it has one. After a fault nothing more is to be read.
+    pub fn add(
+        &mut self,
+        alloc: Global,
+        line: u32,
+        outline: Outline,
+        act: &Act,
+    ) -> Result<(), ScriptFault>
         requires { IsSmall self.old }
-        ensures step { Leads result self.new (step self.old line content) }
+        ensures step { Leads result self.new (step self.old line (content_with act.now outline)) }
         ensures small { OnOk result (IsSmall self.new) }
     {
-        match content {
-            Content::Phase(at) => self.begin(alloc, line, at),
-            Content::Acts(said) => self.add_act(line, &said),
-            Content::Round(losses) => self.add_round(line, losses),
+        match outline {
+            Outline::Phase(at) => self.begin(alloc, line, at),
+            Outline::Acts(head) => self.add_act(line, head, act),
+            Outline::Round(losses) => self.add_round(line, losses),
         }
     }
 
@@ -68,16 +75,15 @@ impl Reading {
         Ok(())
     }
 
-    /// Adds what an actor does.
-    pub fn add_act(&mut self, line: u32, said: &ActLine) -> Result<(), ScriptFault>
+    fn add_act(&mut self, line: u32, said: ActHead, act: &Act) -> Result<(), ScriptFault>
         requires { IsSmall self.old }
-        ensures step { Leads result self.new (acted self.old line said.now) }
+        ensures step { Leads result self.new (acted self.old line (line_with act.now said)) }
         ensures small { OnOk result (IsSmall self.new) }
     {
         let Some(phase) = &mut self.last else {
             return Err(ScriptFault::BadOrder { line });
         };
-        if said.act.is_of_cell() && phase.has_round() {
+        if act.is_of_cell() && phase.has_round() {
             return Err(ScriptFault::BadOrder { line });
         }
         let actor = self.actors.number(said.actor)?;
@@ -88,7 +94,7 @@ impl Reading {
         phase.add_line(Line {
             line,
             actor,
-            act: said.act,
+            act: *act,
             lost: said.lost,
             times: said.times,
         })?;

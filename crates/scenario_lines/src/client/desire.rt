@@ -1,8 +1,9 @@
 //! `desire`: a client wants a process to run.
-ghost use Rattle.std.specs.Prelude.{◌≡◌};
-ghost use Rattle.scenario_lines.specs.ClientActs.{desire_said};
+ghost use Rattle.scenario_lines.specs.ClientActs.{as_ask, desire_said};
+ghost use Rattle.scenario_lines.specs.Flaws.{Leaves};
 ghost use Rattle.scenario_lines.specs.Places.{object_of};
 
+use crate::act::Act;
 use crate::flaw::Flaw;
 use crate::member::Member;
 use crate::members::Members;
@@ -12,10 +13,10 @@ use bbs_model::Op;
 use lrp_records::Desired;
 
 #[tactic(auto, unfolding(crate::specs::ClientActs::desire_said))]
-pub(crate) fn desire_in(members: &Members<'_>) -> Result<Op, Flaw>
-    ensures { result ≡ desire_said (object_of members.now.object.now) }
+pub(crate) fn desire_in(members: &Members<'_>, act: &mut Act) -> Result<(), Flaw>
+    ensures { Leaves result act.new (as_ask (desire_said (object_of members.now.object.now))) }
 {
-    Ok(Op::Desire {
+    *act = Act::Client(Op::Desire {
         desired: Desired {
             process: name_in(members, Member::Process)?,
             domain: name_in(members, Member::Domain)?,
@@ -26,5 +27,6 @@ pub(crate) fn desire_in(members: &Members<'_>) -> Result<Op, Flaw>
             route: optional_name_in(members, Member::Route)?,
             port: port_in(members)?,
         },
-    })
+    });
+    Ok(())
 }

@@ -1,8 +1,9 @@
 //! `task`: a client wants a task to run once.
-ghost use Rattle.std.specs.Prelude.{◌≡◌};
-ghost use Rattle.scenario_lines.specs.ClientActs.{task_said};
+ghost use Rattle.scenario_lines.specs.ClientActs.{as_ask, task_said};
+ghost use Rattle.scenario_lines.specs.Flaws.{Leaves};
 ghost use Rattle.scenario_lines.specs.Places.{object_of};
 
+use crate::act::Act;
 use crate::flaw::Flaw;
 use crate::member::Member;
 use crate::members::Members;
@@ -11,13 +12,14 @@ use crate::values::number_in;
 use bbs_model::Op;
 
 #[tactic(auto, unfolding(crate::specs::ClientActs::task_said))]
-pub(crate) fn task_in(members: &Members<'_>) -> Result<Op, Flaw>
-    ensures { result ≡ task_said (object_of members.now.object.now) }
+pub(crate) fn task_in(members: &Members<'_>, act: &mut Act) -> Result<(), Flaw>
+    ensures { Leaves result act.new (as_ask (task_said (object_of members.now.object.now))) }
 {
-    Ok(Op::NewTask {
+    *act = Act::Client(Op::NewTask {
         name: name_in(members, Member::Name)?,
         memory: number_in(members, Member::Memory)?,
         disk: number_in(members, Member::Disk)?,
         tag: optional_name_in(members, Member::Tag)?,
-    })
+    });
+    Ok(())
 }
