@@ -1,3 +1,4 @@
 mod boards;
 mod index;
+mod orders;
 mod shelf;

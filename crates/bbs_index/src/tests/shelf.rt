@@ -102,9 +102,9 @@ fn an_instance_keeps_both_of_its_rows(rt: HostRuntime) -> Result<(), Fail> {
 
 // A row that is its own number, beside another.
 #[derive(Clone, Copy)]
-struct Numbered {
-    number: u32,
-    other: u32,
+pub(crate) struct Numbered {
+    pub(crate) number: u32,
+    pub(crate) other: u32,
 }
 
 impl Rowed for Numbered {

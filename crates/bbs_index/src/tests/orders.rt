@@ -1,0 +1,146 @@
+use crate::tests::shelf::Numbered;
+use crate::{Order, Shelf};
+use std::alloc::Global;
+use std::cmp::Ordering;
+use std::test::Fail;
+
+fn add(shelf: &mut Shelf<Numbered>, number: u32) -> Result<(), Fail> {
+    shelf.reserve(1)?;
+    shelf.put(Numbered { number, other: 0 });
+    Ok(())
+}
+
+fn shelf_of(alloc: Global, keys: &[u32]) -> Result<Shelf<Numbered>, Fail> {
+    let mut shelf = Shelf::new(alloc);
+    for key in keys {
+        add(&mut shelf, *key)?;
+    }
+    Ok(shelf)
+}
+
+// Makes the order that of the rows by their keys.
+fn put_in_order(shelf: &Shelf<Numbered>, order: &mut Order) -> Result<(), Fail> {
+    if shelf.len() > 100_000 {
+        return Err(Fail::from("a test has few rows"));
+    }
+    order.reserve(shelf.len())?;
+    shelf.order_into(order);
+    Ok(())
+}
+
+// The keys of the rows by the numbers of the order.
+fn keys_along(alloc: Global, shelf: &Shelf<Numbered>, order: &[u32]) -> Result<Vec<u32>, Fail> {
+    shelf.may_be_in_order();
+    let mut keys = Vec::new(alloc);
+    for number in order {
+        let number = *number as usize;
+        if shelf.len() <= number {
+            return Err(Fail::from("each number is that of a row"));
+        }
+        keys.push(shelf.at(number).number)?;
+    }
+    Ok(keys)
+}
+
+// Whether the rows are put in the order of these keys.
+fn is_put_in(
+    alloc: Global,
+    shelf: &Shelf<Numbered>,
+    order: &mut Order,
+    wanted: &[u32],
+) -> Result<bool, Fail> {
+    put_in_order(shelf, order)?;
+    let keys = keys_along(alloc, shelf, order.numbers())?;
+    Ok(keys.as_slice() == wanted)
+}
+
+// Whether rows that come with the first keys are put in the order of the second ones.
+fn come_in(alloc: Global, order: &mut Order, keys: &[u32], wanted: &[u32]) -> Result<bool, Fail> {
+    let shelf = shelf_of(alloc, keys)?;
+    is_put_in(alloc, &shelf, order, wanted)
+}
+
+#[test]
+fn keys_of_two_numbers_compare_where_they_lie(rt: HostRuntime) -> Result<(), Fail> {
+    let shelf = shelf_of(rt.alloc(), &[20, 10])?;
+    shelf.may_be_in_order();
+    if shelf.len() != 2 {
+        return Err(Fail::from("two keys are two rows"));
+    }
+    assert_eq!(rt; shelf.compare(0, 1), Ordering::Greater);
+    assert_eq!(rt; shelf.compare(1, 0), Ordering::Less);
+    assert_eq!(rt; shelf.compare(1, 1), Ordering::Equal);
+    Ok(())
+}
+
+#[test]
+fn rows_are_ordered_by_their_keys(rt: HostRuntime) -> Result<(), Fail> {
+    let alloc = rt.alloc();
+    let mut order = Order::new(alloc);
+    assert!(rt; come_in(alloc, &mut order, &[], &[])?);
+    assert!(rt; come_in(alloc, &mut order, &[7], &[7])?);
+    assert!(rt; come_in(alloc, &mut order, &[3, 1, 0, 2], &[0, 1, 2, 3])?);
+    assert!(rt;
+        come_in(
+            alloc,
+            &mut order,
+            &[10, 20, 30, 25, 5],
+            &[5, 10, 20, 25, 30]
+        )?
+    );
+    Ok(())
+}
+
+#[test]
+fn an_order_follows_rows_that_come(rt: HostRuntime) -> Result<(), Fail> {
+    let alloc = rt.alloc();
+    let mut order = Order::new(alloc);
+    let mut shelf = shelf_of(alloc, &[3, 1, 2])?;
+    assert!(rt; is_put_in(alloc, &shelf, &mut order, &[1, 2, 3])?);
+    assert!(rt; is_put_in(alloc, &shelf, &mut order, &[1, 2, 3])?);
+    add(&mut shelf, 0)?;
+    assert!(rt; is_put_in(alloc, &shelf, &mut order, &[0, 1, 2, 3])?);
+    Ok(())
+}
+
+// The last row takes the number of the one that goes.
+#[test]
+fn an_order_follows_rows_that_go(rt: HostRuntime) -> Result<(), Fail> {
+    let alloc = rt.alloc();
+    let mut order = Order::new(alloc);
+    let mut shelf = shelf_of(alloc, &[3, 1, 2])?;
+    assert!(rt; is_put_in(alloc, &shelf, &mut order, &[1, 2, 3])?);
+    shelf.remove(&3);
+    assert!(rt; is_put_in(alloc, &shelf, &mut order, &[1, 2])?);
+    add(&mut shelf, 0)?;
+    assert!(rt; is_put_in(alloc, &shelf, &mut order, &[0, 1, 2])?);
+    Ok(())
+}
+
+// Whether each key stands at its own place, and there are so many.
+fn are_all(keys: &[u32], count: usize) -> bool {
+    for (place, key) in keys.iter().enumerate() {
+        if *key as usize != place {
+            return false;
+        }
+    }
+    keys.len() == count
+}
+
+#[test]
+fn many_rows_are_ordered_again_with_those_that_came(rt: HostRuntime) -> Result<(), Fail> {
+    let alloc = rt.alloc();
+    let mut order = Order::new(alloc);
+    let mut shelf = Shelf::new(alloc);
+    for count in 0..40_000u32 {
+        add(&mut shelf, count * 7 % 50_000)?;
+    }
+    put_in_order(&shelf, &mut order)?;
+    for count in 40_000..50_000u32 {
+        add(&mut shelf, count * 7 % 50_000)?;
+    }
+    put_in_order(&shelf, &mut order)?;
+    let keys = keys_along(alloc, &shelf, order.numbers())?;
+    assert!(rt; are_all(&keys, 50_000));
+    Ok(())
+}
