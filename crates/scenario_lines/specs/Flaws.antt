@@ -21,8 +21,8 @@ GivesContent view (Err (Flawed flaw)) reading = reading ≡ Err flaw
 GivesContent view (Err OutOfMemory) reading = Unit {0}
 
 -- an answer, and what it left in its place: that is what was to be read, or the answer is the flaw
-abbrev pub Leaves : {X : Type 0} → Result (Unit {0}) Flaw → X → Result X Flaw → Type 0
-Leaves result left reading = (result >>= λ done. Ok left) ≡ reading
+abbrev pub GivesInPlace : {X : Type 0} → Result (Unit {0}) Flaw → X → Result X Flaw → Type 0
+GivesInPlace result left reading = (result >>= λ done. Ok left) ≡ reading
 
 -- what a text in JSON stands for, where it stands for something
 abbrev pub or_json : Option Data → Result Data Flaw

@@ -1,7 +1,7 @@
 //! What a cell does, by its line.
 ghost use Rattle.std.specs.Prelude.{Ok};
 ghost use Rattle.scenario_lines.specs.CellActs.{as_act, done_in};
-ghost use Rattle.scenario_lines.specs.Flaws.{Leaves};
+ghost use Rattle.scenario_lines.specs.Flaws.{GivesInPlace};
 ghost use Rattle.scenario_lines.specs.Places.{object_of};
 ghost use Rattle.scenario_lines.specs.declared.act.Act.TheVariants.{Evacuate};
 
@@ -22,7 +22,7 @@ use cell_rep::CellAct;
 
 /// What a cell does, written to its place.
 pub(crate) fn done_into(op: CellOp, members: &Members<'_>, act: &mut Act) -> Result<(), Flaw>
-    ensures { Leaves result act.new (done_in op (object_of members.now.object.now)) }
+    ensures { GivesInPlace result act.new (done_in op (object_of members.now.object.now)) }
 {
     match op {
         CellOp::Join => put(join::join_in(members), act),
@@ -43,14 +43,14 @@ pub(crate) fn done_into(op: CellOp, members: &Members<'_>, act: &mut Act) -> Res
 
 // What a cell's rep does by itself.
 fn put(done: Result<CellAct, Flaw>, act: &mut Act) -> Result<(), Flaw>
-    ensures { Leaves result act.new (as_act done) }
+    ensures { GivesInPlace result act.new (as_act done) }
 {
     *act = Act::Cell(done?);
     Ok(())
 }
 
 fn evacuate(act: &mut Act) -> Result<(), Flaw>
-    ensures { Leaves result act.new (Ok Evacuate) }
+    ensures { GivesInPlace result act.new (Ok Evacuate) }
 {
     *act = Act::Evacuate;
     Ok(())

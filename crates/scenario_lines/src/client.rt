@@ -1,6 +1,6 @@
 //! What a client asks of the board, by its line.
 ghost use Rattle.scenario_lines.specs.ClientActs.{asked_in};
-ghost use Rattle.scenario_lines.specs.Flaws.{Leaves};
+ghost use Rattle.scenario_lines.specs.Flaws.{GivesInPlace};
 ghost use Rattle.scenario_lines.specs.Places.{object_of};
 
 mod desire;
@@ -17,7 +17,7 @@ use crate::members::Members;
 
 /// What a client asks. It is written to its place: each form of it has room for the longest.
 pub(crate) fn asked_into(op: ClientOp, members: &Members<'_>, act: &mut Act) -> Result<(), Flaw>
-    ensures { Leaves result act.new (asked_in op (object_of members.now.object.now)) }
+    ensures { GivesInPlace result act.new (asked_in op (object_of members.now.object.now)) }
 {
     match op {
         ClientOp::Desire => desire::desire_in(members, act),

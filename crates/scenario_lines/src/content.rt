@@ -1,13 +1,10 @@
 //! What a line says.
-ghost use Rattle.std.specs.Prelude.{◌≡◌};
-ghost use Rattle.scenario_lines.specs.Outlines.{content_with};
-
 use crate::act::{Act, Loss};
 use crate::actor::Actor;
 use crash_backoff::Moment;
 use diego_names::{List, Name};
 
-/// What a line says.
+/// What a line says. Definitions speak of it; the code has it in two parts, an [`Outline`] and an act.
 #[derive(Debug, Drop)]
 pub enum Content {
     /// A phase begins.
@@ -48,24 +45,6 @@ pub struct ActHead {
     pub lost: Option<Loss>,
     /// From 1 to 1,000.
     pub times: u32,
-}
-
-impl Outline {
-    /// What the line says whose actor, if it has one, does this.
-    pub(crate) fn with(self, act: Act) -> Content
-        ensures { result ≡ content_with act self }
-    {
-        match self {
-            Outline::Phase(at) => Content::Phase(at),
-            Outline::Acts(head) => Content::Acts(ActLine {
-                actor: head.actor,
-                act,
-                lost: head.lost,
-                times: head.times,
-            }),
-            Outline::Round(losses) => Content::Round(losses),
-        }
-    }
 }
 
 /// The cells to which calls of a round are lost, or from which replies are. Names of no cell

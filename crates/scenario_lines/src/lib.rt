@@ -29,5 +29,5 @@ pub use answered::Answered;
 pub use content::{ActHead, ActLine, Content, Losses, Outline};
 pub use flaw::{Flaw, LineError};
 pub use laws::acts_fit_their_actors;
-pub use line::{read_line, read_outline};
+pub use line::read_outline;
 pub use script::{Line, Phase, RoundLine, Script};

@@ -11,7 +11,7 @@ use crate::act::Act;
 use crate::actor::Actor;
 use crate::cell::done_into;
 use crate::client::asked_into;
-use crate::content::{ActHead, Content, Outline};
+use crate::content::{ActHead, Outline};
 use crate::flaw::{Flaw, LineError};
 use crate::form::{CellOp, ClientOp, Form};
 use crate::json::json_of;
@@ -24,15 +24,6 @@ use crate::values::{lost_in, number_in, times_in};
 use crash_backoff::Moment;
 use serde_json::Value;
 use std::alloc::Global;
-
-/// Reads the bytes of one line, without its newline.
-pub fn read_line(alloc: Global, line: &[u8]) -> Result<Content, LineError>
-    ensures { GivesContent (λ content. content) result (content_of line.now) }
-{
-    let mut act = Act::Evacuate;
-    let outline = read_outline(alloc, line, &mut act)?;
-    Ok(outline.with(act))
-}
 
 /// Reads the bytes of one line, without its newline. What an actor does is written to `act`; other lines may
 /// leave something there.

@@ -1,6 +1,6 @@
 //! `desire`: a client wants a process to run.
 ghost use Rattle.scenario_lines.specs.ClientActs.{as_ask, desire_said};
-ghost use Rattle.scenario_lines.specs.Flaws.{Leaves};
+ghost use Rattle.scenario_lines.specs.Flaws.{GivesInPlace};
 ghost use Rattle.scenario_lines.specs.Places.{object_of};
 
 use crate::act::Act;
@@ -14,7 +14,7 @@ use lrp_records::Desired;
 
 #[tactic(auto, unfolding(crate::specs::ClientActs::desire_said))]
 pub(crate) fn desire_in(members: &Members<'_>, act: &mut Act) -> Result<(), Flaw>
-    ensures { Leaves result act.new (as_ask (desire_said (object_of members.now.object.now))) }
+    ensures { GivesInPlace result act.new (as_ask (desire_said (object_of members.now.object.now))) }
 {
     *act = Act::Client(Op::Desire {
         desired: Desired {

@@ -1,6 +1,6 @@
 //! `restart`: a client has a crashed instance tried again.
 ghost use Rattle.scenario_lines.specs.ClientActs.{as_ask, restart_in};
-ghost use Rattle.scenario_lines.specs.Flaws.{Leaves};
+ghost use Rattle.scenario_lines.specs.Flaws.{GivesInPlace};
 ghost use Rattle.scenario_lines.specs.Places.{object_of};
 
 use crate::act::Act;
@@ -11,7 +11,7 @@ use bbs_model::Op;
 
 #[tactic(auto, unfolding(crate::specs::ClientActs::restart_in))]
 pub(crate) fn restart_in(members: &Members<'_>, act: &mut Act) -> Result<(), Flaw>
-    ensures { Leaves result act.new (as_ask (restart_in (object_of members.now.object.now))) }
+    ensures { GivesInPlace result act.new (as_ask (restart_in (object_of members.now.object.now))) }
 {
     *act = Act::Client(Op::Restart {
         key: key_in(members)?,

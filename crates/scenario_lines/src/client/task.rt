@@ -1,6 +1,6 @@
 //! `task`: a client wants a task to run once.
 ghost use Rattle.scenario_lines.specs.ClientActs.{as_ask, task_said};
-ghost use Rattle.scenario_lines.specs.Flaws.{Leaves};
+ghost use Rattle.scenario_lines.specs.Flaws.{GivesInPlace};
 ghost use Rattle.scenario_lines.specs.Places.{object_of};
 
 use crate::act::Act;
@@ -13,7 +13,7 @@ use bbs_model::Op;
 
 #[tactic(auto, unfolding(crate::specs::ClientActs::task_said))]
 pub(crate) fn task_in(members: &Members<'_>, act: &mut Act) -> Result<(), Flaw>
-    ensures { Leaves result act.new (as_ask (task_said (object_of members.now.object.now))) }
+    ensures { GivesInPlace result act.new (as_ask (task_said (object_of members.now.object.now))) }
 {
     *act = Act::Client(Op::NewTask {
         name: name_in(members, Member::Name)?,

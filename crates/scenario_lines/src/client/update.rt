@@ -1,6 +1,6 @@
 //! `update`: a client wants a process in so many instances, with this route and port.
 ghost use Rattle.scenario_lines.specs.ClientActs.{as_ask, update_in};
-ghost use Rattle.scenario_lines.specs.Flaws.{Leaves};
+ghost use Rattle.scenario_lines.specs.Flaws.{GivesInPlace};
 ghost use Rattle.scenario_lines.specs.Places.{object_of};
 
 use crate::act::Act;
@@ -13,7 +13,7 @@ use bbs_model::Op;
 
 #[tactic(auto, unfolding(crate::specs::ClientActs::update_in))]
 pub(crate) fn update_in(members: &Members<'_>, act: &mut Act) -> Result<(), Flaw>
-    ensures { Leaves result act.new (as_ask (update_in (object_of members.now.object.now))) }
+    ensures { GivesInPlace result act.new (as_ask (update_in (object_of members.now.object.now))) }
 {
     *act = Act::Client(Op::Update {
         process: name_in(members, Member::Process)?,
