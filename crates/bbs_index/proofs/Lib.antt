@@ -5,5 +5,6 @@ pub mod Boards
 pub mod Numbers
 pub mod Numbering
 pub mod Ordering
+pub mod Filtering
 pub mod Gone
 pub mod Reading

@@ -23,8 +23,11 @@ AreBelow-more n numbers more are is =
     (subst (λ ms. IsPermutation ms (numbers ++ n ∷ [])) (sym (range_more 0 n n (omega arith))) (IsPermutation-append_left (n ∷ []) (range_with_len 0 n) numbers are))
 
 -- they are as many as the count
+pub AreBelow-length : (n : ℕ) (numbers : List ℕ) → AreBelow n numbers → length numbers ≡ n
+AreBelow-length n numbers are = length_permutation (range_with_len 0 n) numbers are ∙ length-range_with_len 0 n
+
 pub AreBelow-order : (n : ℕ) (numbers : List ℕ) → AreBelow n numbers → IsOrder numbers
-AreBelow-order n numbers are = subst (λ m. AreBelow m numbers) (sym (length_permutation (range_with_len 0 n) numbers are ∙ length-range_with_len 0 n)) are
+AreBelow-order n numbers are = subst (λ m. AreBelow m numbers) (sym (AreBelow-length n numbers are)) are
 
 fronts : {X : Type 0} (rows : List X) (n : ℕ) → n ≤ length rows → AreNumbered rows (range_with_len 0 n) (take n rows)
 fronts rows zero le = refl

@@ -1,5 +1,5 @@
 //! An order of a shelf's rows by their numbers, which is begun with when they are ordered again.
-ghost use Rattle.std.specs.Prelude.{◌≡◌, ◌≤◌, ◌<◌, ◌^◌, [], length, slice_get, vec_len, vec_capacity, OnOk, IsOk};
+ghost use Rattle.std.specs.Prelude.{◌≡◌, ◌≤◌, ◌<◌, ◌^◌, [], length, filter, nat_lt, slice_get, vec_len, vec_capacity, OnOk, IsOk};
 ghost use Rattle.std.specs.List.Sorted.{IsPermutation, IsSortedByKey};
 ghost use Rattle.std.specs.Option.{option_cmp};
 ghost use Rattle.bbs_index.specs.Order.{AreBelow, IsOrder};
@@ -9,8 +9,9 @@ use bbs_model::Rowed;
 use std::alloc::{AllocError, Global};
 use std::marker::Model;
 
-/// The numbers of some rows in the order that these had when they were last ordered. Rows that came since
-/// are put behind it, so that the next order costs little more than they do.
+/// The numbers of some rows in the order that these had when they were last ordered. The next order begins
+/// with it: numbers that no row has any more go, and those of rows that came since are put behind it, so
+/// that it costs little more than these rows do.
 #[derive(Drop)]
 pub struct Order {
     numbers: Vec<u32>,
@@ -27,15 +28,14 @@ impl Model for Order {
     ghost invariant = { λ a. IsOrder a.numbers.items };
 }
 
-// Takes the numbers away where there are more than so many.
-fn clear_longer(numbers: &mut Vec<u32>, count: u32)
+// Takes the numbers away that are not below the count. Those that stay keep their order.
+fn keep_below(numbers: &mut Vec<u32>, count: u32)
     requires { IsOrder numbers.old.items }
-    ensures order { IsOrder numbers.new.items }
-    ensures few { vec_len numbers.new ≤ count }
+    ensures items { numbers.new.items ≡ filter (λ number. nat_lt number count) numbers.old.items }
     ensures capacity { vec_capacity numbers.new ≡ vec_capacity numbers.old }
 {
     if (count as usize) < numbers.len() {
-        numbers.clear();
+        numbers.retain(|number| *number < count);
     }
 }
 
@@ -52,7 +52,7 @@ fn push_lacking(numbers: &mut Vec<u32>, count: u32)
     }
 }
 
-// The numbers of these keys in their order, begun with the order that is there where it has no more numbers.
+// The numbers of these keys in their order, begun with the order that is there.
 fn order_numbers<X: Rowed>(keys: &[X::Key], numbers: &mut Vec<u32>)
     requires order { IsOrder numbers.old.items }
     requires few { length keys.now < 2 ^ 32 }
@@ -62,7 +62,7 @@ fn order_numbers<X: Rowed>(keys: &[X::Key], numbers: &mut Vec<u32>)
     ensures capacity { vec_capacity numbers.new ≡ vec_capacity numbers.old }
 {
     let count = keys.len() as u32;
-    clear_longer(numbers, count);
+    keep_below(numbers, count);
     push_lacking(numbers, count);
     sort_numbers::<X>(keys, numbers);
 }

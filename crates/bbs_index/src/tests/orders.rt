@@ -114,6 +114,11 @@ fn an_order_follows_rows_that_go(rt: HostRuntime) -> Result<(), Fail> {
     assert!(rt; is_put_in(alloc, &shelf, &mut order, &[1, 2])?);
     add(&mut shelf, 0)?;
     assert!(rt; is_put_in(alloc, &shelf, &mut order, &[0, 1, 2])?);
+    shelf.remove(&1);
+    shelf.remove(&2);
+    assert!(rt; is_put_in(alloc, &shelf, &mut order, &[0])?);
+    shelf.remove(&0);
+    assert!(rt; is_put_in(alloc, &shelf, &mut order, &[])?);
     Ok(())
 }
 
