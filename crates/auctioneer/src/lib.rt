@@ -25,6 +25,3 @@ pub use laws::{
 pub use placement::Placement;
 pub use scan::scan_auction;
 pub use stand::Stand;
-
-#[cfg(test)]
-mod tests;

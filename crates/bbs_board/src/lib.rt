@@ -28,6 +28,3 @@ pub use laws::{
 };
 pub use loading::load;
 pub use memory_loading::load_from_memory;
-
-#[cfg(test)]
-mod tests;

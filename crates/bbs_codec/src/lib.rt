@@ -17,6 +17,3 @@ pub use laws::{
 };
 pub use reading::read_command;
 pub use writing::write_command;
-
-#[cfg(test)]
-mod tests;

@@ -15,6 +15,3 @@ mod wanted;
 pub use index::Index;
 pub use order::Order;
 pub use shelf::Shelf;
-
-#[cfg(test)]
-mod tests;

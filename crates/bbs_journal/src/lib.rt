@@ -38,6 +38,3 @@ pub use memory_loading::load_from_memory;
 pub use other_gate::OtherGate;
 pub use preparing::{PrepareFault, prepare, what_is_prepared_is_opened};
 pub use waiting::Waiting;
-
-#[cfg(test)]
-mod tests;

@@ -15,6 +15,3 @@ pub use at_desk::AtDesk;
 pub use origin::Origin;
 pub use port::SharedPort;
 pub use shared_board::{BoardPass, SharedBoard};
-
-#[cfg(test)]
-mod tests;

@@ -4,6 +4,3 @@
 mod switching;
 
 pub use switching::switch;
-
-#[cfg(test)]
-mod tests;

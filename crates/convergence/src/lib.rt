@@ -22,6 +22,3 @@ pub use sorted::find_sorted;
 pub use steps::Steps;
 pub use straying::strays;
 pub use working::work_of;
-
-#[cfg(test)]
-mod tests;

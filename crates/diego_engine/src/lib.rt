@@ -7,6 +7,3 @@ mod top;
 pub use in_memory::diego_top_in_memory;
 pub use program_edge::TopEnd;
 pub use top::diego_top;
-
-#[cfg(test)]
-mod tests;

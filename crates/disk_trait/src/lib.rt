@@ -15,6 +15,3 @@ pub use disk::Disk;
 pub use image::Torn;
 pub use memory_disk::MemoryDisk;
 pub use meter::Meter;
-
-#[cfg(test)]
-mod tests;

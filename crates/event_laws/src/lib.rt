@@ -9,6 +9,3 @@ pub use laws::{
     commands_change_their_own_rows, due_events_say_so, events_lead_along, events_show,
     events_tell_all, what_is_over_stays_over,
 };
-
-#[cfg(test)]
-mod tests;

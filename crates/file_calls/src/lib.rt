@@ -24,6 +24,3 @@ pub use laws::the_answers_of_the_model_are_believed;
 pub use memory_calls::MemoryCalls;
 pub use mishap::{Mishap, MishapKind};
 pub use record::Record;
-
-#[cfg(test)]
-mod tests;

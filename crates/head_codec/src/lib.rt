@@ -18,6 +18,3 @@ pub use laws::{
 };
 pub use reading::read_head;
 pub use writing::{Counts, ROW_BYTES, append_front, append_row, write_head};
-
-#[cfg(test)]
-mod tests;

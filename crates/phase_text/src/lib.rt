@@ -11,6 +11,3 @@ mod telling;
 pub use laws::rows_stand_in_order;
 pub use sorting::{answers_by_line, events_by_key};
 pub use telling::phase_text;
-
-#[cfg(test)]
-mod tests;

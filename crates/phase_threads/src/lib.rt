@@ -13,6 +13,3 @@ mod rooms;
 mod with_round;
 
 pub use phases::run_phase;
-
-#[cfg(test)]
-mod tests;

@@ -19,6 +19,3 @@ pub use runs::{run, run_all};
 pub use step::{apply, decide};
 pub use two_calls::call_twice;
 pub use working::work_of;
-
-#[cfg(test)]
-mod tests;

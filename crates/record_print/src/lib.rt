@@ -23,6 +23,3 @@ pub use spelled::{job_text, subject_text};
 pub use summary::{Summary, summary_text};
 pub use why::{rep_why_text, why_text};
 pub use word::{act_word, call_word};
-
-#[cfg(test)]
-mod tests;

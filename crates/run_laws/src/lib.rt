@@ -4,6 +4,3 @@
 mod laws;
 
 pub use laws::{answers_of_actors_stand, items_are_answered, played_runs_are_faithful};
-
-#[cfg(test)]
-mod tests;

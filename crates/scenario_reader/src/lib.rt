@@ -7,8 +7,6 @@ mod fault;
 mod open_phase;
 mod reader;
 mod reading;
-#[cfg(test)]
-mod tests;
 mod text_lines;
 
 pub use fault::ScriptFault;

@@ -10,6 +10,3 @@ mod summing;
 mod telling;
 
 pub use playing::{Played, play};
-
-#[cfg(test)]
-mod tests;

@@ -13,6 +13,3 @@ mod words;
 pub use records::records_text;
 pub use still::still_top;
 pub use words::{Asked, read_words};
-
-#[cfg(test)]
-mod tests;
