@@ -1,19 +1,17 @@
 //! What no clause says: that boards over a disk in memory are loaded, stored to and found again, and with
 //! which answers. The program's own stored run does it over files.
-mod bytes;
 mod calls;
 mod defects;
 mod failing;
 mod heads;
 mod stops;
 
-use super::*;
+use crate::asserts::{are_bytes, holds, is_end, is_number};
+use crate::bytes::{EMPTY, STORED};
+use crate::making::{Opened, at, disk_of, found_in, loaded, wanted};
+use bbs_board::{Board, Closed, prepare};
 use bbs_model::{BoardRefusal, CallFault, Command, Item, Op, Reply, Rows};
-use bytes::{EMPTY, STORED};
-use crash_backoff::Moment;
-use diego_names::Name;
 use disk_trait::{Area, Disk, MemoryDisk};
-use lrp_records::Desired;
 use std::alloc::Global;
 use std::process::Abort;
 use std::test::Fail;
@@ -26,38 +24,8 @@ fn desire() -> Result<Command, Fail> {
 }
 
 fn desire_of(process: &[u8]) -> Result<Command, Fail> {
-    let desired = Desired {
-        process: Name::read(process)?,
-        domain: Name::read(b"apps")?,
-        instances: 3,
-        memory: 64,
-        disk: 128,
-        tag: None,
-        route: None,
-        port: 8080,
-    };
-    Ok(Command {
-        now: Moment(0),
-        op: Op::Desire { desired },
-    })
-}
-
-// A disk in memory of these bytes, of which these calls fail.
-fn disk_of(alloc: Global, a: &[u8], b: &[u8], failing: &[u64]) -> Result<MemoryDisk, Fail> {
-    let a = a.to_vec(alloc)?;
-    let b = b.to_vec(alloc)?;
-    Ok(MemoryDisk::new(alloc, a, b, failing.to_vec(alloc)?))
-}
-
-// The board of a disk that must hold one.
-fn loaded<D: Disk + Drop>(alloc: Global, disk: D) -> Result<Board<D>, Fail> {
-    match load(alloc, disk) {
-        Ok(board) => Ok(board),
-        Err((_, fault)) => {
-            let failed: Result<Board<D>, LoadFault> = Err(fault);
-            Ok(failed?)
-        }
-    }
+    let desired = wanted(process, b"apps", 3)?;
+    Ok(at(0, Op::Desire { desired }))
 }
 
 // A call of an actor, and how it has to end.
@@ -80,7 +48,7 @@ fn refused(why: BoardRefusal, place: u64) -> Result<Reply, CallFault> {
 
 fn call_all<D: Disk>(rt: &impl Abort, board: &mut Board<D>, steps: &[Step]) {
     for step in steps {
-        assert_eq!(rt; board.call(step.by, step.command), step.end);
+        is_end(rt, board.call(step.by, step.command), step.end);
     }
 }
 
@@ -97,26 +65,27 @@ fn play<D: Disk + Drop>(
     Ok((disk, log, marks))
 }
 
-fn rows_in(alloc: Global, board: &Board<MemoryDisk>) -> Result<Rows, Fail> {
-    Ok(board.rows(alloc)?)
-}
-
 // The rows of the board of these areas.
 fn rows_of(alloc: Global, a: &[u8], b: &[u8]) -> Result<Rows, Fail> {
-    let board = loaded(alloc, disk_of(alloc, a, b, &[])?)?;
-    rows_in(alloc, &board)
+    let Opened { kept: _, rows } = found_in(alloc, a, b)?;
+    Ok(rows)
 }
 
-// Prepares a disk, has the desire stored on it, and gives it back.
-fn begin<D: Disk + Drop>(rt: &impl Abort, alloc: Global, mut disk: D) -> Result<D, Fail> {
-    assert_eq!(rt; prepare(&mut disk), Ok(()));
+// Has the desire of an actor stored on a disk, and gives it back.
+fn stored<D: Disk + Drop>(rt: &impl Abort, alloc: Global, disk: D, by: u32) -> Result<D, Fail> {
     let step = Step {
-        by: 1,
+        by,
         command: desire()?,
         end: done(0, 0),
     };
     let (disk, _log, _marks) = play(rt, alloc, disk, &[step])?;
     Ok(disk)
+}
+
+// The same on a disk that is prepared first.
+fn begin<D: Disk + Drop>(rt: &impl Abort, alloc: Global, mut disk: D) -> Result<D, Fail> {
+    holds(rt, prepare(&mut disk).is_ok());
+    stored(rt, alloc, disk, 1)
 }
 
 // Loads the disk, which must hold the desire.
@@ -130,15 +99,27 @@ fn find<D: Disk + Drop>(rt: &impl Abort, alloc: Global, disk: D) -> Result<(), F
     Ok(())
 }
 
+fn has_no_rows(rt: &impl Abort, rows: &Rows) {
+    holds(rt, rows.desired.items().is_empty());
+    is_number(rt, rows.next, 0);
+}
+
+// The disk had the calls of a load, and its first area is this.
+fn is_untouched(rt: &impl Abort, disk: &MemoryDisk, area: &[u8]) {
+    is_number(rt, disk.clock(), CALLS);
+    are_bytes(rt, disk.bytes(Area::A), area);
+}
+
+fn has_stored(rt: &impl Abort, disk: &MemoryDisk) {
+    are_bytes(rt, disk.bytes(Area::A), &STORED);
+}
+
 #[test]
 fn a_prepared_board_is_loaded_without_rows(rt: HostRuntime) -> Result<(), Fail> {
     let alloc = rt.alloc();
-    let rows = rows_of(alloc, &EMPTY, b"")?;
-    assert!(rt; rows.desired.items().is_empty());
-    assert_eq!(rt; rows.next, 0);
+    has_no_rows(&rt, &rows_of(alloc, &EMPTY, b"")?);
     let (disk, _log, _marks) = play(&rt, alloc, disk_of(alloc, &EMPTY, b"", &[])?, &[])?;
-    assert_eq!(rt; disk.clock(), CALLS);
-    assert_eq!(rt; disk.bytes(Area::A), EMPTY.as_slice());
+    is_untouched(&rt, &disk, &EMPTY);
     Ok(())
 }
 
@@ -154,6 +135,6 @@ fn a_board_with_a_desire_is_loaded_with_its_row(rt: HostRuntime) -> Result<(), F
 fn the_next_load_finds_what_was_stored(rt: HostRuntime) -> Result<(), Fail> {
     let alloc = rt.alloc();
     let disk = begin(&rt, alloc, disk_of(alloc, b"", b"", &[])?)?;
-    assert_eq!(rt; disk.bytes(Area::A), STORED.as_slice());
+    has_stored(&rt, &disk);
     find(&rt, alloc, disk)
 }

@@ -1,28 +1,23 @@
 //! A board that threads share, by functions over any disk that may be sent to a thread.
 mod sharing;
 
-use bbs_board::{Board, Closed, load, prepare};
-use bbs_model::{BoardRefusal, Command, Item, Op, Reply};
-use crash_backoff::Moment;
-use diego_names::Name;
-use disk_trait::MemoryDisk;
-use lrp_records::Desired;
+use crate::asserts::{holds, is_end};
+use crate::making::{begun, desire, disk_of};
+use bbs_board::{Board, Closed};
+use bbs_model::{BoardRefusal, Item, Reply};
+use disk_trait::{Disk, MemoryDisk};
 use sharing::{called, called_twice};
 use std::alloc::Global;
+use std::process::Abort;
 use std::test::Fail;
 
 // An empty board in memory.
 fn begin(alloc: Global) -> Result<Board<MemoryDisk>, Fail> {
-    let (a, b) = (Vec::new(alloc), Vec::new(alloc));
-    let mut disk = MemoryDisk::new(alloc, a, b, Vec::new(alloc));
-    prepare(&mut disk)?;
-    match load(alloc, disk) {
-        Ok(board) => Ok(board),
-        Err(_) => Err("there is a board")?,
-    }
+    begun(alloc, disk_of(alloc, b"", b"", &[])?)
 }
 
-fn log_of(board: Board<MemoryDisk>) -> Vec<Item> {
+// The log of a board, which is closed.
+fn log_in<D: Disk + Drop>(board: Board<D>) -> Vec<Item> {
     let Closed {
         disk: _,
         log,
@@ -31,51 +26,41 @@ fn log_of(board: Board<MemoryDisk>) -> Vec<Item> {
     log
 }
 
-// A client wants an instance of the process with this name of one letter.
-fn desire(letter: u8) -> Result<Command, Fail> {
-    let process = Name::read(&[letter])?;
-    let desired = Desired {
-        process,
-        domain: process,
-        instances: 1,
-        memory: 64,
-        disk: 128,
-        tag: None,
-        route: None,
-        port: 8080,
-    };
-    Ok(Command {
-        now: Moment(0),
-        op: Op::Desire { desired },
-    })
+fn is_in_some_order(rt: &impl Abort, log: &[Item], a: Item, b: Item) {
+    holds(rt, log == [a, b].as_slice() || log == [b, a].as_slice());
 }
 
 #[test]
 fn two_threads_desire_a_process_each(rt: HostRuntime) -> Result<(), Fail> {
-    let commands = [desire(b'a')?, desire(b'b')?];
+    let commands = [desire(b'a', 1)?, desire(b'b', 1)?];
     let board = called(&rt, rt.alloc(), begin(rt.alloc())?, &commands).ok_or("out of memory")?;
-    let log = log_of(board);
-    let [a, b] = [Item::Done(1, commands[0]), Item::Done(2, commands[1])];
-    assert!(rt; log.as_slice() == [a, b].as_slice() || log.as_slice() == [b, a].as_slice());
+    let log = log_in(board);
+    is_in_some_order(
+        &rt,
+        &log,
+        Item::Done(1, commands[0]),
+        Item::Done(2, commands[1]),
+    );
     Ok(())
 }
 
 #[test]
 fn a_board_that_nobody_called_comes_back_as_it_was(rt: HostRuntime) -> Result<(), Fail> {
     let board = called(&rt, rt.alloc(), begin(rt.alloc())?, &[]).ok_or("out of memory")?;
-    assert!(rt; log_of(board).is_empty());
+    let log = log_in(board);
+    holds(&rt, log.is_empty());
     Ok(())
 }
 
 #[test]
 fn who_met_the_first_is_refused_behind_its_item(rt: HostRuntime) -> Result<(), Fail> {
-    let commands = [desire(b'a')?];
+    let commands = [desire(b'a', 1)?];
     let board = begin(rt.alloc())?;
     let answer = called_twice(&rt, rt.alloc(), board, &commands).ok_or("out of memory")?;
     let refused = Ok(Reply::Refused {
         why: BoardRefusal::Exists,
         place: 1,
     });
-    assert_eq!(rt; answer, refused);
+    is_end(&rt, answer, refused);
     Ok(())
 }

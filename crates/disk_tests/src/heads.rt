@@ -1,6 +1,4 @@
+//! What no clause says of heads: their bytes, written out by hand, and full tables.
+mod all_tables;
 mod bad_heads;
 mod full_tables;
-mod heads;
-
-use super::*;
-use bbs_codec::CodecFault;

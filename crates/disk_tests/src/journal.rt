@@ -1,4 +1,8 @@
+//! What no clause says of a journal: its bytes, its device calls, and what a load finds. What owns a journal is
+//! written over any disk, and a disk in memory is lent to what looks at it.
 ghost use Rattle.std.specs.Prelude.{◌≡◌, false, IfOk};
+ghost use Rattle.bbs_journal.specs.Frames.{IsPayload};
+ghost use Rattle.bbs_journal.specs.View.{IsCalm};
 ghost use Rattle.bbs_journal.specs.declared.waiting.Waiting.TheVariants.{Nothing};
 
 mod failing;
@@ -8,8 +12,9 @@ mod preparing;
 mod stops;
 mod switching;
 
-use super::*;
-use disk_trait::{Area, Disk, MemoryDisk};
+use crate::asserts::{are_bytes, are_bytes_at, holds, is_number};
+use bbs_journal::{Journal, LoadFault, Loaded, load, load_from_memory};
+use disk_trait::{Area, Disk, MemoryDisk, Torn};
 use std::alloc::Global;
 use std::process::Abort;
 use std::test::Fail;
@@ -36,105 +41,179 @@ const ONE: [u8; 7] = [1, 0, 3, 111, 110, 101, 0];
 
 const TWO: [u8; 7] = [1, 0, 3, 116, 119, 111, 0];
 
-fn disk_of(alloc: Global, a: &[u8], b: &[u8], failing: &[u64]) -> Result<MemoryDisk, Fail> {
+/// A disk in memory of these bytes, of which these calls fail.
+pub fn disk_of(alloc: Global, a: &[u8], b: &[u8], failing: &[u64]) -> Result<MemoryDisk, Fail> {
     let a = a.to_vec(alloc)?;
     let b = b.to_vec(alloc)?;
     Ok(MemoryDisk::new(alloc, a, b, failing.to_vec(alloc)?))
 }
 
-fn empty_journal(
+fn empty_disk(alloc: Global, failing: &[u64]) -> Result<MemoryDisk, Fail> {
+    disk_of(alloc, &EMPTY, &[], failing)
+}
+
+/// The journal of this disk, which has no defect.
+pub fn journal_on<D: Disk + Drop>(
     rt: &impl Abort,
     alloc: Global,
-    failing: &[u64],
-) -> Result<Journal<MemoryDisk>, Fail>
-    ensures { IfOk result (λ j.
-        (j.frames ≡ 0) × (j.waiting ≡ Nothing) × (j.broken ≡ false)) }
+    disk: D,
+) -> Result<Journal<D>, Fail>
+    ensures { IfOk result IsCalm }
 {
-    match load(alloc, disk_of(alloc, &EMPTY, &[], failing)?) {
+    match load(alloc, disk) {
         Ok(loaded) => {
-            assert!(rt; loaded.broken.is_none());
-            assert!(rt; loaded.journal.frames() == 0);
-            assert_eq!(rt; loaded.journal.clock(), CALLS);
+            holds(rt, loaded.broken.is_none());
             Ok(loaded.journal)
         }
         Err((_, fault)) => {
-            let failed: Result<Journal<MemoryDisk>, LoadFault> = Err(fault);
+            let failed: Result<Journal<D>, LoadFault> = Err(fault);
             Ok(failed?)
         }
     }
 }
 
-// How many frames are read, and the place of the defect behind them.
-fn opened(
+// The journal of the empty board on this disk.
+fn empty_journal<D: Disk + Drop>(
+    rt: &impl Abort,
     alloc: Global,
-    a: &[u8],
-    b: &[u8],
-) -> Result<Result<(usize, Option<u64>), LoadFault>, Fail> {
+    disk: D,
+) -> Result<Journal<D>, Fail>
+    ensures { IfOk result (λ j.
+        (j.frames ≡ 0) × (j.waiting ≡ Nothing) × (j.broken ≡ false)) }
+{
+    let journal = journal_on(rt, alloc, disk)?;
+    is_number(rt, journal.frames(), 0);
+    is_number(rt, journal.clock(), CALLS);
+    Ok(journal)
+}
+
+// How many frames are read, and the place of the defect behind them.
+type Read = Result<(usize, Option<u64>), LoadFault>;
+
+fn is_opened(rt: &impl Abort, row: u64, got: Read, wanted: Read) {
+    assert_eq!(rt; got, wanted, "at {row}");
+}
+
+fn opened(alloc: Global, a: &[u8], b: &[u8]) -> Result<Read, Fail> {
     match load_from_memory(alloc, disk_of(alloc, a, b, &[])?) {
         Ok(loaded) => Ok(Ok((loaded.frames.len(), loaded.broken))),
         Err((_, fault)) => Ok(Err(fault)),
     }
 }
 
-// The payloads that these areas hold, with a blank behind each. No defect stands behind them.
-fn held(rt: &impl Abort, alloc: Global, a: &[u8], b: &[u8]) -> Result<Vec<u8>, Fail> {
+// The payloads that were loaded, with a blank behind each. No defect stands behind them.
+fn text_of<D: Disk>(rt: &impl Abort, alloc: Global, loaded: &Loaded<D>) -> Result<Vec<u8>, Fail> {
+    holds(rt, loaded.broken.is_none());
     let mut text = Vec::new(alloc);
-    match load(alloc, disk_of(alloc, a, b, &[])?) {
-        Ok(loaded) => {
-            assert!(rt; loaded.broken.is_none());
-            for frame in &loaded.frames {
-                text.extend_from_slice(frame)?;
-                text.push(b' ')?;
-            }
-        }
-        Err((_, fault)) => {
-            let failed: Result<Vec<u8>, LoadFault> = Err(fault);
-            return Ok(failed?);
-        }
+    for frame in &loaded.frames {
+        text.extend_from_slice(frame)?;
+        text.push(b' ')?;
     }
     Ok(text)
 }
 
+fn held_on<D: Disk + Drop>(rt: &impl Abort, alloc: Global, disk: D) -> Result<Vec<u8>, Fail> {
+    match load(alloc, disk) {
+        Ok(loaded) => text_of(rt, alloc, &loaded),
+        Err((_, fault)) => {
+            let failed: Result<Vec<u8>, LoadFault> = Err(fault);
+            Ok(failed?)
+        }
+    }
+}
+
+// The text of the payloads that these areas hold.
+fn held(rt: &impl Abort, alloc: Global, a: &[u8], b: &[u8]) -> Result<Vec<u8>, Fail> {
+    held_on(rt, alloc, disk_of(alloc, a, b, &[])?)
+}
+
+// A stop within that call leaves these payloads.
+fn leaves(
+    rt: &impl Abort,
+    alloc: Global,
+    disk: &MemoryDisk,
+    (call, torn): (u64, Torn),
+    want: &[u8],
+) -> Result<(), Fail> {
+    holds(rt, call <= disk.clock());
+    let (a, b) = disk.image(alloc, call, torn)?;
+    let text = held(rt, alloc, &a, &b)?;
+    are_bytes_at(rt, call, &text, want);
+    Ok(())
+}
+
+// The disk of the empty board, to which this payload was appended.
+fn appended<D: Disk + Drop>(
+    rt: &impl Abort,
+    alloc: Global,
+    disk: D,
+    payload: &[u8],
+) -> Result<D, Fail>
+    requires { IsPayload payload.now }
+{
+    let mut journal = empty_journal(rt, alloc, disk)?;
+    holds(rt, journal.append(payload).is_ok());
+    Ok(journal.into_disk())
+}
+
+// The same, of a payload of three bytes, by four device calls.
+fn appended_three<D: Disk + Drop>(rt: &impl Abort, alloc: Global, disk: D) -> Result<D, Fail> {
+    let mut journal = empty_journal(rt, alloc, disk)?;
+    holds(rt, journal.append(b"one").is_ok());
+    is_number(rt, journal.frames(), 1);
+    is_number(rt, journal.end(), 53);
+    is_number(rt, journal.clock(), CALLS + 4);
+    holds(rt, journal.area() == Area::A);
+    is_number(rt, journal.generation(), 1);
+    Ok(journal.into_disk())
+}
+
+/// An area of these bytes up to a place, and those behind it.
+pub fn is_cut(rt: &impl Abort, area: &[u8], place: usize, front: &[u8], rest: &[u8]) {
+    let (before, behind) = area.split_at(place.min(area.len()));
+    are_bytes(rt, before, front);
+    are_bytes(rt, behind, rest);
+}
+
+fn has_one_frame(rt: &impl Abort, disk: &MemoryDisk) {
+    is_cut(rt, disk.bytes(Area::A), 47, &EMPTY[..47], &ONE);
+    holds(rt, disk.bytes(Area::B).is_empty());
+}
+
 #[test]
 fn a_frame_is_a_gate_a_length_and_a_payload(rt: HostRuntime) -> Result<(), Fail> {
-    let mut journal = empty_journal(&rt, rt.alloc(), &[])?;
-    assert_eq!(rt; journal.append(b"one"), Ok(()));
-    assert_eq!(rt; journal.frames(), 1);
-    assert_eq!(rt; journal.end(), 53);
-    assert_eq!(rt; journal.clock(), CALLS + 4);
-    assert_eq!(rt; journal.area(), Area::A);
-    assert_eq!(rt; journal.generation(), 1);
-    let disk = journal.into_disk();
-    assert_eq!(rt; disk.bytes(Area::A).get(..47), EMPTY.get(..47));
-    assert_eq!(rt; disk.bytes(Area::A).get(47..), Some(ONE.as_slice()));
-    assert!(rt; disk.bytes(Area::B).is_empty());
+    let alloc = rt.alloc();
+    let disk = appended_three(&rt, alloc, empty_disk(alloc, &[])?)?;
+    has_one_frame(&rt, &disk);
+    Ok(())
+}
+
+fn is_desired(rt: &impl Abort, alloc: Global, area: &[u8]) -> Result<(), Fail> {
+    are_bytes(rt, area, &DESIRED);
+    let mut text = held(rt, alloc, &DESIRED, &[])?;
+    holds(rt, text.pop() == Some(b' '));
+    are_bytes(rt, &text, &DESIRED[50..80]);
     Ok(())
 }
 
 #[test]
 fn one_desire_makes_an_area_of_81_bytes(rt: HostRuntime) -> Result<(), Fail> {
     let alloc = rt.alloc();
-    let mut journal = empty_journal(&rt, alloc, &[])?;
-    assert_eq!(rt; journal.append(&DESIRED[50..80]), Ok(()));
-    let disk = journal.into_disk();
-    assert_eq!(rt; disk.bytes(Area::A), DESIRED.as_slice());
-    assert_eq!(rt;
-        held(&rt, alloc, &DESIRED, &[])?.strip_suffix(b" "),
-        DESIRED.get(50..80)
-    );
+    let disk = appended(&rt, alloc, empty_disk(alloc, &[])?, &DESIRED[50..80])?;
+    is_desired(&rt, alloc, disk.bytes(Area::A))
+}
+
+fn has_the_longest(rt: &impl Abort, alloc: Global, area: &[u8]) -> Result<(), Fail> {
+    is_number(rt, area.len() as u64, 563);
+    holds(rt, area.get(47..51) == Some([1, 2, 0, 7].as_slice()));
+    holds(rt, area.ends_with(&[7, 0]));
+    is_opened(rt, 0, opened(alloc, area, &[])?, Ok((1, None)));
     Ok(())
 }
 
 #[test]
 fn the_longest_payload_has_512_bytes(rt: HostRuntime) -> Result<(), Fail> {
     let alloc = rt.alloc();
-    let mut journal = empty_journal(&rt, alloc, &[])?;
-    assert_eq!(rt; journal.append(&[7u8; 512]), Ok(()));
-    let disk = journal.into_disk();
-    let bytes = disk.bytes(Area::A);
-    assert_eq!(rt; bytes.len(), 563);
-    assert_eq!(rt; bytes.get(47..51), Some([1, 2, 0, 7].as_slice()));
-    assert!(rt; bytes.ends_with(&[7, 0]));
-    assert_eq!(rt; opened(alloc, bytes, &[])?, Ok((1, None)));
-    Ok(())
+    let disk = appended(&rt, alloc, empty_disk(alloc, &[])?, &[7u8; 512])?;
+    has_the_longest(&rt, alloc, disk.bytes(Area::A))
 }

@@ -1,6 +1,8 @@
-use super::*;
-use byte_ports::Failed;
+//! What no clause says of a disk in memory: that only the listed calls fail, and what is read and left then.
+use crate::asserts::{are_bytes, are_bytes_at, are_told, holds, is_count, is_number};
+use disk_trait::{Area, Disk, MemoryDisk, Torn};
 use std::alloc::Global;
+use std::process::Abort;
 use std::test::Fail;
 
 fn memory(alloc: Global, failing: &[u64]) -> Result<MemoryDisk, Fail> {
@@ -21,6 +23,15 @@ fn six_calls<D: Disk>(disk: &mut D) -> [bool; 6] {
     ]
 }
 
+// Of six calls these succeed, and there are so many faults, none for want of memory.
+fn fails(rt: &impl Abort, disk: &mut MemoryDisk, want: &[bool; 6], faults: u64) {
+    let got = six_calls(disk);
+    are_told(rt, &got, want);
+    is_number(rt, disk.faults(), faults);
+    is_number(rt, disk.clock(), 6);
+    is_number(rt, disk.starved(), 0);
+}
+
 #[test]
 fn the_listed_calls_fail(rt: HostRuntime) -> Result<(), Fail> {
     let table: [(&[u64], [bool; 6], u64); 4] = [
@@ -31,37 +42,58 @@ fn the_listed_calls_fail(rt: HostRuntime) -> Result<(), Fail> {
     ];
     for (failing, want, faults) in table {
         let mut disk = memory(rt.alloc(), failing)?;
-        let got = six_calls(&mut disk);
-        assert_eq!(rt; got.as_slice(), want.as_slice());
-        assert_eq!(rt; disk.faults(), faults);
-        assert_eq!(rt; disk.clock(), 6);
-        assert_eq!(rt; disk.starved(), 0);
+        fails(&rt, &mut disk, &want, faults);
     }
     Ok(())
+}
+
+// The third call fails.
+fn reads_what_it_writes(rt: &impl Abort, disk: &mut MemoryDisk) {
+    holds(rt, disk.write_at(Area::A, 0, b"xyz").is_ok());
+    holds(rt, disk.write_at(Area::B, 0, b"q").is_ok());
+    holds(rt, disk.write_at(Area::A, 0, b"nothing").is_err());
+    are_bytes(rt, disk.bytes(Area::A), b"xyz");
+    are_bytes(rt, disk.bytes(Area::B), b"q");
+}
+
+fn reads_within_the_area(rt: &impl Abort, disk: &mut MemoryDisk) {
+    let mut room = *b"....";
+    is_count(rt, disk.read_at(Area::A, 1, &mut room), Ok(2));
+    are_bytes(rt, &room, b"yz..");
+    is_count(rt, disk.read_at(Area::A, 9, &mut room), Ok(0));
+    holds(rt, disk.sync(Area::A).is_ok());
 }
 
 #[test]
 fn what_is_written_is_read(rt: HostRuntime) -> Result<(), Fail> {
     let mut disk = memory(rt.alloc(), &[3])?;
-    assert!(rt; disk.write_at(Area::A, 0, b"xyz").is_ok());
-    assert!(rt; disk.write_at(Area::B, 0, b"q").is_ok());
-    assert_eq!(rt; disk.write_at(Area::A, 0, b"nothing"), Err(Failed));
-    assert_eq!(rt; disk.bytes(Area::A), b"xyz".as_slice());
-    assert_eq!(rt; disk.bytes(Area::B), b"q".as_slice());
-    let mut room = *b"....";
-    assert_eq!(rt; disk.read_at(Area::A, 1, &mut room), Ok(2));
-    assert_eq!(rt; room.as_slice(), b"yz..".as_slice());
-    assert_eq!(rt; disk.read_at(Area::A, 9, &mut room), Ok(0));
-    assert!(rt; disk.sync(Area::A).is_ok());
+    reads_what_it_writes(&rt, &mut disk);
+    reads_within_the_area(&rt, &mut disk);
     Ok(())
 }
 
-#[test]
-fn a_write_is_pending_until_its_sync(rt: HostRuntime) -> Result<(), Fail> {
-    let mut disk = memory(rt.alloc(), &[])?;
-    assert!(rt; disk.write_at(Area::A, 0, b"xyz").is_ok());
-    assert!(rt; disk.sync(Area::A).is_ok());
-    assert!(rt; disk.write_at(Area::A, 0, b"q").is_ok());
+fn write_over_what_was_synced(rt: &impl Abort, disk: &mut MemoryDisk) {
+    holds(rt, disk.write_at(Area::A, 0, b"xyz").is_ok());
+    holds(rt, disk.sync(Area::A).is_ok());
+    holds(rt, disk.write_at(Area::A, 0, b"q").is_ok());
+}
+
+// A stop within that call leaves these bytes.
+fn leaves(
+    rt: &impl Abort,
+    alloc: Global,
+    disk: &MemoryDisk,
+    (call, torn, want): (u64, Torn, &[u8]),
+) -> Result<(), Fail> {
+    holds(rt, call <= disk.clock());
+    let (a, b) = disk.image(alloc, call, torn)?;
+    are_bytes_at(rt, call, &a, want);
+    holds(rt, b.is_empty());
+    Ok(())
+}
+
+fn is_pending(rt: &impl Abort, alloc: Global, disk: &mut MemoryDisk) -> Result<(), Fail> {
+    write_over_what_was_synced(rt, disk);
     let table: [(u64, Torn, &[u8]); 8] = [
         (0, Torn::New, b"ab"),
         (1, Torn::Old, b"ab"),
@@ -72,11 +104,14 @@ fn a_write_is_pending_until_its_sync(rt: HostRuntime) -> Result<(), Fail> {
         (3, Torn::Old, b"xyz"),
         (3, Torn::Byte(b'.'), b".yz"),
     ];
-    for (call, torn, want) in table {
-        assert!(rt; call <= disk.clock());
-        let (a, b) = disk.image(rt.alloc(), call, torn)?;
-        assert_eq!(rt; a.as_slice(), want, "{torn:?} at {call}");
-        assert!(rt; b.is_empty());
+    for row in table {
+        leaves(rt, alloc, disk, row)?;
     }
     Ok(())
+}
+
+#[test]
+fn a_write_is_pending_until_its_sync(rt: HostRuntime) -> Result<(), Fail> {
+    let mut disk = memory(rt.alloc(), &[])?;
+    is_pending(&rt, rt.alloc(), &mut disk)
 }

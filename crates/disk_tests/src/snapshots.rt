@@ -1,10 +1,9 @@
 //! What no clause says: which bytes a switch makes, with how many calls, and that a journal may go there and
-//! back. The steps alone, with a stop in each, are tried in `bbs_journal`.
-ghost use Rattle.std.specs.Prelude.{◌≡◌, false, IfOk};
-ghost use Rattle.bbs_journal.specs.View.{IsCalm};
-
-use super::*;
-use bbs_journal::{DiskFault, Journal, LoadFault, load};
+//! back. The steps alone, with a stop in each, are tried in `journal`.
+use crate::asserts::{are_bytes, holds, is_number};
+use crate::journal::{disk_of, journal_on};
+use bbs_journal::Journal;
+use bbs_snapshot::switch;
 use disk_trait::{Area, Disk, MemoryDisk};
 use std::alloc::Global;
 use std::process::Abort;
@@ -33,77 +32,109 @@ fn head_of(next: u8) -> [u8; 24] {
     head
 }
 
-// A journal over these areas, without a defect.
-fn journal_of(
-    rt: &impl Abort,
-    alloc: Global,
-    a: &[u8],
-    b: &[u8],
-    failing: &[u64],
-) -> Result<Journal<MemoryDisk>, Fail>
-    ensures { IfOk result IsCalm }
-{
-    let a = a.to_vec(alloc)?;
-    let b = b.to_vec(alloc)?;
-    match load(alloc, MemoryDisk::new(alloc, a, b, failing.to_vec(alloc)?)) {
-        Ok(loaded) => {
-            assert!(rt; loaded.broken.is_none());
-            Ok(loaded.journal)
-        }
-        Err((_, fault)) => {
-            let failed: Result<Journal<MemoryDisk>, LoadFault> = Err(fault);
-            Ok(failed?)
-        }
-    }
+// A disk of the old area, of which these calls fail.
+fn old_disk(alloc: Global, failing: &[u64]) -> Result<MemoryDisk, Fail> {
+    disk_of(alloc, &OLD, &[], failing)
 }
 
-// The area that is read of these, its generation, and how many frames it has.
-fn opened(rt: &impl Abort, alloc: Global, a: &[u8], b: &[u8]) -> Result<(Area, u64, u64), Fail> {
-    let journal = journal_of(rt, alloc, a, b, &[])?;
-    Ok((journal.area(), journal.generation(), journal.frames()))
+// The area that is read, its generation, and how many frames it has.
+fn place_of<D: Disk>(journal: &Journal<D>) -> (Area, u64, u64) {
+    (journal.area(), journal.generation(), journal.frames())
+}
+
+fn is_place(rt: &impl Abort, got: (Area, u64, u64), wanted: (Area, u64, u64)) {
+    assert_eq!(rt; got, wanted);
+}
+
+fn is_opened_at(
+    rt: &impl Abort,
+    alloc: Global,
+    disk: &MemoryDisk,
+    want: (Area, u64, u64),
+) -> Result<(), Fail> {
+    let disk = disk_of(alloc, disk.bytes(Area::A), disk.bytes(Area::B), &[])?;
+    is_place(rt, opened(rt, alloc, disk)?, want);
+    Ok(())
+}
+
+fn opened<D: Disk + Drop>(
+    rt: &impl Abort,
+    alloc: Global,
+    disk: D,
+) -> Result<(Area, u64, u64), Fail> {
+    let journal = journal_on(rt, alloc, disk)?;
+    Ok(place_of(&journal))
+}
+
+fn switched<D: Disk + Drop>(rt: &impl Abort, alloc: Global, disk: D) -> Result<D, Fail> {
+    let mut journal = journal_on(rt, alloc, disk)?;
+    is_number(rt, journal.generation(), 1);
+    holds(rt, switch(&mut journal, &head_of(1)).is_ok());
+    holds(rt, journal.area() == Area::B);
+    is_number(rt, journal.clock(), CALLS + 8);
+    Ok(journal.into_disk())
+}
+
+fn has_both_areas(rt: &impl Abort, disk: &MemoryDisk) {
+    are_bytes(rt, disk.bytes(Area::A), &OLD);
+    are_bytes(rt, disk.bytes(Area::B), &NEW);
 }
 
 #[test]
 fn a_switch_makes_an_area_of_the_next_generation(rt: HostRuntime) -> Result<(), Fail> {
-    let mut journal = journal_of(&rt, rt.alloc(), &OLD, &[], &[])?;
-    assert_eq!(rt; journal.generation(), 1);
-    assert_eq!(rt; switch(&mut journal, &head_of(1)), Ok(()));
-    assert_eq!(rt; journal.area(), Area::B);
-    assert_eq!(rt; journal.clock(), CALLS + 8);
-    let disk = journal.into_disk();
-    assert_eq!(rt; disk.bytes(Area::A), OLD.as_slice());
-    assert_eq!(rt; disk.bytes(Area::B), NEW.as_slice());
+    let alloc = rt.alloc();
+    let disk = switched(&rt, alloc, old_disk(alloc, &[])?)?;
+    has_both_areas(&rt, &disk);
     Ok(())
+}
+
+fn there_and_back<D: Disk + Drop>(rt: &impl Abort, alloc: Global, disk: D) -> Result<D, Fail> {
+    let mut journal = journal_on(rt, alloc, disk)?;
+    is_number(rt, journal.generation(), 1);
+    holds(rt, switch(&mut journal, &head_of(1)).is_ok());
+    holds(rt, journal.append(b"two").is_ok());
+    holds(rt, switch(&mut journal, &head_of(2)).is_ok());
+    Ok(journal.into_disk())
+}
+
+fn is_back(rt: &impl Abort, alloc: Global, disk: &MemoryDisk) -> Result<(), Fail> {
+    // What stood behind the new head stays, and is free.
+    holds(
+        rt,
+        disk.bytes(Area::A).get(47..) == Some([0, 0, 3, 111, 110, 101, 0].as_slice()),
+    );
+    is_opened_at(rt, alloc, disk, (Area::A, 3, 0))
 }
 
 #[test]
 fn a_journal_goes_back_to_an_area_that_it_left(rt: HostRuntime) -> Result<(), Fail> {
     let alloc = rt.alloc();
-    let mut journal = journal_of(&rt, alloc, &OLD, &[], &[])?;
-    assert_eq!(rt; journal.generation(), 1);
-    assert_eq!(rt; switch(&mut journal, &head_of(1)), Ok(()));
-    assert_eq!(rt; journal.append(b"two"), Ok(()));
-    assert_eq!(rt; switch(&mut journal, &head_of(2)), Ok(()));
-    let disk = journal.into_disk();
-    let (a, b) = (disk.bytes(Area::A), disk.bytes(Area::B));
-    // What stood behind the new head stays, and is free.
-    assert_eq!(rt; a.get(47..), Some([0, 0, 3, 111, 110, 101, 0].as_slice()));
-    assert_eq!(rt; opened(&rt, alloc, a, b)?, (Area::A, 3, 0));
-    Ok(())
+    let disk = there_and_back(&rt, alloc, old_disk(alloc, &[])?)?;
+    is_back(&rt, alloc, &disk)
+}
+
+// A switch that fails at this device call of its own, and the mend behind it.
+fn fails_to_switch<D: Disk + Drop>(
+    rt: &impl Abort,
+    alloc: Global,
+    disk: D,
+    call: u64,
+) -> Result<D, Fail> {
+    let mut journal = journal_on(rt, alloc, disk)?;
+    is_number(rt, journal.generation(), 1);
+    holds(rt, switch(&mut journal, &head_of(1)).is_err());
+    holds(rt, journal.waits() == (call < 3 || call > 6));
+    holds(rt, journal.mend().is_ok());
+    Ok(journal.into_disk())
 }
 
 #[test]
 fn a_switch_that_failed_leaves_the_frames(rt: HostRuntime) -> Result<(), Fail> {
     let alloc = rt.alloc();
     for call in 1..9u64 {
-        let mut journal = journal_of(&rt, alloc, &OLD, &[], &[CALLS + call])?;
-        assert_eq!(rt; journal.generation(), 1);
-        assert_eq!(rt; switch(&mut journal, &head_of(1)), Err(DiskFault));
-        assert_eq!(rt; journal.waits(), call < 3 || call > 6, "at call {call}");
-        assert_eq!(rt; journal.mend(), Ok(()));
-        let disk = journal.into_disk();
-        let (a, b) = (disk.bytes(Area::A), disk.bytes(Area::B));
-        assert_eq!(rt; opened(&rt, alloc, a, b)?, (Area::A, 1, 1));
+        let disk = old_disk(alloc, &[CALLS + call])?;
+        let disk = fails_to_switch(&rt, alloc, disk, call)?;
+        is_opened_at(&rt, alloc, &disk, (Area::A, 1, 1))?;
     }
     Ok(())
 }

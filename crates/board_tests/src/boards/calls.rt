@@ -1,22 +1,24 @@
 //! Calls and their replies, where no device call fails.
-use super::bytes::{EMPTY, STORED};
-use super::{CALLS, Step, desire, desire_of, disk_of, done, play, refused, rows_of};
-use bbs_model::{BoardRefusal, Command, Item, Op, Reply};
-use crash_backoff::Moment;
-use diego_names::Name;
-use disk_trait::{Area, Disk};
+use super::{
+    CALLS, Step, desire, desire_of, done, has_stored, is_untouched, play, refused, rows_of, stored,
+};
+use crate::asserts::{holds, is_number};
+use crate::bytes::{EMPTY, STORED};
+use crate::making::{disk_of, update};
+use bbs_model::{BoardRefusal, Item, Reply, Rows};
+use disk_trait::{Area, MemoryDisk};
+use std::alloc::Global;
+use std::process::Abort;
 use std::test::Fail;
 
-fn update(instances: u32) -> Result<Command, Fail> {
-    Ok(Command {
-        now: Moment(5),
-        op: Op::Update {
-            process: Name::read(b"web")?,
-            instances,
-            route: None,
-            port: 8080,
-        },
-    })
+pub fn are_items(rt: &impl Abort, log: &[Item], items: &[Item]) {
+    assert_eq!(rt; log, items);
+}
+
+/// These items, and the clock at the end of the call of each.
+pub fn has_logged(rt: &impl Abort, log: &[Item], items: &[Item], marks: &[u64], clocks: &[u64]) {
+    are_items(rt, log, items);
+    holds(rt, marks == clocks);
 }
 
 #[test]
@@ -29,15 +31,13 @@ fn a_refusal_and_a_same_touch_no_device(rt: HostRuntime) -> Result<(), Fail> {
     };
     let same = Step {
         by: 2,
-        command: update(3)?,
+        command: update(5, b"web", 3)?,
         end: Ok(Reply::Same { place: 0 }),
     };
     let disk = disk_of(alloc, &STORED, b"", &[])?;
     let (disk, log, marks) = play(&rt, alloc, disk, &[exists, same])?;
-    assert!(rt; log.is_empty());
-    assert!(rt; marks.is_empty());
-    assert_eq!(rt; disk.clock(), CALLS);
-    assert_eq!(rt; disk.bytes(Area::A), STORED.as_slice());
+    has_logged(&rt, &log, &[], &marks, &[]);
+    is_untouched(&rt, &disk, &STORED);
     Ok(())
 }
 
@@ -46,7 +46,7 @@ fn a_transition_is_answered_with_its_place_and_stamp(rt: HostRuntime) -> Result<
     let alloc = rt.alloc();
     let fewer = Step {
         by: 3,
-        command: update(2)?,
+        command: update(5, b"web", 2)?,
         end: done(0, 1),
     };
     let two = Step {
@@ -58,27 +58,29 @@ fn a_transition_is_answered_with_its_place_and_stamp(rt: HostRuntime) -> Result<
         end: refused(BoardRefusal::Exists, 2),
         ..two
     };
+    let items = [Item::Done(3, fewer.command), Item::Done(4, two.command)];
     let disk = disk_of(alloc, &STORED, b"", &[])?;
     let (_disk, log, marks) = play(&rt, alloc, disk, &[fewer, two, again])?;
-    let items = [Item::Done(3, fewer.command), Item::Done(4, two.command)];
-    assert_eq!(rt; log.as_slice(), items.as_slice());
-    assert_eq!(rt; marks.as_slice(), [CALLS + 4, CALLS + 8].as_slice());
+    has_logged(&rt, &log, &items, &marks, &[CALLS + 4, CALLS + 8]);
+    Ok(())
+}
+
+fn has_one_row(rt: &impl Abort, rows: &Rows) {
+    holds(rt, rows.desired.items().len() == 1);
+    is_number(rt, rows.next, 1);
+}
+
+// The bytes of the desire, of which a load makes one row.
+fn is_on(rt: &impl Abort, alloc: Global, disk: &MemoryDisk) -> Result<(), Fail> {
+    has_stored(rt, disk);
+    let rows = rows_of(alloc, disk.bytes(Area::A), disk.bytes(Area::B))?;
+    has_one_row(rt, &rows);
     Ok(())
 }
 
 #[test]
 fn what_was_acknowledged_is_on_the_disk(rt: HostRuntime) -> Result<(), Fail> {
     let alloc = rt.alloc();
-    let step = Step {
-        by: 7,
-        command: desire()?,
-        end: done(0, 0),
-    };
-    let disk = disk_of(alloc, &EMPTY, b"", &[])?;
-    let (disk, _log, _marks) = play(&rt, alloc, disk, &[step])?;
-    assert_eq!(rt; disk.bytes(Area::A), STORED.as_slice());
-    let rows = rows_of(alloc, disk.bytes(Area::A), disk.bytes(Area::B))?;
-    assert_eq!(rt; rows.desired.items().len(), 1);
-    assert_eq!(rt; rows.next, 1);
-    Ok(())
+    let disk = stored(&rt, alloc, disk_of(alloc, &EMPTY, b"", &[])?, 7)?;
+    is_on(&rt, alloc, &disk)
 }

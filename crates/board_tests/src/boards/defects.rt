@@ -1,34 +1,45 @@
 //! Where the first defect of an area is told.
-use super::bytes::{EMPTY, STORED, changed};
-use super::{disk_of, load_from_memory};
-use crate::LoadFault;
+use crate::asserts::are_bytes;
+use crate::bytes::{EMPTY, STORED, changed};
+use crate::making::disk_of;
+use bbs_board::{LoadFault, load_from_memory};
 use disk_trait::{Area, MemoryDisk};
 use std::alloc::Global;
 use std::process::Abort;
 use std::test::Fail;
 
-/// A load that must be refused: the disk, and why.
-pub fn refused_load(alloc: Global, disk: MemoryDisk) -> Result<(MemoryDisk, LoadFault), Fail> {
-    match load_from_memory(alloc, disk) {
-        Ok(_board) => Err("there is a board")?,
-        Err(refused) => Ok(refused),
-    }
+/// The disk of a load that was refused, and why.
+pub type Refused = Option<(MemoryDisk, LoadFault)>;
+
+pub fn refused_load(alloc: Global, disk: MemoryDisk) -> Refused {
+    load_from_memory(alloc, disk).err()
+}
+
+// The fault of a load that must be refused, and has left these areas.
+fn fault_in(rt: &impl Abort, refused: &Refused, a: &[u8], b: &[u8]) -> Result<LoadFault, Fail> {
+    let (disk, fault) = refused.as_ref().ok_or("there is a board")?;
+    are_bytes(rt, disk.bytes(Area::A), a);
+    are_bytes(rt, disk.bytes(Area::B), b);
+    Ok(*fault)
 }
 
 /// The fault of a load of these areas, which must stay as they are.
 pub fn fault_of(rt: &impl Abort, alloc: Global, a: &[u8], b: &[u8]) -> Result<LoadFault, Fail> {
-    let (disk, fault) = refused_load(alloc, disk_of(alloc, a, b, &[])?)?;
-    assert_eq!(rt; disk.bytes(Area::A), a);
-    assert_eq!(rt; disk.bytes(Area::B), b);
-    Ok(fault)
+    let refused = refused_load(alloc, disk_of(alloc, a, b, &[])?);
+    fault_in(rt, &refused, a, b)
+}
+
+fn is_fault(rt: &impl Abort, got: LoadFault, wanted: LoadFault) {
+    assert_eq!(rt; got, wanted);
 }
 
 /// Loads area A, whose first defect must stand at this place.
 pub fn is_damaged(rt: &impl Abort, alloc: Global, a: &[u8], at: u64) -> Result<(), Fail> {
     let area = Area::A;
-    assert_eq!(rt;
+    is_fault(
+        rt,
         fault_of(rt, alloc, a, b"")?,
-        LoadFault::Damaged { area, at }
+        LoadFault::Damaged { area, at },
     );
     Ok(())
 }
@@ -86,11 +97,11 @@ fn what_the_journal_refuses_is_told_first(rt: HostRuntime) -> Result<(), Fail> {
     let alloc = rt.alloc();
     let (a, b) = (Area::A, Area::B);
     let none = LoadFault::NotABoard { area: a };
-    assert_eq!(rt; fault_of(&rt, alloc, b"", b"")?, none);
+    is_fault(&rt, fault_of(&rt, alloc, b"", b"")?, none);
     let other = LoadFault::NotABoard { area: b };
-    assert_eq!(rt; fault_of(&rt, alloc, &STORED, b"\x01D")?, other);
+    is_fault(&rt, fault_of(&rt, alloc, &STORED, b"\x01D")?, other);
     let both = LoadFault::Damaged { area: b, at: 11 };
-    assert_eq!(rt; fault_of(&rt, alloc, &STORED, &EMPTY)?, both);
+    is_fault(&rt, fault_of(&rt, alloc, &STORED, &EMPTY)?, both);
     // A generation above the transitions of the head and 1, and an area that is shorter than its head.
     is_damaged(&rt, alloc, &changed(alloc, &STORED, 18, 2)?, 11)?;
     is_damaged(&rt, alloc, &EMPTY[..46], 46)

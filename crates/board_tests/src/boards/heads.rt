@@ -1,12 +1,14 @@
 //! Boards whose head has rows.
-use super::bytes::{HEAD, area, changed};
 use super::defects::is_damaged;
-use super::{Step, desire, disk_of, done, play, refused, rows_of};
-use bbs_model::{BoardRefusal, Command, Op, Rows};
+use super::{Step, desire, done, play, refused, rows_of};
+use crate::asserts::{holds, is_number};
+use crate::bytes::{HEAD, area, changed};
+use crate::making::{at, disk_of, wanted};
+use bbs_model::{BoardRefusal, Command, Item, Op, Rows};
 use cell_records::{Amounts, CellRow};
 use crash_backoff::Moment;
 use diego_names::{Instance, Key, Name};
-use lrp_records::{Actual, Desired, LrpState, Presence};
+use lrp_records::{Actual, LrpState, Presence};
 use std::alloc::Global;
 use std::process::Abort;
 use std::test::Fail;
@@ -26,19 +28,6 @@ fn web_0() -> Result<Key, Fail> {
 // A container of the cell that joined in transition 3.
 fn container(number: u32) -> Instance {
     Instance { epoch: 3, number }
-}
-
-fn desired() -> Result<Desired, Fail> {
-    Ok(Desired {
-        process: Name::read(b"web")?,
-        domain: Name::read(b"apps")?,
-        instances: 3,
-        memory: 64,
-        disk: 128,
-        tag: None,
-        route: None,
-        port: 8080,
-    })
 }
 
 fn claimed() -> Result<Actual, Fail> {
@@ -101,13 +90,11 @@ fn emptied() -> Result<CellRow, Fail> {
 }
 
 fn drop_evacuating() -> Result<Command, Fail> {
-    Ok(Command {
-        now: Moment(9),
-        op: Op::DropEvacuating {
-            key: web_0()?,
-            instance: container(2),
-        },
-    })
+    let drop = Op::DropEvacuating {
+        key: web_0()?,
+        instance: container(2),
+    };
+    Ok(at(9, drop))
 }
 
 // The frame of that command and a closed gate.
@@ -117,35 +104,37 @@ fn dropped(alloc: Global) -> Result<Vec<u8>, Fail> {
     Ok(frames)
 }
 
-// Checks the rows of the head, but for the actual rows.
-fn has_rows(rt: &impl Abort, rows: &Rows) -> Result<(), Fail> {
-    assert_eq!(rt; rows.desired.items(), [desired()?].as_slice());
-    assert_eq!(rt; rows.tasks.items(), [completed()?].as_slice());
-    assert_eq!(rt; rows.cells.items(), [emptied()?].as_slice());
+// The rows of the head, but for these actual rows, after so many transitions.
+fn has_rows(rt: &impl Abort, rows: &Rows, actual: &[Actual], next: u64) -> Result<(), Fail> {
+    holds(
+        rt,
+        rows.desired.items() == [wanted(b"web", b"apps", 3)?].as_slice(),
+    );
+    holds(rt, rows.tasks.items() == [completed()?].as_slice());
+    holds(rt, rows.cells.items() == [emptied()?].as_slice());
+    holds(rt, rows.actual.items() == actual);
+    is_number(rt, rows.next, next);
     Ok(())
 }
 
 #[test]
 fn the_rows_of_a_head_are_those_of_its_board(rt: HostRuntime) -> Result<(), Fail> {
     let alloc = rt.alloc();
+    let actual = [claimed()?, evacuating()?];
     let rows = rows_of(alloc, &area(alloc, &HEAD, b"\0")?, b"")?;
-    has_rows(&rt, &rows)?;
-    let claimed = claimed()?;
-    let evacuating = evacuating()?;
-    assert_eq!(rt; rows.actual.items(), [claimed, evacuating].as_slice());
-    assert_eq!(rt; rows.next, 9);
-    Ok(())
+    has_rows(&rt, &rows, &actual, 9)
 }
 
 #[test]
 fn commands_go_on_from_the_rows_of_a_head(rt: HostRuntime) -> Result<(), Fail> {
     let alloc = rt.alloc();
+    let actual = [claimed()?];
     let rows = rows_of(alloc, &area(alloc, &HEAD, &dropped(alloc)?)?, b"")?;
-    has_rows(&rt, &rows)?;
-    let claimed = claimed()?;
-    assert_eq!(rt; rows.actual.items(), [claimed].as_slice());
-    assert_eq!(rt; rows.next, 10);
-    Ok(())
+    has_rows(&rt, &rows, &actual, 10)
+}
+
+fn has_one_item(rt: &impl Abort, log: &[Item]) {
+    holds(rt, log.len() == 1);
 }
 
 #[test]
@@ -167,7 +156,7 @@ fn a_call_is_answered_at_the_rows_of_a_head(rt: HostRuntime) -> Result<(), Fail>
     };
     let disk = disk_of(alloc, &area(alloc, &HEAD, b"\0")?, b"", &[])?;
     let (_disk, log, _marks) = play(&rt, alloc, disk, &[exists, dropped, unknown])?;
-    assert_eq!(rt; log.len(), 1);
+    has_one_item(&rt, &log);
     Ok(())
 }
 
@@ -195,12 +184,15 @@ fn the_first_defect_of_a_head_is_told_at_its_place(rt: HostRuntime) -> Result<()
         (182, 2, 23 + 147),
     ];
     for (place, value, at) in cases {
-        let head = changed(alloc, &HEAD, place, value)?;
-        is_damaged(&rt, alloc, &area(alloc, &head, b"\0")?, at)?;
-        // It stands in front of a defect of the frames.
-        is_damaged(&rt, alloc, &area(alloc, &head, b"\x01")?, at)?;
+        is_told(&rt, alloc, &changed(alloc, &HEAD, place, value)?, at)?;
     }
     Ok(())
+}
+
+// The defect of this head, which stands in front of a defect of the frames, too.
+fn is_told(rt: &impl Abort, alloc: Global, head: &[u8], at: u64) -> Result<(), Fail> {
+    is_damaged(rt, alloc, &area(alloc, head, b"\0")?, at)?;
+    is_damaged(rt, alloc, &area(alloc, head, b"\x01")?, at)
 }
 
 #[test]

@@ -3,9 +3,9 @@ ghost use Rattle.std.specs.Prelude.{◌≡◌, ℕ, ◌<◌, All, length, slice_
 ghost use Rattle.ticket_desk.specs.declared.pass.Pass.{Pass};
 ghost use Rattle.bbs_shared.specs.Passes.{IsSame};
 
-use crate::{BoardPass, SharedBoard};
 use bbs_board::Board;
 use bbs_model::{CallFault, Command, Reply};
+use bbs_shared::{BoardPass, SharedBoard};
 use disk_trait::Disk;
 use std::alloc::Global;
 use std::sync::Wait;

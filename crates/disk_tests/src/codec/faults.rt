@@ -1,14 +1,19 @@
-use crate::{CodecFault, read_command};
+//! The first fault of bytes that are no command.
+use bbs_codec::{CodecFault, read_command};
+use std::process::Abort;
 use std::test::Fail;
 
 /// A Renew at second 9: cell `c1`, epoch 258, for 60 seconds.
 const RENEW: [u8; 20] = *b"\x17\0\0\0\x09\x02c1\0\0\0\0\0\0\x01\x02\0\0\0\x3c";
 
+fn is_refused(rt: &impl Abort, bytes: &[u8], fault: CodecFault) {
+    assert_eq!(rt; read_command(bytes), Err(fault));
+}
+
 #[test]
 fn a_renew_that_is_cut_is_short_at_its_end(rt: HostRuntime) {
     for at in 0..20 {
-        let short = CodecFault::Short { at };
-        assert_eq!(rt; read_command(&RENEW[..at]), Err(short), "at {at}");
+        is_refused(&rt, &RENEW[..at], CodecFault::Short { at });
     }
 }
 
@@ -30,28 +35,25 @@ fn the_first_fault_of_a_renew_is_answered(rt: HostRuntime) {
         if at < 20 {
             bytes[at] = byte;
         }
-        assert_eq!(rt; read_command(&bytes), Err(fault), "{byte} at {at}");
+        is_refused(&rt, &bytes, fault);
     }
 }
 
 #[test]
 fn the_kind_comes_before_what_is_missing_and_what_is_left_over_last(rt: HostRuntime) {
-    assert_eq!(rt; read_command(&[26]), Err(CodecFault::BadKind { at: 0 }));
+    is_refused(&rt, &[26], CodecFault::BadKind { at: 0 });
     let longer = b"\x17\0\0\0\x09\x02c1\0\0\0\0\0\0\x01\x02\0\0\0\x3c\0";
-    assert_eq!(rt; read_command(longer), Err(CodecFault::Trailing { at: 20 }));
+    is_refused(&rt, longer, CodecFault::Trailing { at: 20 });
     let bad_and_longer = b"\x17\0\0\0\x09\x02c \0\0\0\0\0\0\x01\x02\0\0\0\x3c\0";
-    assert_eq!(rt;
-        read_command(bad_and_longer),
-        Err(CodecFault::BadField { at: 5 })
-    );
+    is_refused(&rt, bad_and_longer, CodecFault::BadField { at: 5 });
 }
 
 #[test]
 fn a_truth_value_of_2_is_bad_at_its_place(rt: HostRuntime) {
     let removed = b"\x0a\0\0\0\x09\x03web\0\0\0\x01\x02\0\0\0\0\0\0\x01\x02\0\0\0\x09";
-    assert_eq!(rt; read_command(removed), Err(CodecFault::BadField { at: 13 }));
+    is_refused(&rt, removed, CodecFault::BadField { at: 13 });
     let failed = b"\x10\0\0\0\x09\x03web\0\0\0\0\0\0\x01\x02\0\0\0\x09\x02";
-    assert_eq!(rt; read_command(failed), Err(CodecFault::BadField { at: 21 }));
+    is_refused(&rt, failed, CodecFault::BadField { at: 21 });
 }
 
 #[test]

@@ -1,4 +1,5 @@
-use crate::tests::{INSTANCE, is_spelled};
+//! The bytes of each kind of command.
+use super::{INSTANCE, spells};
 use bbs_model::Op;
 use cell_records::Amounts;
 use diego_names::{Key, Name};
@@ -23,15 +24,15 @@ fn operations_on_processes_are_spelled_as_their_table_says(rt: HostRuntime) -> R
         port: 8080,
     };
     let row = b"\x01\0\0\0\x09\x03web\x01d\0\0\0\x02\0\0\x01\0\0\0\0\x40\x03ssd\0\x1f\x90";
-    assert!(rt; is_spelled(Op::Desire { desired }, row));
+    spells(&rt, Op::Desire { desired }, row);
     let update = Op::Update {
         process,
         instances: 3,
         route: Some(Name::read(b"r")?),
         port: 80,
     };
-    assert!(rt; is_spelled(update, b"\x02\0\0\0\x09\x03web\0\0\0\x03\x01r\0\x50"));
-    assert!(rt; is_spelled(Op::Undesire { process }, b"\x03\0\0\0\x09\x03web"));
+    spells(&rt, update, b"\x02\0\0\0\x09\x03web\0\0\0\x03\x01r\0\x50");
+    spells(&rt, Op::Undesire { process }, b"\x03\0\0\0\x09\x03web");
     Ok(())
 }
 
@@ -46,20 +47,20 @@ fn operations_on_keys_are_spelled_as_their_table_says(rt: HostRuntime) -> Result
     for (kind, op) in kinds {
         let mut bytes = *b"\0\0\0\0\x09\x03web\0\0\0\x01";
         bytes[0] = kind;
-        assert!(rt; is_spelled(op, &bytes), "kind {kind}");
+        spells(&rt, op, &bytes);
     }
     let (none, some) = (None, Some(INSTANCE));
     let removed = Op::Remove {
         key: web_1(web),
         instance: none,
     };
-    assert!(rt; is_spelled(removed, b"\x0a\0\0\0\x09\x03web\0\0\0\x01\0"));
+    spells(&rt, removed, b"\x0a\0\0\0\x09\x03web\0\0\0\x01\0");
     let removed = Op::Remove {
         key: web_1(web),
         instance: some,
     };
     let bytes = b"\x0a\0\0\0\x09\x03web\0\0\0\x01\x01\0\0\0\0\0\0\x01\x02\0\0\0\x09";
-    assert!(rt; is_spelled(removed, bytes));
+    spells(&rt, removed, bytes);
     Ok(())
 }
 
@@ -81,7 +82,7 @@ fn operations_of_cells_on_keys_are_spelled_as_their_table_says(
     for (kind, op) in [(5, claim), (6, start)] {
         let mut bytes = *b"\0\0\0\0\x09\x03web\0\0\0\x01\0\0\0\0\0\0\x01\x02\0\0\0\x09\x02c1";
         bytes[0] = kind;
-        assert!(rt; is_spelled(op, &bytes), "kind {kind}");
+        spells(&rt, op, &bytes);
     }
     let kinds = [
         (
@@ -116,7 +117,7 @@ fn operations_of_cells_on_keys_are_spelled_as_their_table_says(
     for (kind, op) in kinds {
         let mut bytes = *b"\0\0\0\0\x09\x03web\0\0\0\x01\0\0\0\0\0\0\x01\x02\0\0\0\x09";
         bytes[0] = kind;
-        assert!(rt; is_spelled(op, &bytes), "kind {kind}");
+        spells(&rt, op, &bytes);
     }
     Ok(())
 }
@@ -131,21 +132,21 @@ fn operations_on_tasks_are_spelled_as_their_table_says(rt: HostRuntime) -> Resul
         disk,
         tag,
     };
-    assert!(rt; is_spelled(new, b"\x0e\0\0\0\x09\x03job\0\0\0\x20\0\0\0\x40\0"));
+    spells(&rt, new, b"\x0e\0\0\0\x09\x03job\0\0\0\x20\0\0\0\x40\0");
     let start = Op::StartTask {
         name,
         instance,
         cell,
     };
     let bytes = b"\x0f\0\0\0\x09\x03job\0\0\0\0\0\0\x01\x02\0\0\0\x09\x02c1";
-    assert!(rt; is_spelled(start, bytes));
+    spells(&rt, start, bytes);
     let complete = Op::CompleteTask {
         name,
         instance,
         failed,
     };
     let bytes = b"\x10\0\0\0\x09\x03job\0\0\0\0\0\0\x01\x02\0\0\0\x09\x01";
-    assert!(rt; is_spelled(complete, bytes));
+    spells(&rt, complete, bytes);
     let kinds = [
         (17, Op::CancelTask { name }),
         (18, Op::ResolveTask { name }),
@@ -156,7 +157,7 @@ fn operations_on_tasks_are_spelled_as_their_table_says(rt: HostRuntime) -> Resul
     for (kind, op) in kinds {
         let mut bytes = *b"\0\0\0\0\x09\x03job";
         bytes[0] = kind;
-        assert!(rt; is_spelled(op, &bytes), "kind {kind}");
+        spells(&rt, op, &bytes);
     }
     Ok(())
 }
@@ -176,13 +177,13 @@ fn operations_on_cells_are_spelled_as_their_table_says(rt: HostRuntime) -> Resul
         ttl: 60,
     };
     let bytes = b"\x16\0\0\0\x09\x02c1\x02z1\0\0\0\x04\0\0\0\x08\0\0\0\0\x32\0\0\0\x3c";
-    assert!(rt; is_spelled(join, bytes));
+    spells(&rt, join, bytes);
     let (epoch, ttl) = (258, 60);
     let renew = Op::Renew { cell, epoch, ttl };
     let bytes = b"\x17\0\0\0\x09\x02c1\0\0\0\0\0\0\x01\x02\0\0\0\x3c";
-    assert!(rt; is_spelled(renew, bytes));
+    spells(&rt, renew, bytes);
     let drain = Op::Drain { cell, epoch };
-    assert!(rt; is_spelled(drain, b"\x18\0\0\0\x09\x02c1\0\0\0\0\0\0\x01\x02"));
-    assert!(rt; is_spelled(Op::Vanish { cell }, b"\x19\0\0\0\x09\x02c1"));
+    spells(&rt, drain, b"\x18\0\0\0\x09\x02c1\0\0\0\0\0\0\x01\x02");
+    spells(&rt, Op::Vanish { cell }, b"\x19\0\0\0\x09\x02c1");
     Ok(())
 }

@@ -1,8 +1,10 @@
 //! The place of the first fault of a head.
 
-use super::heads::ALL;
-use super::*;
+use super::all_tables::ALL;
+use bbs_codec::CodecFault;
+use head_codec::{HeadFault, read_head};
 use std::alloc::Global;
+use std::process::Abort;
 
 /// A byte at a place of the head, and where a bad field is told then.
 type Case = (usize, u8, usize);
@@ -41,20 +43,24 @@ fn changed(alloc: Global, place: usize, byte: u8) -> Option<HeadFault> {
     }
 }
 
+fn is_told(rt: &impl Abort, alloc: Global, place: usize, byte: u8, fault: HeadFault) {
+    assert_eq!(rt;
+        changed(alloc, place, byte),
+        Some(fault),
+        "{byte} at {place}"
+    );
+}
+
 #[test]
 fn the_first_row_that_may_not_stand_there_is_told(rt: HostRuntime) {
     for (place, byte, at) in CASES {
         let bad = HeadFault::Codec(CodecFault::BadField { at });
-        assert_eq!(rt;
-            changed(rt.alloc(), place, byte),
-            Some(bad),
-            "{byte} at {place}"
-        );
+        is_told(&rt, rt.alloc(), place, byte, bad);
     }
 }
 
 #[test]
 fn bytes_that_are_left_over_are_told(rt: HostRuntime) {
     let trailing = HeadFault::Codec(CodecFault::Trailing { at: 287 });
-    assert_eq!(rt; changed(rt.alloc(), 23, 1), Some(trailing));
+    is_told(&rt, rt.alloc(), 23, 1, trailing);
 }

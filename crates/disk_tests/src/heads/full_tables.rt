@@ -1,7 +1,9 @@
 //! Heads of as many rows as a table holds, and of one more.
 
-use super::*;
+use bbs_codec::CodecFault;
+use head_codec::{HeadFault, read_head};
 use std::alloc::Global;
+use std::process::Abort;
 use std::test::Fail;
 
 /// A name of four digits, of which a greater number has the greater one.
@@ -28,16 +30,25 @@ fn cells(alloc: Global, count: u32) -> Result<Vec<u8>, Fail> {
     Ok(out)
 }
 
+/// How many cells are read of a head of so many, or its fault.
+type Read = Result<usize, HeadFault>;
+
+fn read_cells(alloc: Global, head: &[u8]) -> Read {
+    match read_head(alloc, head) {
+        Ok(rows) => Ok(rows.cells.len()),
+        Err(fault) => Err(fault),
+    }
+}
+
+fn is_read(rt: &impl Abort, got: Read, wanted: Read) {
+    assert_eq!(rt; got, wanted);
+}
+
 #[test]
 fn a_table_holds_no_row_more(rt: HostRuntime) -> Result<(), Fail> {
     let alloc = rt.alloc();
-    let rows = read_head(alloc, cells(alloc, 1000)?.as_slice())?;
-    assert_eq!(rt; rows.cells.len(), 1000);
-    match read_head(alloc, cells(alloc, 1001)?.as_slice()) {
-        Err(HeadFault::Codec(fault)) => {
-            assert_eq!(rt; fault, CodecFault::BadField { at: 37_024 });
-        }
-        _ => assert!(rt; false),
-    }
+    is_read(&rt, read_cells(alloc, &cells(alloc, 1000)?), Ok(1000));
+    let full = HeadFault::Codec(CodecFault::BadField { at: 37_024 });
+    is_read(&rt, read_cells(alloc, &cells(alloc, 1001)?), Err(full));
     Ok(())
 }

@@ -1,78 +1,128 @@
-ghost use Rattle.std.specs.Prelude.{◌≡◌, false};
+//! Device calls that fail, and the mend behind them.
+ghost use Rattle.std.specs.Prelude.{◌≡◌, ◌≤◌, false};
+ghost use Rattle.bbs_journal.specs.declared.waiting.Waiting.TheVariants.{Nothing};
 
-use super::*;
-use disk_trait::Torn;
+use super::{CALLS, EMPTY, TWO, empty_disk, empty_journal, is_cut, leaves};
+use crate::asserts::{are_bytes, holds, is_number};
+use bbs_journal::{DiskFault, Journal, LoadFault, load};
+use disk_trait::{Area, Disk, MemoryDisk, Torn};
+use std::alloc::Global;
+use std::process::Abort;
+use std::test::Fail;
 
 // The disk after a load that failed, and why it did.
-fn failed_load(alloc: Global, failing: &[u64]) -> Result<(MemoryDisk, Option<LoadFault>), Fail> {
-    match load(alloc, disk_of(alloc, &EMPTY, &[], failing)?) {
-        Ok(loaded) => Ok((loaded.journal.into_disk(), None)),
-        Err((disk, fault)) => Ok((disk, Some(fault))),
+fn failed_load<D: Disk + Drop>(alloc: Global, disk: D) -> (D, Option<LoadFault>) {
+    match load(alloc, disk) {
+        Ok(loaded) => (loaded.journal.into_disk(), None),
+        Err((disk, fault)) => (disk, Some(fault)),
     }
+}
+
+fn is_told(rt: &impl Abort, fault: Option<LoadFault>, call: u64) {
+    assert_eq!(rt; fault, Some(LoadFault::Disk), "at call {call}");
+}
+
+fn failed_once(rt: &impl Abort, disk: &MemoryDisk, call: u64) {
+    is_number(rt, disk.clock(), call);
+    is_number(rt, disk.faults(), 1);
+    are_bytes(rt, disk.bytes(Area::A), &EMPTY);
+}
+
+fn fails_to_load(rt: &impl Abort, alloc: Global, disk: MemoryDisk, call: u64) {
+    let (disk, fault) = failed_load(alloc, disk);
+    is_told(rt, fault, call);
+    failed_once(rt, &disk, call);
 }
 
 #[test]
 fn a_load_fails_where_a_device_call_fails(rt: HostRuntime) -> Result<(), Fail> {
+    let alloc = rt.alloc();
     for call in 1..CALLS + 1 {
-        let (disk, fault) = failed_load(rt.alloc(), &[call])?;
-        assert_eq!(rt; fault, Some(LoadFault::Disk), "at call {call}");
-        assert_eq!(rt; disk.clock(), call);
-        assert_eq!(rt; disk.faults(), 1);
-        assert_eq!(rt; disk.bytes(Area::A), EMPTY.as_slice());
+        fails_to_load(&rt, alloc, empty_disk(alloc, &[call])?, call);
     }
     Ok(())
+}
+
+// An append that fails at this device call of its own, and takes so many calls with its mend.
+fn append_again<D: Disk + Drop>(
+    rt: &impl Abort,
+    alloc: Global,
+    disk: D,
+    call: u64,
+    calls: u64,
+) -> Result<D, Fail>
+    requires { calls ≤ 6 }
+{
+    let mut journal = empty_journal(rt, alloc, disk)?;
+    holds(rt, journal.append(b"one").is_err());
+    is_number(rt, journal.frames(), 0);
+    holds(rt, journal.waits() == (call > 2));
+    holds(rt, journal.mend().is_ok());
+    is_number(rt, journal.clock(), CALLS + calls);
+    holds(rt, journal.append(b"two").is_ok());
+    Ok(journal.into_disk())
+}
+
+fn has_two(rt: &impl Abort, disk: &MemoryDisk) {
+    is_cut(rt, disk.bytes(Area::A), 47, &EMPTY[..47], &TWO);
 }
 
 #[test]
 fn what_was_refused_is_gone_after_the_mend(rt: HostRuntime) -> Result<(), Fail> {
-    for call in 1..5 {
-        let mut journal = empty_journal(&rt, rt.alloc(), &[CALLS + call])?;
-        assert_eq!(rt; journal.append(b"one"), Err(DiskFault));
-        assert_eq!(rt; journal.frames(), 0);
-        assert_eq!(rt; journal.waits(), call > 2);
-        assert_eq!(rt; journal.mend(), Ok(()));
-        let mended = if call > 2 { call + 2 } else { call };
-        assert_eq!(rt; journal.clock(), CALLS + mended);
-        assert_eq!(rt; journal.append(b"two"), Ok(()));
-        let disk = journal.into_disk();
-        assert_eq!(rt; disk.bytes(Area::A).get(47..), Some(TWO.as_slice()));
+    let alloc = rt.alloc();
+    for call in 1..5u64 {
+        // Behind the third and the fourth two more close the gate.
+        let calls = if call > 2 { call + 2 } else { call };
+        let disk = empty_disk(alloc, &[CALLS + call])?;
+        let disk = append_again(&rt, alloc, disk, call, calls)?;
+        has_two(&rt, &disk);
     }
     Ok(())
 }
 
+fn mend_again<D: Disk + Drop>(rt: &impl Abort, alloc: Global, disk: D) -> Result<D, Fail> {
+    let mut journal = empty_journal(rt, alloc, disk)?;
+    holds(rt, journal.append(b"one").is_err());
+    holds(rt, journal.mend().is_err());
+    holds(rt, journal.waits());
+    holds(rt, journal.mend().is_ok());
+    holds(rt, !journal.waits());
+    Ok(journal.into_disk())
+}
+
+fn has_no_frame(rt: &impl Abort, disk: &MemoryDisk) {
+    holds(rt, disk.bytes(Area::A).starts_with(&EMPTY));
+}
+
 #[test]
 fn a_mend_that_fails_leaves_the_gate_to_the_next(rt: HostRuntime) -> Result<(), Fail> {
+    let alloc = rt.alloc();
     for call in 4..6 {
-        let mut journal = empty_journal(&rt, rt.alloc(), &[CALLS + 3, CALLS + call])?;
-        assert_eq!(rt; journal.append(b"one"), Err(DiskFault));
-        assert_eq!(rt; journal.mend(), Err(DiskFault));
-        assert!(rt; journal.waits());
-        assert_eq!(rt; journal.mend(), Ok(()));
-        assert!(rt; !journal.waits());
-        let disk = journal.into_disk();
-        assert_eq!(rt; disk.bytes(Area::A).get(..48), Some(EMPTY.as_slice()));
+        let disk = empty_disk(alloc, &[CALLS + 3, CALLS + call])?;
+        let disk = mend_again(&rt, alloc, disk)?;
+        has_no_frame(&rt, &disk);
     }
     Ok(())
 }
 
 // Mends what waits, and appends.
-fn put(
+fn put<D: Disk>(
     rt: &impl Abort,
-    journal: &mut Journal<MemoryDisk>,
+    journal: &mut Journal<D>,
     payload: &[u8; 3],
 ) -> Result<(), DiskFault>
     requires { journal.old.broken ≡ false }
     ensures { journal.new.broken ≡ false }
 {
-    assert!(rt; journal.frames() < 9);
+    holds(rt, journal.frames() < 9);
     journal.mend()?;
     journal.append(payload)
 }
 
 // Puts a payload, notes it where it is accepted, with a blank behind it, and tells whether it is.
-fn offer(
+fn offer<D: Disk>(
     rt: &impl Abort,
-    journal: &mut Journal<MemoryDisk>,
+    journal: &mut Journal<D>,
     payload: &[u8; 3],
     accepted: &mut Vec<u8>,
 ) -> Result<bool, Fail>
@@ -88,10 +138,10 @@ fn offer(
 }
 
 // Puts three payloads once, and a fourth once more where it is refused. Gives the accepted ones.
-fn put_four(
+fn put_four<D: Disk>(
     rt: &impl Abort,
     alloc: Global,
-    journal: &mut Journal<MemoryDisk>,
+    journal: &mut Journal<D>,
 ) -> Result<Vec<u8>, Fail>
     requires { journal.old.broken ≡ false }
 {
@@ -100,26 +150,44 @@ fn put_four(
     let _two = offer(rt, journal, b"two", &mut accepted)?;
     let _six = offer(rt, journal, b"six", &mut accepted)?;
     if !offer(rt, journal, b"ten", &mut accepted)? {
-        assert!(rt; offer(rt, journal, b"ten", &mut accepted)?);
+        holds(rt, offer(rt, journal, b"ten", &mut accepted)?);
     }
     Ok(accepted)
 }
 
+// The disk behind these puts, and what was accepted.
+fn with_four<D: Disk + Drop>(
+    rt: &impl Abort,
+    alloc: Global,
+    disk: D,
+) -> Result<(D, Vec<u8>), Fail> {
+    let mut journal = empty_journal(rt, alloc, disk)?;
+    let accepted = put_four(rt, alloc, &mut journal)?;
+    Ok((journal.into_disk(), accepted))
+}
+
+// After that many faults a stop leaves what was accepted.
+fn leaves_accepted(
+    rt: &impl Abort,
+    alloc: Global,
+    disk: &mut MemoryDisk,
+    faults: u64,
+    accepted: &[u8],
+) -> Result<(), Fail> {
+    let end = disk.clock();
+    is_number(rt, disk.faults(), faults);
+    // A stop within the next call is one after the last.
+    holds(rt, disk.sync(Area::B).is_ok());
+    let call = end.saturating_add(1);
+    leaves(rt, alloc, disk, (call, Torn::Old), accepted)?;
+    leaves(rt, alloc, disk, (call, Torn::New), accepted)?;
+    leaves(rt, alloc, disk, (call, Torn::Byte(7)), accepted)
+}
+
 // Puts where these calls fail, and then stops: only what was accepted is left.
 fn stop_after_puts(rt: &impl Abort, alloc: Global, failing: &[u64]) -> Result<(), Fail> {
-    let mut journal = empty_journal(rt, alloc, failing)?;
-    let accepted = put_four(rt, alloc, &mut journal)?;
-    let end = journal.clock();
-    let mut disk = journal.into_disk();
-    assert_eq!(rt; disk.faults(), failing.len() as u64);
-    // A stop within the next call is one after the last.
-    assert!(rt; disk.sync(Area::B).is_ok());
-    for torn in [Torn::Old, Torn::New, Torn::Byte(7)] {
-        assert!(rt; end < disk.clock());
-        let (a, b) = disk.image(alloc, end + 1, torn)?;
-        assert_eq!(rt; held(rt, alloc, &a, &b)?, accepted, "{failing:?}, {torn:?}");
-    }
-    Ok(())
+    let (mut disk, accepted) = with_four(rt, alloc, empty_disk(alloc, failing)?)?;
+    leaves_accepted(rt, alloc, &mut disk, failing.len() as u64, &accepted)
 }
 
 #[test]

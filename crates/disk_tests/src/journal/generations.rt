@@ -1,4 +1,10 @@
-use super::*;
+//! A generation that its head doesn't allow.
+use super::{EMPTY, Read, is_opened, opened};
+use bbs_journal::LoadFault;
+use disk_trait::Area;
+use std::alloc::Global;
+use std::process::Abort;
+use std::test::Fail;
 
 // An area of this generation, whose head has so many zero bytes, and a closed gate.
 fn area(alloc: Global, generation: u8, len: u8) -> Result<Vec<u8>, Fail> {
@@ -15,31 +21,33 @@ fn cut_to(alloc: Global, len: usize) -> Result<Vec<u8>, Fail> {
     Ok(bytes)
 }
 
+const HIGH: LoadFault = LoadFault::Damaged {
+    area: Area::A,
+    at: 11,
+};
+
+fn is_read_as(rt: &impl Abort, alloc: Global, bytes: &[u8], want: Read) -> Result<(), Fail> {
+    is_opened(rt, bytes.len() as u64, opened(alloc, bytes, &[])?, want);
+    Ok(())
+}
+
+// The second generation is too high for a head of so many bytes, and the first isn't.
+fn is_too_high(rt: &impl Abort, alloc: Global, len: u8) -> Result<(), Fail> {
+    is_read_as(rt, alloc, &area(alloc, 2, len)?, Err(HIGH))?;
+    is_read_as(rt, alloc, &area(alloc, 1, len)?, Ok((0, None)))
+}
+
 #[test]
 fn a_generation_that_is_too_high_is_told_in_front_of_the_head(rt: HostRuntime) -> Result<(), Fail> {
     let alloc = rt.alloc();
-    let high = LoadFault::Damaged {
-        area: Area::A,
-        at: 11,
-    };
     for len in 8..25u8 {
-        let second = area(alloc, 2, len)?;
-        let first = area(alloc, 1, len)?;
-        assert_eq!(rt; opened(alloc, &second, &[])?, Err(high), "a head of {len}");
-        assert_eq!(rt;
-            opened(alloc, &first, &[])?,
-            Ok((0, None)),
-            "a head of {len}"
-        );
+        is_too_high(&rt, alloc, len)?;
     }
     // The bytes that it is compared with have to be there, and no more.
-    let enough = cut_to(alloc, 31)?;
-    let fewer = cut_to(alloc, 30)?;
     let short = LoadFault::Damaged {
         area: Area::A,
         at: 30,
     };
-    assert_eq!(rt; opened(alloc, &enough, &[])?, Err(high));
-    assert_eq!(rt; opened(alloc, &fewer, &[])?, Err(short));
-    Ok(())
+    is_read_as(&rt, alloc, &cut_to(alloc, 31)?, Err(HIGH))?;
+    is_read_as(&rt, alloc, &cut_to(alloc, 30)?, Err(short))
 }

@@ -1,17 +1,30 @@
 //! What an opening reads of areas that were cut or changed, and of two areas.
-use super::*;
+use super::{CALLS, DESIRED, EMPTY, ONE, Read, disk_of, is_opened, opened};
+use crate::asserts::holds;
+use bbs_journal::{LoadFault, load};
+use disk_trait::{Area, Disk};
+use std::alloc::Global;
+use std::test::Fail;
 
 #[test]
 fn bytes_behind_the_closed_gate_are_free(rt: HostRuntime) -> Result<(), Fail> {
     let alloc = rt.alloc();
     let mut bytes = EMPTY.to_vec(alloc)?;
     bytes.extend_from_slice(&[0xff, 0xff])?;
-    assert_eq!(rt; opened(alloc, &bytes, &[])?, Ok((0, None)));
+    is_opened(&rt, 0, opened(alloc, &bytes, &[])?, Ok((0, None)));
     // The same where a whole frame stands behind the gate.
     bytes.truncate(48);
     bytes.extend_from_slice(&ONE)?;
-    assert_eq!(rt; opened(alloc, &bytes, &[])?, Ok((0, None)));
+    is_opened(&rt, 0, opened(alloc, &bytes, &[])?, Ok((0, None)));
     Ok(())
+}
+
+// How many frames a load finds, and how many device calls it makes.
+fn counted<D: Disk + Drop>(alloc: Global, disk: D) -> Result<(usize, u64), LoadFault> {
+    match load(alloc, disk) {
+        Ok(loaded) => Ok((loaded.frames.len(), loaded.journal.clock())),
+        Err((_, fault)) => Err(fault),
+    }
 }
 
 #[test]
@@ -25,16 +38,8 @@ fn a_long_area_is_read_in_large_pieces(rt: HostRuntime) -> Result<(), Fail> {
     }
     bytes.push(0)?;
     // 206048 bytes: a piece of 65536 has 127 of these frames, so four are read.
-    match load(alloc, disk_of(alloc, &bytes, &[], &[])?) {
-        Ok(loaded) => {
-            assert_eq!(rt; loaded.frames.len(), 400);
-            assert_eq!(rt; loaded.journal.clock(), CALLS + 3);
-        }
-        Err((_, fault)) => {
-            let failed: Result<(), LoadFault> = Err(fault);
-            return Ok(failed?);
-        }
-    }
+    let disk = disk_of(alloc, &bytes, &[], &[])?;
+    holds(&rt, counted(alloc, disk) == Ok((400, CALLS + 3)));
     Ok(())
 }
 
@@ -50,7 +55,7 @@ fn a_cut_area_is_told_by_its_length_or_its_last_frame(rt: HostRuntime) -> Result
             80 => Ok((1, Some(80))),
             _ => Ok((1, None)),
         };
-        assert_eq!(rt; got, want, "cut to {n}");
+        is_opened(&rt, at, got, want);
     }
     Ok(())
 }
@@ -62,7 +67,7 @@ fn a_changed_byte_is_told_where_it_counts(rt: HostRuntime) -> Result<(), Fail> {
         area: Area::A,
         at: 11,
     };
-    let table = [
+    let table: [(usize, u8, Read); 12] = [
         (0, 0, Err(not_ours)),
         (0, 9, Ok((1, None))),
         (1, 9, Err(not_ours)),
@@ -84,11 +89,11 @@ fn a_changed_byte_is_told_where_it_counts(rt: HostRuntime) -> Result<(), Fail> {
         (80, 1, Ok((1, Some(80)))),
     ];
     for (place, byte, want) in table {
-        let mut bytes = DESIRED.to_vec(rt.alloc())?;
-        if let Some(cell) = bytes.get_mut(place) {
-            *cell = byte;
+        let mut bytes = DESIRED;
+        if place < 81 {
+            bytes[place] = byte;
         }
-        assert_eq!(rt; opened(rt.alloc(), &bytes, &[])?, want, "at {place}");
+        is_opened(&rt, place as u64, opened(rt.alloc(), &bytes, &[])?, want);
     }
     Ok(())
 }
@@ -105,12 +110,17 @@ fn of_two_areas_the_newer_is_read(rt: HostRuntime) -> Result<(), Fail> {
         at: 11,
     };
     let foreign = LoadFault::NotABoard { area: Area::B };
-    assert_eq!(rt; opened(alloc, &DESIRED, &newer)?, Ok((0, None)));
-    assert_eq!(rt; opened(alloc, &newer, &DESIRED)?, Ok((0, None)));
-    assert_eq!(rt; opened(alloc, &DESIRED, &DESIRED)?, Err(second));
-    assert_eq!(rt; opened(alloc, &DESIRED, &[1, 2])?, Err(foreign));
-    assert_eq!(rt; opened(alloc, &DESIRED, &[0, 2])?, Ok((1, None)));
-    assert_eq!(rt; opened(alloc, &DESIRED, &[2])?, Ok((1, None)));
-    assert_eq!(rt; opened(alloc, &[0; 48], &DESIRED)?, Ok((1, None)));
+    let table: [(&[u8], &[u8], Read); 7] = [
+        (&DESIRED, &newer, Ok((0, None))),
+        (&newer, &DESIRED, Ok((0, None))),
+        (&DESIRED, &DESIRED, Err(second)),
+        (&DESIRED, &[1, 2], Err(foreign)),
+        (&DESIRED, &[0, 2], Ok((1, None))),
+        (&DESIRED, &[2], Ok((1, None))),
+        (&[0; 48], &DESIRED, Ok((1, None))),
+    ];
+    for (row, (a, b, want)) in table.iter().enumerate() {
+        is_opened(&rt, row as u64, opened(alloc, a, b)?, *want);
+    }
     Ok(())
 }

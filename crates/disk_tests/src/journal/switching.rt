@@ -1,9 +1,14 @@
+//! The three steps of a switch to the other area.
 ghost use Rattle.std.specs.Prelude.{◌≡◌, ◌≤◌, false, IfOk};
 ghost use Rattle.bbs_journal.specs.View.{IsCalm};
-ghost use Rattle.bbs_journal.specs.declared.waiting.Waiting.TheVariants.{Nothing};
 
-use super::*;
-use disk_trait::Torn;
+use super::{CALLS, EMPTY, ONE, TWO, disk_of, held, journal_on, leaves};
+use crate::asserts::{are_bytes, holds, is_number};
+use bbs_journal::{DiskFault, Journal};
+use disk_trait::{Area, Disk, MemoryDisk, Torn};
+use std::alloc::Global;
+use std::process::Abort;
+use std::test::Fail;
 
 // The head of a board with two transitions and no rows.
 const HEAD: [u8; 24] = [
@@ -15,89 +20,123 @@ const HEADER: [u8; 23] = [
     0, 0x44, 0x49, 0x45, 0x47, 0x4f, 0x42, 0x42, 0x53, 0, 1, 0, 0, 0, 0, 0, 0, 0, 3, 0, 0, 0, 0x18,
 ];
 
-// A journal of generation 2 with one frame in area A, beside these bytes.
-fn journal_beside(
-    rt: &impl Abort,
-    alloc: Global,
-    beside: &[u8],
-    failing: &[u64],
-) -> Result<Journal<MemoryDisk>, Fail>
-    ensures { IfOk result (λ j. (j.waiting ≡ Nothing) × (j.broken ≡ false)) }
-{
+// An area A of generation 2 with one frame, beside these bytes.
+fn disk_beside(alloc: Global, beside: &[u8], failing: &[u64]) -> Result<MemoryDisk, Fail> {
     let mut a = EMPTY[..47].to_vec(alloc)?;
     a[18] = 2;
     a[30] = 1;
     a.extend_from_slice(&ONE)?;
-    match load(alloc, disk_of(alloc, &a, beside, failing)?) {
-        Ok(loaded) => {
-            assert!(rt; loaded.broken.is_none());
-            assert_eq!(rt; loaded.journal.generation(), 2);
-            assert_eq!(rt; loaded.journal.clock(), CALLS);
-            Ok(loaded.journal)
-        }
-        Err((_, fault)) => {
-            let failed: Result<Journal<MemoryDisk>, LoadFault> = Err(fault);
-            Ok(failed?)
-        }
-    }
+    disk_of(alloc, &a, beside, failing)
+}
+
+// The journal of such a disk.
+fn second_journal<D: Disk + Drop>(
+    rt: &impl Abort,
+    alloc: Global,
+    disk: D,
+) -> Result<Journal<D>, Fail>
+    ensures { IfOk result IsCalm }
+{
+    let journal = journal_on(rt, alloc, disk)?;
+    is_number(rt, journal.generation(), 2);
+    is_number(rt, journal.clock(), CALLS);
+    Ok(journal)
 }
 
 // The three steps, to a head that follows on the frame.
-fn switch(rt: &impl Abort, journal: &mut Journal<MemoryDisk>) -> Result<(), DiskFault>
+fn switch<D: Disk>(rt: &impl Abort, journal: &mut Journal<D>) -> Result<(), DiskFault>
     requires { IsCalm journal.old }
     ensures { journal.new.broken ≡ false }
 {
-    assert!(rt; journal.generation() < u64::MAX);
+    holds(rt, journal.generation() < u64::MAX);
     journal.close_other()?;
     journal.write_other(&HEAD)?;
     journal.open_other()
 }
 
+fn switched<D: Disk + Drop>(rt: &impl Abort, alloc: Global, disk: D) -> Result<D, Fail> {
+    let mut journal = second_journal(rt, alloc, disk)?;
+    holds(rt, switch(rt, &mut journal).is_ok());
+    holds(rt, journal.area() == Area::B);
+    is_number(rt, journal.generation(), 3);
+    is_number(rt, journal.frames(), 0);
+    is_number(rt, journal.end(), 47);
+    is_number(rt, journal.clock(), CALLS + 8);
+    Ok(journal.into_disk())
+}
+
+fn is_next_area(rt: &impl Abort, bytes: &[u8]) {
+    // The gate is open, and behind the head stands a closed one.
+    let mut area = [0; 48];
+    area[..23].copy_from_slice(&HEADER);
+    area[23..47].copy_from_slice(&HEAD);
+    area[0] = 1;
+    are_bytes(rt, bytes, &area);
+}
+
 #[test]
 fn a_switch_writes_an_area_of_the_next_generation(rt: HostRuntime) -> Result<(), Fail> {
-    let mut journal = journal_beside(&rt, rt.alloc(), &[9], &[])?;
-    assert_eq!(rt; switch(&rt, &mut journal), Ok(()));
-    assert_eq!(rt; journal.area(), Area::B);
-    assert_eq!(rt; journal.generation(), 3);
-    assert_eq!(rt; journal.frames(), 0);
-    assert_eq!(rt; journal.end(), 47);
-    assert_eq!(rt; journal.clock(), CALLS + 8);
-    let disk = journal.into_disk();
-    let bytes = disk.bytes(Area::B);
-    assert_eq!(rt; bytes.len(), 48);
-    assert_eq!(rt; bytes.first(), Some(&1));
-    assert_eq!(rt; bytes.get(1..23), HEADER.get(1..23));
-    assert_eq!(rt; bytes.get(23..47), Some(HEAD.as_slice()));
-    assert_eq!(rt; bytes.last(), Some(&0));
+    let alloc = rt.alloc();
+    let disk = switched(&rt, alloc, disk_beside(alloc, &[9], &[])?)?;
+    is_next_area(&rt, disk.bytes(Area::B));
     Ok(())
+}
+
+fn switched_with_frame<D: Disk + Drop>(rt: &impl Abort, alloc: Global, disk: D) -> Result<D, Fail> {
+    let mut journal = second_journal(rt, alloc, disk)?;
+    holds(rt, switch(rt, &mut journal).is_ok());
+    holds(rt, !journal.waits());
+    is_number(rt, journal.frames(), 0);
+    holds(rt, journal.append(b"two").is_ok());
+    Ok(journal.into_disk())
+}
+
+// A disk in memory holds payloads of this text.
+fn has_text(rt: &impl Abort, alloc: Global, disk: &MemoryDisk, want: &[u8]) -> Result<(), Fail> {
+    let text = held(rt, alloc, disk.bytes(Area::A), disk.bytes(Area::B))?;
+    are_bytes(rt, &text, want);
+    Ok(())
+}
+
+fn has_the_next_frame(rt: &impl Abort, alloc: Global, disk: &MemoryDisk) -> Result<(), Fail> {
+    holds(rt, disk.bytes(Area::B).get(47..) == Some(TWO.as_slice()));
+    has_text(rt, alloc, disk, b"two ")
 }
 
 #[test]
 fn the_next_frame_goes_behind_the_new_head(rt: HostRuntime) -> Result<(), Fail> {
     let alloc = rt.alloc();
-    let mut journal = journal_beside(&rt, alloc, &[], &[])?;
-    assert_eq!(rt; switch(&rt, &mut journal), Ok(()));
-    assert!(rt; !journal.waits() && journal.frames() == 0);
-    assert_eq!(rt; journal.append(b"two"), Ok(()));
-    let disk = journal.into_disk();
-    assert_eq!(rt; disk.bytes(Area::B).get(47..), Some(TWO.as_slice()));
-    let text = held(&rt, alloc, disk.bytes(Area::A), disk.bytes(Area::B))?;
-    assert_eq!(rt; text.as_slice(), b"two ".as_slice());
-    Ok(())
+    let disk = switched_with_frame(&rt, alloc, disk_beside(alloc, &[], &[])?)?;
+    has_the_next_frame(&rt, alloc, &disk)
 }
 
-// Switches beside these bytes, and stops within each device call and after the last: the frame is there
-// until the header gate of the other area is open. So many calls close that gate.
-fn stop_beside(rt: &impl Abort, alloc: Global, beside: &[u8], closing: u64) -> Result<(), Fail>
-    requires { closing ≤ 2 }
+// The disk behind a switch of so many device calls.
+fn switched_by<D: Disk + Drop>(
+    rt: &impl Abort,
+    alloc: Global,
+    disk: D,
+    calls: u64,
+) -> Result<D, Fail>
+    requires { calls ≤ 8 }
 {
-    let mut journal = journal_beside(rt, alloc, beside, &[])?;
-    assert_eq!(rt; switch(rt, &mut journal), Ok(()));
-    let end = journal.clock();
-    assert_eq!(rt; end, CALLS + closing + 6);
-    let mut disk = journal.into_disk();
+    let mut journal = second_journal(rt, alloc, disk)?;
+    holds(rt, switch(rt, &mut journal).is_ok());
+    is_number(rt, journal.clock(), CALLS + calls);
+    Ok(journal.into_disk())
+}
+
+// The frame is there until the header gate of the other area is open.
+fn leaves_old_or_new(
+    rt: &impl Abort,
+    alloc: Global,
+    disk: &mut MemoryDisk,
+    calls: u64,
+) -> Result<(), Fail>
+    requires { calls ≤ 8 }
+{
+    let end = CALLS + calls;
     // A stop within the next call is one after the last.
-    assert!(rt; disk.sync(Area::A).is_ok());
+    holds(rt, disk.sync(Area::A).is_ok());
     // With the byte 0 and what stood before, the write of the gate doesn't open it.
     let table = [
         (Torn::Old, false),
@@ -109,42 +148,56 @@ fn stop_beside(rt: &impl Abort, alloc: Global, beside: &[u8], closing: u64) -> R
         for call in CALLS + 1..end + 2 {
             let gone = call > end || (opens && call + 1 >= end);
             let want: &[u8] = if gone { b"" } else { b"one " };
-            assert!(rt; call <= disk.clock());
-            let (a, b) = disk.image(alloc, call, torn)?;
-            let text = held(rt, alloc, &a, &b)?;
-            assert_eq!(rt; text.as_slice(), want, "{torn:?} at {call}");
+            leaves(rt, alloc, disk, (call, torn), want)?;
         }
     }
     Ok(())
 }
 
+// Switches beside these bytes by so many device calls, and stops within each and after the last.
+fn stop_beside(rt: &impl Abort, alloc: Global, beside: &[u8], calls: u64) -> Result<(), Fail>
+    requires { calls ≤ 8 }
+{
+    let mut disk = switched_by(rt, alloc, disk_beside(alloc, beside, &[])?, calls)?;
+    leaves_old_or_new(rt, alloc, &mut disk, calls)
+}
+
 #[test]
 fn a_stop_within_a_switch_leaves_the_old_area_or_the_new(rt: HostRuntime) -> Result<(), Fail> {
     let alloc = rt.alloc();
-    stop_beside(&rt, alloc, &[], 2)?;
+    // Two calls close the gate of the other area.
+    stop_beside(&rt, alloc, &[], 8)?;
     // A closed gate is left alone, whatever stands behind it.
-    stop_beside(&rt, alloc, &[0, 9, 9], 0)?;
-    stop_beside(&rt, alloc, &EMPTY, 2)
+    stop_beside(&rt, alloc, &[0, 9, 9], 6)?;
+    stop_beside(&rt, alloc, &EMPTY, 8)
 }
 
 // Switches where this device call fails, mends, and switches again.
+fn switched_again<D: Disk + Drop>(
+    rt: &impl Abort,
+    alloc: Global,
+    disk: D,
+    call: u64,
+) -> Result<D, Fail> {
+    let mut journal = second_journal(rt, alloc, disk)?;
+    holds(rt, switch(rt, &mut journal).is_err());
+    holds(rt, journal.area() == Area::A);
+    holds(rt, journal.waits() == (call < 3 || call > 6));
+    holds(rt, journal.mend().is_ok());
+    // From here on the gate is a synced 0, so it isn't closed again.
+    let before = journal.clock();
+    holds(rt, !journal.waits());
+    holds(rt, switch(rt, &mut journal).is_ok());
+    is_number(rt, journal.clock(), before.saturating_add(6));
+    Ok(journal.into_disk())
+}
+
 fn switch_twice(rt: &impl Abort, alloc: Global, call: u64) -> Result<(), Fail>
     requires { call ≤ 8 }
 {
-    let mut journal = journal_beside(rt, alloc, &EMPTY, &[CALLS + call])?;
-    assert_eq!(rt; switch(rt, &mut journal), Err(DiskFault));
-    assert_eq!(rt; journal.area(), Area::A);
-    assert_eq!(rt; journal.waits(), call < 3 || call > 6);
-    assert_eq!(rt; journal.mend(), Ok(()));
-    // From here on the gate is a synced 0, so it isn't closed again.
-    let before = journal.clock();
-    assert!(rt; !journal.waits());
-    assert_eq!(rt; switch(rt, &mut journal), Ok(()));
-    assert_eq!(rt; Some(journal.clock()), before.checked_add(6));
-    let disk = journal.into_disk();
-    let text = held(rt, alloc, disk.bytes(Area::A), disk.bytes(Area::B))?;
-    assert!(rt; text.is_empty());
-    Ok(())
+    let disk = disk_beside(alloc, &EMPTY, &[CALLS + call])?;
+    let disk = switched_again(rt, alloc, disk, call)?;
+    has_text(rt, alloc, &disk, b"")
 }
 
 #[test]
@@ -156,21 +209,34 @@ fn a_switch_that_failed_is_made_again_after_a_mend(rt: HostRuntime) -> Result<()
     Ok(())
 }
 
+// The opening of the gate fails at its sync, the first mend fails, and the second doesn't.
+fn mended_twice<D: Disk + Drop>(rt: &impl Abort, alloc: Global, disk: D) -> Result<D, Fail> {
+    let mut journal = second_journal(rt, alloc, disk)?;
+    holds(rt, switch(rt, &mut journal).is_err());
+    holds(rt, journal.mend().is_err());
+    holds(rt, journal.waits());
+    holds(rt, journal.mend().is_ok());
+    holds(rt, !journal.waits());
+    Ok(journal.into_disk())
+}
+
+fn is_closed(rt: &impl Abort, alloc: Global, disk: &MemoryDisk) -> Result<(), Fail> {
+    holds(rt, disk.bytes(Area::B).starts_with(&HEADER));
+    has_text(rt, alloc, disk, b"one ")
+}
+
+fn mend_twice(rt: &impl Abort, alloc: Global, call: u64) -> Result<(), Fail>
+    requires { call ≤ 10 }
+{
+    let disk = disk_beside(alloc, &[], &[CALLS + 8, CALLS + call])?;
+    let disk = mended_twice(rt, alloc, disk)?;
+    is_closed(rt, alloc, &disk)
+}
+
 #[test]
 fn a_header_gate_waits_until_a_mend_closes_it(rt: HostRuntime) -> Result<(), Fail> {
     let alloc = rt.alloc();
-    // The opening of the gate fails at its sync, and the mend at either call.
-    for call in 9..11u64 {
-        let mut journal = journal_beside(&rt, alloc, &[], &[CALLS + 8, CALLS + call])?;
-        assert_eq!(rt; switch(&rt, &mut journal), Err(DiskFault));
-        assert_eq!(rt; journal.mend(), Err(DiskFault));
-        assert!(rt; journal.waits());
-        assert_eq!(rt; journal.mend(), Ok(()));
-        assert!(rt; !journal.waits());
-        let disk = journal.into_disk();
-        assert_eq!(rt; disk.bytes(Area::B).get(..23), Some(HEADER.as_slice()));
-        let text = held(&rt, alloc, disk.bytes(Area::A), disk.bytes(Area::B))?;
-        assert_eq!(rt; text.as_slice(), b"one ".as_slice());
-    }
-    Ok(())
+    // The mend fails at either call.
+    mend_twice(&rt, alloc, 9)?;
+    mend_twice(&rt, alloc, 10)
 }

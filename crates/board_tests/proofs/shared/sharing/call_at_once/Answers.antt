@@ -4,7 +4,7 @@ use Rattle.std.proofs.Crossing.{crosses}
 use Rattle.bbs_model.proofs.command.Command.TheSendSync as command
 use Rattle.ticket_desk.proofs.pass.Pass.TheSendSync as pass
 use Rattle.bbs_shared.proofs.Public.{at_desk_send, shared_sync}
-use Rattle.bbs_shared.proofs.tests.sharing.call_at_once.Goals as goal
+use Rattle.board_tests.proofs.shared.sharing.call_at_once.Goals as goal
 
 pub for_each_mut-requires-send-T : goal.for_each_mut-requires-send-T
 for_each_mut-requires-send-T g c κs within = search (sendable, crosses, pass.the_send, at_desk_send) depth 40

@@ -1,6 +1,6 @@
 -- The pass stays a pass of its board.
 use Rattle.bbs_shared.specs.Passes.{IsSame}
-use Rattle.bbs_shared.proofs.tests.sharing.call_own.Given as goal
+use Rattle.board_tests.proofs.shared.sharing.call_own.Given as goal
 
 abbrev pub invariant-loop-index : goal.invariant-loop-index
 invariant-loop-index g l = IsSame l.initial.pass l.pass

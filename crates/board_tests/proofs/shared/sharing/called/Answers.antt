@@ -3,7 +3,7 @@ use Rattle.std.proofs.Common.{◌≡◌, ℕ, ◌<◌, List, ◌++◌, length, g
 use Rattle.std.proofs.lemmas.List.{append-nil, take_all, drop_all}
 use Rattle.ticket_desk.specs.Passes.{IsPass, IsSamePass, AreAll}
 use Rattle.ticket_desk.proofs.Public.{by_index, all_stay}
-use Rattle.bbs_shared.proofs.tests.sharing.called.Goals as goal
+use Rattle.board_tests.proofs.shared.sharing.called.Goals as goal
 
 -- what a list is after all of it was lent
 lent_whole : {A : Type 0} (n : ℕ) (new old : List A) → length new ≡ length old → n ≡ length old → take n (new ++ drop (length new) old) ≡ new

@@ -5,7 +5,7 @@ use lib.ListN.{get_elem?}
 use Rattle.atomic_table.specs.Seated.{TableId}
 use Rattle.ticket_desk.specs.declared.pass.Pass.{Pass}
 use Rattle.ticket_desk.specs.Passes.{AreAll}
-use Rattle.bbs_shared.proofs.tests.sharing.called_twice.Goals as goal
+use Rattle.board_tests.proofs.shared.sharing.called_twice.Goals as goal
 
 last_is : {A : Type 0} (m : List A) (x : A) → get_elem? (m ++ x ∷ []) (length m) ≡ some x
 last_is [] x = refl

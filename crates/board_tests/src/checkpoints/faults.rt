@@ -1,7 +1,10 @@
 //! A checkpoint in which the disk fails, and the board that goes on.
 use super::heads::BEFORE;
 use super::life::{FULL_CALLS, area_with};
-use super::{CALLS, are_named, copy_of, desire, disk_in, disk_of, does, found, kept, loaded};
+use super::stops::left;
+use super::{CALLS, are_named, does};
+use crate::asserts::{holds, is_end, is_kept, is_number, is_outcome};
+use crate::making::{Opened, copy_of, desire, disk_in, disk_of, found, kept, loaded};
 use bbs_board::Board;
 use bbs_model::{CallFault, Command};
 use disk_trait::{Area, Disk, MemoryDisk, Torn};
@@ -25,8 +28,8 @@ fn goes_on<D: Disk + Drop>(
     mut board: Board<D>,
     offers: &[(u8, Command)],
 ) -> (D, u8) {
-    assert_eq!(rt; board.checkpoint(), Err(CallFault::Disk { place: 0 }));
-    assert!(rt; board.log().is_empty());
+    is_outcome(rt, board.checkpoint(), Err(CallFault::Disk { place: 0 }));
+    holds(rt, board.log().is_empty());
     let done = offer(&mut board, offers);
     (disk_in(board), done)
 }
@@ -38,17 +41,29 @@ fn doubts<D: Disk + Drop>(
     doubt: Command,
     offers: &[(u8, Command)],
 ) -> (D, u8) {
-    assert_eq!(rt; board.call(1, doubt), Err(CallFault::Disk { place: 0 }));
+    is_end(rt, board.call(1, doubt), Err(CallFault::Disk { place: 0 }));
     let done = offer(&mut board, offers);
     (disk_in(board), done)
 }
 
 fn offers() -> Result<[(u8, Command); 3], Fail> {
     Ok([
-        (b'n', desire(b'n')?),
-        (b'o', desire(b'o')?),
-        (b'p', desire(b'p')?),
+        (b'n', desire(b'n', 1)?),
+        (b'o', desire(b'o', 1)?),
+        (b'p', desire(b'p', 1)?),
     ])
+}
+
+// A board is found there, with these processes.
+fn is_found(
+    rt: &impl Abort,
+    alloc: Global,
+    found: &Opened,
+    area: Area,
+    names: &[u8],
+) -> Result<(), Fail> {
+    holds(rt, found.kept.area == area);
+    are_named(rt, alloc, &found.rows, names)
 }
 
 // Each stop behind these calls leaves a board there, with the process that was done and the others.
@@ -57,20 +72,14 @@ fn leaves(
     alloc: Global,
     disk: &mut MemoryDisk,
     area: Area,
-    done: u8,
-    others: &[u8],
+    names: &[u8],
 ) -> Result<(), Fail> {
-    let mut names = [done].to_vec(alloc)?;
-    names.extend_from_slice(others)?;
     let end = disk.clock();
     // A stop within the next call is one after the last.
-    assert!(rt; disk.sync(Area::B).is_ok());
+    holds(rt, disk.sync(Area::B).is_ok());
     for torn in [Torn::Old, Torn::New, Torn::Byte(7)] {
-        assert!(rt; end < disk.clock());
-        let (a, b) = disk.image(alloc, end + 1, torn)?;
-        let left = found(alloc, disk_of(alloc, &a, &b, &[])?)?;
-        assert_eq!(rt; left.kept.area, area);
-        are_named(rt, alloc, &left.rows, &names)?;
+        let found = left(rt, alloc, disk, end.saturating_add(1), torn)?;
+        is_found(rt, alloc, &found, area, names)?;
     }
     Ok(())
 }
@@ -79,7 +88,7 @@ fn fails(rt: &impl Abort, alloc: Global, failing: &[u64]) -> Result<(), Fail> {
     let offers = offers()?;
     let board = loaded(alloc, disk_of(alloc, &BEFORE, b"", failing)?)?;
     let (mut disk, done) = goes_on(rt, board, &offers);
-    leaves(rt, alloc, &mut disk, Area::A, done, b"web")
+    leaves(rt, alloc, &mut disk, Area::A, &[done, b'w', b'e', b'b'])
 }
 
 #[test]
@@ -94,21 +103,26 @@ fn a_checkpoint_that_failed_leaves_no_doubt(rt: HostRuntime) -> Result<(), Fail>
 
 // The checkpoint fails, and one that is asked for again is made in the end.
 fn is_made<D: Disk + Drop>(rt: &impl Abort, mut board: Board<D>) -> D {
-    assert_eq!(rt; board.checkpoint(), Err(CallFault::Disk { place: 0 }));
+    is_outcome(rt, board.checkpoint(), Err(CallFault::Disk { place: 0 }));
     for _ in 0..2u32 {
         let _end = board.checkpoint();
     }
-    assert_eq!(rt; board.kept_in(), kept(Area::B, 2, 0));
+    is_kept(rt, board.kept_in(), kept(Area::B, 2, 0));
     disk_in(board)
+}
+
+// The board is in the new area, with all that was done.
+fn is_made_there(rt: &impl Abort, alloc: Global, found: &Opened) -> Result<(), Fail> {
+    is_kept(rt, found.kept, kept(Area::B, 2, 0));
+    is_number(rt, found.rows.next, 10);
+    are_named(rt, alloc, &found.rows, b"web")
 }
 
 fn fails_at_first(rt: &impl Abort, alloc: Global, failing: &[u64]) -> Result<(), Fail> {
     let board = loaded(alloc, disk_of(alloc, &BEFORE, b"", failing)?)?;
     let disk = is_made(rt, board);
-    let left = found(alloc, copy_of(alloc, &disk)?)?;
-    assert_eq!(rt; left.kept, kept(Area::B, 2, 0));
-    assert_eq!(rt; left.rows.next, 10);
-    are_named(rt, alloc, &left.rows, b"web")
+    let found = found(alloc, copy_of(alloc, &disk)?)?;
+    is_made_there(rt, alloc, &found)
 }
 
 #[test]
@@ -127,11 +141,11 @@ fn fails_in_a_call(
     area: &[u8],
     failing: &[u64],
 ) -> Result<(), Fail> {
-    let doubt = desire(b'm')?;
+    let doubt = desire(b'm', 1)?;
     let offers = offers()?;
     let board = loaded(alloc, disk_of(alloc, area, b"", failing)?)?;
     let (mut disk, done) = doubts(rt, board, doubt, &offers);
-    leaves(rt, alloc, &mut disk, Area::B, done, b"w")
+    leaves(rt, alloc, &mut disk, Area::B, &[done, b'w'])
 }
 
 #[test]

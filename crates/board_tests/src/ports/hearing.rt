@@ -1,5 +1,7 @@
 //! Who hears what calls did.
-use super::{at, begin, close, desire, desire_each, disk_of, done, make};
+use super::{begin, close, desire_each, done, make};
+use crate::asserts::{are_bytes, holds, is_end, is_number};
+use crate::making::{at, desire};
 use bbs_model::{Change, Command, Event, Heard, Op, Port, Row};
 use cell_records::Amounts;
 use diego_names::{Instance, Key, List, Name, OutOfMemory};
@@ -38,8 +40,12 @@ fn hears<P: Port>(
     names: &[u8],
 ) -> Result<(), Fail> {
     let heard = hear(alloc, port, asked.0, asked.1)?;
-    assert_eq!(rt; desired_by(alloc, heard.events.items())?.as_slice(), names);
-    assert_eq!(rt; heard.upto, asked.0.saturating_add(names.len() as u64));
+    are_bytes(
+        rt,
+        desired_by(alloc, heard.events.items())?.as_slice(),
+        names,
+    );
+    is_number(rt, heard.upto, asked.0.saturating_add(names.len() as u64));
     Ok(())
 }
 
@@ -57,7 +63,7 @@ fn hears_parts<P: Port>(rt: &impl Abort, alloc: Global, port: &mut P) -> Result<
 #[test]
 fn a_part_of_the_log_is_heard(rt: HostRuntime) -> Result<(), Fail> {
     let alloc = rt.alloc();
-    let mut board = begin(alloc, disk_of(alloc, &[])?)?;
+    let mut board = begin(alloc, &[])?;
     let mut port = SolePort {
         board: &mut board,
         by: 1,
@@ -76,7 +82,7 @@ fn poll<P: Port>(
     max: u32,
 ) -> Result<List<Event>, OutOfMemory> {
     let (at, end) = (reader.at(), port.place());
-    assert!(rt; at <= end);
+    holds(rt, at <= end);
     reader.poll(alloc, port, max)
 }
 
@@ -89,15 +95,15 @@ fn polls_between_calls<P: Port>(rt: &impl Abort, alloc: Global, port: &mut P) ->
         let events = poll(rt, alloc, port, &mut reader, max)?;
         names.extend_from_slice(&desired_by(alloc, events.items())?)?;
     }
-    assert_eq!(rt; names.as_slice(), b"abcdef".as_slice());
-    assert_eq!(rt; reader.at(), 6);
+    are_bytes(rt, &names, b"abcdef");
+    is_number(rt, reader.at(), 6);
     Ok(())
 }
 
 #[test]
 fn no_item_is_skipped_and_none_comes_twice(rt: HostRuntime) -> Result<(), Fail> {
     let alloc = rt.alloc();
-    let mut board = begin(alloc, disk_of(alloc, &[])?)?;
+    let mut board = begin(alloc, &[])?;
     let mut port = SolePort {
         board: &mut board,
         by: 1,
@@ -144,7 +150,7 @@ fn begin_round() -> Result<[Command; 9], Fail> {
     Ok([
         join(b"c1")?,
         join(b"c2")?,
-        desire(b'w')?,
+        desire(b'w', 3)?,
         make(b'w', 0)?,
         make(b'w', 1)?,
         make(b'w', 2)?,
@@ -171,25 +177,25 @@ fn are_told(events: &[Event], wanted: &[(char, bool)]) -> bool {
 
 fn polls_a_round<P: Port>(rt: &impl Abort, alloc: Global, port: &mut P) -> Result<(), Fail> {
     for (place, command) in begin_round()?.iter().enumerate() {
-        assert_eq!(rt; port.call(*command), done(place as u64));
+        is_end(rt, port.call(*command), done(place as u64));
     }
     let mut reader = Subscription::new(0);
     let cells = [('c', true), ('c', true)];
-    assert!(rt; are_told(reader.poll(alloc, port, 2)?.items(), &cells));
-    assert_eq!(rt; reader.at(), 2);
+    holds(rt, are_told(reader.poll(alloc, port, 2)?.items(), &cells));
+    is_number(rt, reader.at(), 2);
     let made = ('a', true);
     let claimed = ('a', false);
     let rest = [('d', true), made, made, made, claimed, claimed, claimed];
-    assert!(rt; are_told(reader.poll(alloc, port, 100)?.items(), &rest));
-    assert_eq!(rt; reader.at(), 9);
-    assert!(rt; reader.poll(alloc, port, 100)?.is_empty());
+    holds(rt, are_told(reader.poll(alloc, port, 100)?.items(), &rest));
+    is_number(rt, reader.at(), 9);
+    holds(rt, reader.poll(alloc, port, 100)?.is_empty());
     Ok(())
 }
 
 #[test]
 fn a_reader_hears_a_round_in_order(rt: HostRuntime) -> Result<(), Fail> {
     let alloc = rt.alloc();
-    let mut board = begin(alloc, disk_of(alloc, &[])?)?;
+    let mut board = begin(alloc, &[])?;
     let mut port = SolePort {
         board: &mut board,
         by: 1,

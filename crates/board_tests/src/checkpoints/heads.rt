@@ -1,6 +1,9 @@
 //! The head that a checkpoint writes, to the byte.
-use super::{checkpointed, disk_of, loaded};
-use disk_trait::Area;
+use super::checkpointed;
+use crate::asserts::{are_bytes, holds};
+use crate::making::{disk_of, loaded};
+use disk_trait::{Area, MemoryDisk};
+use std::process::Abort;
 use std::test::Fail;
 
 /// An area of generation 1 whose head has a row of each table, and of two actual rows, and behind it the
@@ -33,6 +36,13 @@ const AFTER: [u8; 173] = *b"\x01DIEGOBBS\x00\x01\x00\x00\x00\x00\x00\x00\x00\x02
 \x02c1\x02z1\x00\x00\x00\x04\x00\x00\x00\x08\x00\x00\x00\x00\x32\
 \x00\x00\x00\x00\x00\x00\x00\x03\x00\x00\x00\x00\x00\x00\x00\x64\x01\x00";
 
+// The new area stands beside the old one, and this behind it.
+fn has_after(rt: &impl Abort, disk: &MemoryDisk, rest: &[u8]) {
+    are_bytes(rt, disk.bytes(Area::A), &BEFORE);
+    holds(rt, disk.bytes(Area::B).starts_with(&AFTER));
+    holds(rt, disk.bytes(Area::B).get(173..) == Some(rest));
+}
+
 #[test]
 fn a_head_has_the_rows_of_all_tables(rt: HostRuntime) -> Result<(), Fail> {
     let alloc = rt.alloc();
@@ -41,9 +51,7 @@ fn a_head_has_the_rows_of_all_tables(rt: HostRuntime) -> Result<(), Fail> {
     for (old, rest) in [(&long[..0], &long[..0]), (&long[..200], &long[..27])] {
         let board = loaded(alloc, disk_of(alloc, &BEFORE, old, &[])?)?;
         let disk = checkpointed(&rt, board);
-        assert_eq!(rt; disk.bytes(Area::A), BEFORE.as_slice());
-        assert_eq!(rt; disk.bytes(Area::B).get(..173), Some(AFTER.as_slice()));
-        assert_eq!(rt; disk.bytes(Area::B).get(173..), Some(rest));
+        has_after(&rt, &disk, rest);
     }
     Ok(())
 }

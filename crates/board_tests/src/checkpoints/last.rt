@@ -1,5 +1,6 @@
 //! The last generation, in which a board would make no checkpoint: no board is loaded from it.
-use super::disk_of;
+use crate::asserts::holds;
+use crate::making::disk_of;
 use bbs_board::{LoadFault, load};
 use disk_trait::{Area, Disk};
 use std::alloc::Global;
@@ -28,7 +29,7 @@ fn no_board_is_loaded_from_the_last_generation(rt: HostRuntime) -> Result<(), Fa
     // A generation is at most one more than the number of transitions, which has a limit of its own.
     for (area, at) in [(&FIRST, 11), (&LAST, 23)] {
         let fault = refusal(alloc, disk_of(alloc, area, b"", &[])?);
-        assert_eq!(rt; fault, Some(LoadFault::Damaged { area: Area::A, at }));
+        holds(&rt, fault == Some(LoadFault::Damaged { area: Area::A, at }));
     }
     Ok(())
 }

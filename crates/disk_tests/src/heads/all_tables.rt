@@ -1,6 +1,11 @@
 //! A head of all four tables, written by hand.
+ghost use Rattle.bbs_model.specs.Valid.{IsValid};
 
-use super::*;
+use crate::asserts::{are_bytes, is_number};
+use bbs_model::Rows;
+use head_codec::{read_head, write_head};
+use std::alloc::Global;
+use std::process::Abort;
 use std::test::Fail;
 
 /// A row of each table in each of its states, after nine transitions.
@@ -34,13 +39,20 @@ pub const ALL: [u8; 321] = [
     0, 0, 100, 1,
 ];
 
+// These rows, as they are written.
+fn are_written_back(rt: &impl Abort, alloc: Global, rows: &Rows) -> Result<(), Fail>
+    requires { IsValid rows.now }
+{
+    is_number(rt, rows.next, 9);
+    is_number(rt, rows.actual.len() as u64, 4);
+    let written = write_head(alloc, rows)?;
+    are_bytes(rt, &written, &ALL);
+    Ok(())
+}
+
 #[test]
 fn a_head_is_read_and_written_as_it_was(rt: HostRuntime) -> Result<(), Fail> {
     let alloc = rt.alloc();
     let rows = read_head(alloc, &ALL)?;
-    assert_eq!(rt; rows.next, 9);
-    assert_eq!(rt; rows.actual.len(), 4);
-    let written = write_head(alloc, &rows)?;
-    assert!(rt; written.as_slice() == ALL.as_slice());
-    Ok(())
+    are_written_back(&rt, alloc, &rows)
 }

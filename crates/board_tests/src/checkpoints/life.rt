@@ -1,9 +1,10 @@
 //! A life that fills area after area: of one process, wanted with two instances and one by turns.
-use super::{EMPTY, desire, disk_in, disk_of, does, found, kept, loaded};
+use super::does;
+use crate::asserts::{holds, is_kept, is_number};
+use crate::bytes::EMPTY;
+use crate::making::{Opened, desire, disk_in, disk_of, found_in, kept, loaded, update};
 use bbs_board::{Board, KeptIn};
-use bbs_model::{Command, Op};
-use crash_backoff::Moment;
-use diego_names::Name;
+use bbs_model::Command;
 use disk_trait::{Area, Disk, MemoryDisk};
 use std::alloc::Global;
 use std::process::Abort;
@@ -13,19 +14,7 @@ use std::test::Fail;
 pub type Life = [Command; 3];
 
 pub fn make_life() -> Result<Life, Fail> {
-    Ok([desire(b'w')?, update(2)?, update(1)?])
-}
-
-fn update(instances: u32) -> Result<Command, Fail> {
-    Ok(Command {
-        now: Moment(0),
-        op: Op::Update {
-            process: Name::read(b"w")?,
-            instances,
-            route: None,
-            port: 8080,
-        },
-    })
+    Ok([desire(b'w', 1)?, update(0, b"w", 2)?, update(0, b"w", 1)?])
 }
 
 fn transition(life: &Life, number: u64) -> Command {
@@ -41,7 +30,7 @@ fn transition(life: &Life, number: u64) -> Command {
 /// Goes on until there were so many transitions.
 pub fn live<D: Disk>(rt: &impl Abort, board: &mut Board<D>, life: &Life, next: u64) {
     for number in board.next()..next {
-        assert!(rt; does(board, transition(life, number)));
+        holds(rt, does(board, transition(life, number)));
     }
 }
 
@@ -54,8 +43,8 @@ fn passes<D: Disk + Drop>(
 ) -> D {
     for (next, kept) in stations {
         live(rt, &mut board, life, *next);
-        assert_eq!(rt; board.next(), *next);
-        assert_eq!(rt; board.kept_in(), *kept);
+        is_number(rt, board.next(), *next);
+        is_kept(rt, board.kept_in(), *kept);
     }
     disk_in(board)
 }
@@ -81,28 +70,26 @@ pub fn area_with(rt: &impl Abort, alloc: Global, frames: u64) -> Result<Vec<u8>,
     Ok(disk.bytes(Area::A).to_vec(alloc)?)
 }
 
-// Where the board of these areas is found, after how many transitions, and with how many instances.
-fn is_found(
-    rt: &impl Abort,
-    alloc: Global,
-    (a, b): (&[u8], &[u8]),
-    kept: KeptIn,
-    next: u64,
-    instances: u32,
-) -> Result<(), Fail> {
-    let board = found(alloc, disk_of(alloc, a, b, &[])?)?;
-    assert_eq!(rt; board.kept, kept);
-    assert_eq!(rt; board.rows.next, next);
-    let wanted = board.rows.desired.items();
-    assert_eq!(rt; wanted.len(), 1);
-    assert_eq!(rt; wanted[0].instances, instances);
-    Ok(())
+// Where a board is found, after how many transitions, and with how many instances.
+fn is_found(rt: &impl Abort, found: &Opened, kept: KeptIn, next: u64, instances: u32) {
+    is_kept(rt, found.kept, kept);
+    is_number(rt, found.rows.next, next);
+    let wanted = found.rows.desired.items();
+    holds(rt, wanted.len() == 1);
+    is_number(rt, wanted[0].instances as u64, instances as u64);
 }
 
 // The last area, and the one that was left, which is as it was.
 fn are_found(rt: &impl Abort, alloc: Global, a: &[u8], b: &[u8]) -> Result<(), Fail> {
-    is_found(rt, alloc, (a, b), kept(Area::B, 4, 1), 12289, 1)?;
-    is_found(rt, alloc, (a, b""), kept(Area::A, 3, 4096), 12288, 2)
+    is_found(rt, &found_in(alloc, a, b)?, kept(Area::B, 4, 1), 12289, 1);
+    is_found(
+        rt,
+        &found_in(alloc, a, b"")?,
+        kept(Area::A, 3, 4096),
+        12288,
+        2,
+    );
+    Ok(())
 }
 
 #[test]

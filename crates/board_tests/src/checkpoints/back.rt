@@ -1,6 +1,9 @@
 //! Checkpoints by turns between the areas, and one that has nothing to do.
 use super::life::{Life, area_with, live, make_life};
-use super::{CALLS, EMPTY, are_named, desire, disk_in, disk_of, does, found, kept, loaded};
+use super::{CALLS, are_named, does};
+use crate::asserts::{are_bytes, holds, is_kept, is_number, is_outcome};
+use crate::bytes::EMPTY;
+use crate::making::{Opened, desire, disk_in, disk_of, found_in, kept, loaded};
 use bbs_board::Board;
 use bbs_model::Command;
 use disk_trait::{Area, Disk, MemoryDisk};
@@ -9,10 +12,15 @@ use std::process::Abort;
 use std::test::Fail;
 
 fn does_nothing<D: Disk + Drop>(rt: &impl Abort, mut board: Board<D>) -> D {
-    assert_eq!(rt; board.checkpoint(), Ok(()));
-    assert_eq!(rt; board.clock(), CALLS);
-    assert_eq!(rt; board.kept_in(), kept(Area::A, 1, 0));
+    is_outcome(rt, board.checkpoint(), Ok(()));
+    is_number(rt, board.clock(), CALLS);
+    is_kept(rt, board.kept_in(), kept(Area::A, 1, 0));
     disk_in(board)
+}
+
+fn is_empty_board(rt: &impl Abort, disk: &MemoryDisk) {
+    are_bytes(rt, disk.bytes(Area::A), &EMPTY);
+    holds(rt, disk.bytes(Area::B).is_empty());
 }
 
 #[test]
@@ -20,8 +28,7 @@ fn a_checkpoint_of_an_area_without_frames_does_nothing(rt: HostRuntime) -> Resul
     let alloc = rt.alloc();
     let board = loaded(alloc, disk_of(alloc, &EMPTY, b"", &[])?)?;
     let disk = does_nothing(&rt, board);
-    assert_eq!(rt; disk.bytes(Area::A), EMPTY.as_slice());
-    assert!(rt; disk.bytes(Area::B).is_empty());
+    is_empty_board(&rt, &disk);
     Ok(())
 }
 
@@ -34,16 +41,16 @@ const BACK: [u8; 68] = *b"\x01DIEGOBBS\x00\x01\x00\x00\x00\x00\x00\x00\x00\x03\x
 // A checkpoint, one that finds nothing to do, a transition, and a checkpoint back into the area that was
 // left.
 fn there_and_back<D: Disk + Drop>(rt: &impl Abort, mut board: Board<D>, life: &Life) -> D {
-    assert_eq!(rt; board.checkpoint(), Ok(()));
-    assert_eq!(rt; board.kept_in(), kept(Area::B, 2, 0));
-    assert_eq!(rt; board.clock(), CALLS + 8);
-    assert_eq!(rt; board.checkpoint(), Ok(()));
-    assert_eq!(rt; board.kept_in(), kept(Area::B, 2, 0));
-    assert_eq!(rt; board.clock(), CALLS + 8);
+    is_outcome(rt, board.checkpoint(), Ok(()));
+    is_kept(rt, board.kept_in(), kept(Area::B, 2, 0));
+    is_number(rt, board.clock(), CALLS + 8);
+    is_outcome(rt, board.checkpoint(), Ok(()));
+    is_kept(rt, board.kept_in(), kept(Area::B, 2, 0));
+    is_number(rt, board.clock(), CALLS + 8);
     live(rt, &mut board, life, 11);
-    assert_eq!(rt; board.kept_in(), kept(Area::B, 2, 1));
-    assert_eq!(rt; board.checkpoint(), Ok(()));
-    assert_eq!(rt; board.kept_in(), kept(Area::A, 3, 0));
+    is_kept(rt, board.kept_in(), kept(Area::B, 2, 1));
+    is_outcome(rt, board.checkpoint(), Ok(()));
+    is_kept(rt, board.kept_in(), kept(Area::A, 3, 0));
     disk_in(board)
 }
 
@@ -55,35 +62,39 @@ pub fn gone_back(rt: &impl Abort, alloc: Global, old: &[u8]) -> Result<MemoryDis
 }
 
 fn goes_on<D: Disk + Drop>(rt: &impl Abort, mut board: Board<D>, command: Command) -> D {
-    assert_eq!(rt; board.kept_in(), kept(Area::A, 3, 0));
-    assert!(rt; does(&mut board, command));
+    is_kept(rt, board.kept_in(), kept(Area::A, 3, 0));
+    holds(rt, does(&mut board, command));
     disk_in(board)
 }
 
-// The board of these areas has one frame, and both processes.
-fn has_gone_on(rt: &impl Abort, alloc: Global, a: &[u8], b: &[u8]) -> Result<(), Fail> {
-    let board = found(alloc, disk_of(alloc, a, b, &[])?)?;
-    assert_eq!(rt; board.kept, kept(Area::A, 3, 1));
-    assert_eq!(rt; board.rows.next, 12);
-    are_named(rt, alloc, &board.rows, b"mw")
+// A board has one frame, and both processes.
+fn has_gone_on(rt: &impl Abort, alloc: Global, found: &Opened) -> Result<(), Fail> {
+    is_kept(rt, found.kept, kept(Area::A, 3, 1));
+    is_number(rt, found.rows.next, 12);
+    are_named(rt, alloc, &found.rows, b"mw")
+}
+
+fn goes_on_here(rt: &impl Abort, alloc: Global, a: &[u8], b: &[u8]) -> Result<(), Fail> {
+    let found = found_in(alloc, a, b)?;
+    has_gone_on(rt, alloc, &found)
 }
 
 // Whatever stands behind the closed gate, the board goes on over it.
 fn is_free(rt: &impl Abort, alloc: Global, area: &[u8], other: &[u8]) -> Result<(), Fail> {
-    let command = desire(b'm')?;
+    let command = desire(b'm', 1)?;
     let board = loaded(alloc, disk_of(alloc, area, other, &[])?)?;
     let disk = goes_on(rt, board, command);
-    has_gone_on(rt, alloc, disk.bytes(Area::A), disk.bytes(Area::B))
+    goes_on_here(rt, alloc, disk.bytes(Area::A), disk.bytes(Area::B))
 }
 
 // The area that was gone back to, with what the longer one held behind it, with nothing, and with
 // open gates.
 fn is_back(rt: &impl Abort, alloc: Global, old: &[u8], a: &[u8], b: &[u8]) -> Result<(), Fail> {
     // A head without rows, a frame of 28 bytes and nine of 17, and a gate.
-    assert_eq!(rt; old.len(), 229);
-    assert_eq!(rt; a.len(), 229);
-    assert_eq!(rt; a.get(..68), Some(BACK.as_slice()));
-    assert_eq!(rt; a.get(68..), old.get(68..));
+    is_number(rt, old.len() as u64, 229);
+    is_number(rt, a.len() as u64, 229);
+    holds(rt, a.starts_with(&BACK));
+    holds(rt, a.get(68..) == old.get(68..));
     is_free(rt, alloc, a, b)?;
     is_free(rt, alloc, &BACK, b)?;
     let mut open = BACK.to_vec(alloc)?;
