@@ -6,14 +6,29 @@ ghost use Rattle.phase_threads.specs.declared.acting.Acting.{Acting};
 use crate::acting::{Acting, act_out};
 use actor_runs::GatedPort;
 use bbs_model::Port;
+use busy_threads::for_each_busy;
 use byte_ports::Gate;
 use crash_backoff::Moment;
 use scenario_lines::Line;
 use std::alloc::Global;
-use std::thread;
 use std::thread::Threads;
 
-/// Each actor does its lines on a thread of its own, so that one may wait at the gate for another.
+/// More than the actors of a phase.
+const MANY: usize = 4096;
+
+// Which actors have lines. Actors count from 1, and places from 0.
+fn have_lines(lines: &[Line]) -> [bool; MANY] {
+    let mut busy = [false; MANY];
+    for line in lines {
+        if let Some(mark) = busy.get_mut((line.actor as usize).wrapping_sub(1)) {
+            *mark = true;
+        }
+    }
+    busy
+}
+
+/// Each actor that has lines does them on a thread of its own, so that one may wait at the gate for
+/// another. An actor without lines costs no thread.
 fn act_each<'a, R: Threads + Sync, P: Port + Drop + Send, G: Gate + Sync>(
     rt: &R,
     alloc: Global,
@@ -21,17 +36,16 @@ fn act_each<'a, R: Threads + Sync, P: Port + Drop + Send, G: Gate + Sync>(
     lines: &[Line],
     now: Moment,
 )
-    requires some { 0 < length all.old }
     requires ready { All (IsReady (λ p. P.number p.port) lines.now) all.old }
     ensures acts { (k : ℕ) (d : Acting _) → k < length all.old
         → ActsOut (λ p. P.view p.port) (λ p q. P.keeps p.port q.port) now lines.now
         (slice_index_or all.old k d) (slice_index_or all.new k d) }
 {
-    let threads = all.len();
-    thread::for_each_mut(
+    let busy = have_lines(lines);
+    for_each_busy(
         rt,
         all,
-        threads,
+        &busy,
         &|_, acting: &mut Acting<GatedPort<'_, P, G>>|
             requires { IsReady (λ p. P.number p.port) lines.now acting.now }
             ensures { ActsOut (λ p. P.view p.port) (λ p q. P.keeps p.port q.port)

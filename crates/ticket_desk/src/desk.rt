@@ -1,6 +1,7 @@
 //! The desk itself.
 ghost use Rattle.std.specs.Prelude.{◌≡◌};
 
+use crate::bells::Bells;
 use crate::history::History;
 use crate::rule::Board;
 
@@ -8,6 +9,7 @@ use crate::rule::Board;
 /// `close`.
 pub struct Desk<V: History> {
     pub table: Board<V>,
+    pub bells: Bells,
     pub ghost sized: { (table.shared.table_id.words ≡ 2) × (table.shared.table_id.slots ≡ 1) },
 }
 
@@ -15,13 +17,13 @@ impl<V: History> Desk<V> {
     pub(crate) fn into_board(self) -> Board<V>
         ensures { result ≡ self.table }
     {
-        let Self { table } = self;
+        let Self { table, bells: _ } = self;
         table
     }
 }
 
 impl<V: History + Drop> Drop for Desk<V> {
     fn drop(self) {
-        let Self { table: _ } = self;
+        let Self { table: _, bells: _ } = self;
     }
 }

@@ -2,6 +2,7 @@
 //! the value's history, and what it has added to it, is known wherever its pass is.
 #![tactic(auto)]
 
+mod bells;
 mod close;
 mod desk;
 mod history;
@@ -14,6 +15,7 @@ mod tickets;
 mod turn;
 mod view;
 
+pub use bells::Bells;
 pub use desk::Desk;
 pub use history::History;
 pub use pass::{Pass, PassOf};

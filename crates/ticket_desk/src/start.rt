@@ -8,6 +8,7 @@ ghost use Rattle.ticket_desk.specs.Tables.{IsDesk};
 ghost use Rattle.ticket_desk.specs.Ends.{IsFirst, AreGiven};
 ghost use Rattle.ticket_desk.specs.declared.pass.Pass.{Pass};
 
+use crate::bells::Bells;
 use crate::desk::Desk;
 use crate::history::History;
 use crate::pass::{Pass, PassOf};
@@ -112,13 +113,16 @@ pub(crate) fn start_at<V: History>(
     let Ok(mut passes) = Vec::with_capacity(alloc, seats as usize) else {
         return Err((value, AllocError));
     };
+    let Ok(bells) = Bells::new(alloc, seats) else {
+        return Err((value, AllocError));
+    };
     let (table, mut first) = match lay(alloc, value, from) {
         Ok(laid) => laid,
         Err(refused) => return Err(refused),
     };
     deal(&table.shared, &mut first, &mut passes, seats);
     passes = with_first(passes, first);
-    Ok((Desk { table }, passes))
+    Ok((Desk { table, bells }, passes))
 }
 
 // The passes with that of number 0 in front.

@@ -5,6 +5,7 @@ ghost use Rattle.ticket_desk.specs.Steps.{TakesTurn, Fits, after_turn};
 ghost use Rattle.ticket_desk.specs.Turns.{Adds};
 ghost use Rattle.ticket_desk.specs.Tables.{IsDesk, IsWaiting, IsDone};
 
+use crate::bells::Bells;
 use crate::history::History;
 use crate::plays::{Draw, HandOn, Look};
 use crate::rule::{Place, Top};
@@ -17,8 +18,6 @@ const SERVED: usize = 1;
 
 /// So often a waiting thread gives its processor away before it sleeps.
 const PATIENCE: u32 = 16;
-
-const LOW_HALF: u64 = 0xffff_ffff;
 
 /// Draws a ticket.
 pub(crate) fn draw<V: History>(top: &Top<V>, place: &mut Place<V>, number: u32) -> u64
@@ -33,10 +32,12 @@ pub(crate) fn draw<V: History>(top: &Top<V>, place: &mut Place<V>, number: u32) 
     top.fetch_add::<Draw>(place, DRAWN, 1)
 }
 
-/// Waits until the ticket is served. The value is out with the seat then.
+/// Waits until the ticket is served. The value is out with the seat then. What the ticket's bell shows is
+/// read before the look, so that a ring behind the look ends the sleep.
 pub(crate) fn await_turn<V: History, R: Wait>(
     rt: &R,
     top: &Top<V>,
+    bells: &Bells,
     place: &mut Place<V>,
     number: u32,
     ticket: u64,
@@ -49,6 +50,7 @@ pub(crate) fn await_turn<V: History, R: Wait>(
     let _ = number;
     let mut looks = 0;
     for _ in rt.forever() {
+        let shown = bells.shown(ticket);
         let served = top.load::<Look>(place, SERVED);
         if served == ticket {
             return;
@@ -57,15 +59,21 @@ pub(crate) fn await_turn<V: History, R: Wait>(
             looks += 1;
             thread::yield_now();
         } else {
-            top.park(rt, SERVED, (served & LOW_HALF) as u32);
+            bells.sleep(rt, ticket, shown);
         }
     }
     unreachable!()
 }
 
-/// Serves the next ticket. The value is home, and its history may be longer by one item of this
-/// number.
-pub(crate) fn hand_on<V: History>(top: &Top<V>, place: &mut Place<V>, number: u32, ticket: u64)
+/// Serves the next ticket, and wakes whoever has it. The value is home, and its history may be longer by
+/// one item of this number.
+pub(crate) fn hand_on<V: History>(
+    top: &Top<V>,
+    bells: &Bells,
+    place: &mut Place<V>,
+    number: u32,
+    ticket: u64,
+)
     requires board { IsDesk top.now.table_id place.old.table_id }
     requires done { IsDone V.items V.origin V.by number ticket place.old.me }
     ensures board { place.new.table_id ≡ place.old.table_id }
@@ -76,6 +84,6 @@ pub(crate) fn hand_on<V: History>(top: &Top<V>, place: &mut Place<V>, number: u3
     let next = ticket.wrapping_add(1);
     top.store::<HandOn>(place, SERVED, next);
     if top.peek(DRAWN) != next {
-        top.wake_all(SERVED);
+        bells.ring(next);
     }
 }

@@ -30,7 +30,7 @@ impl<V: History> Desk<V> {
         let number = pass.number;
         let place = &mut pass.place;
         let ticket = draw(top, place, number);
-        await_turn(rt, top, place, number, ticket);
+        await_turn(rt, top, &self.bells, place, number, ticket);
         let Some(mut value) = top.exchange(place, 0, None) else {
             unreachable!()
         };
@@ -39,7 +39,7 @@ impl<V: History> Desk<V> {
             None => {}
             Some(_) => unreachable!(),
         }
-        hand_on(top, place, number, ticket);
+        hand_on(top, &self.bells, place, number, ticket);
         answer
     }
 }
