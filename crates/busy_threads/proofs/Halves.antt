@@ -5,7 +5,6 @@ use Rattle.std.proofs.lemmas.Bool.{cases_lt}
 use Rattle.busy_threads.specs.Places.{AreReady, AreChanged}
 
 module _ {X : Type 0} (P : ℕ → X → Type 0) where
-
   pub front_of : (base : ℕ) (all xs ys : List X) → all ≡ xs ++ ys → 0 < length xs → AreReady P base all → AreReady P base xs
   front_of base all xs ys is some r =
       record {
