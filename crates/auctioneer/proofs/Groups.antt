@@ -1,18 +1,18 @@
 -- The cells of a group in their order, one after the other.
-use Rattle.std.proofs.Common.{◌≡◌, ◌≢◌, ℕ, ◌+◌, ◌<◌, ◌≤◌, true, false, cond, ◌&&◌, nat_eq, nat_le, nat_lt, List, [], ◌∷◌, length, get_or, Option, Some, None, ◌⊎◌, inl, inr, refl, sym, ap, subst, ◌∙◌, arith}
+use Rattle.std.proofs.Common.{◌≡◌, ℕ, ◌+◌, ◌<◌, ◌≤◌, true, false, ◌&&◌, nat_eq, nat_le, nat_lt, List, [], ◌∷◌, length, get_or, Option, Some, None, ◌⊎◌, inl, inr, refl, sym, ap, subst, ◌∙◌, arith}
 use Rattle.std.specs.BTreeMap.{is_at}
 use Rattle.std.specs.BTreeMap.Range.{range_contains}
-use Rattle.std.specs.BTreeSet.{BTreeSet, contains, IsOrdered, IsKeyInRange, keys_between}
+use Rattle.std.specs.BTreeSet.{IsOrdered, IsKeyInRange, keys_between}
 use Rattle.std.specs.Cmp.{nat_cmp_total, tied_itself}
 use Rattle.std.specs.Cmp.Lexicographic.{pointwise}
-use Rattle.std.specs.List.{All, AllByRecursion, Contains, filter, list_any}
+use Rattle.std.specs.List.{All, Contains, list_any}
 use Rattle.std.specs.List.Sorted.{IsStrictlySortedBy}
-use Rattle.std.specs.Option.{IfSome, IsSomeAnd, MatchOption, option_eq}
-use Rattle.std.specs.Ordering.{nat_cmp, is_gt, is_lt, eq_by_cmp, ordering_then}
+use Rattle.std.specs.Option.{IsSomeAnd, MatchOption, option_eq}
+use Rattle.std.specs.Ordering.{nat_cmp, is_gt, eq_by_cmp, ordering_then}
 use Rattle.std.specs.declared.cmp.Ordering.{Ordering}
 use Rattle.std.specs.declared.cmp.Ordering.TheVariants.{Less, Equal, Greater}
 use Rattle.std.specs.declared.ops.Bound.TheVariants.{Included, Excluded}
-use Rattle.std.proofs.lemmas.Bool.{cases_order, cases_lt}
+use Rattle.std.proofs.lemmas.Bool.{cases_lt}
 use Rattle.std.proofs.lemmas.Cmp.{ranked}
 use Rattle.std.proofs.lemmas.List.{get_or_default, get_or_read}
 use Rattle.std.proofs.lemmas.List.Elements.{Contains-get_or, All-head, All-tail, All-contains, All-from_recursion}
@@ -26,7 +26,7 @@ use Rattle.auction_scoring.specs.declared.scores.Score.{Score}
 use Rattle.auctioneer.specs.Candidates.{better_candidate}
 use Rattle.auctioneer.specs.Fields.{IsFieldOf, IsFitting, IsNoWorse, IsBestOf}
 use Rattle.auctioneer.specs.Least.{best, IsBestAt}
-use Rattle.auctioneer.specs.Spots.{spot_order, load_in, group_in, IsGroupOf, AreSpots, IsOrderOf}
+use Rattle.auctioneer.specs.Spots.{spot_order, load_in, group_in}
 use Rattle.auctioneer.specs.Stands.{can_take, score_in, in_zone}
 use Rattle.auctioneer.specs.Tallies.{tallied}
 use Rattle.auctioneer.specs.declared.candidate.Candidate.{Candidate}
@@ -37,7 +37,7 @@ use Rattle.auctioneer.specs.declared.stand.Stand.{Stand}
 use Rattle.auctioneer.proofs.Leasts.{best-from_least, contains_cases, never_better_than_itself}
 use Rattle.auctioneer.proofs.Offers.{IsFitting-better, no_worse_kept, no_worse_new, no_worse_unfit, no_worse_ahead, not_above_then, later_is_no_better, cmp_below, not_above}
 use Rattle.auctioneer.proofs.Placings.{pairs-from_rising}
-use Rattle.auctioneer.proofs.SpotOrders.{IsKeyOrder-spot_order, spot_from_test, test_from_spot}
+use Rattle.auctioneer.proofs.SpotOrders.{IsKeyOrder-spot_order, spot_from_test}
 
 -- the spot is that of its cell, in that group
 pub record IsSpotIn (f : Field) (number : ℕ) (q : Spot) : Type 0 where
@@ -128,10 +128,10 @@ module _ (f : Field) (field : IsFieldOf f) (job : Job) (number : ℕ) where
   }
 
   -- what the tally says of the group's zone
-  module _ (count : ℕ) (g : Group) (within : number < length f.groups.items) (at : g ≡ get_or f.groups.items number g) (counted : count ≡ tallied f.tally job.job g.zone) where
+  module _ (count : ℕ) (g : Group) (within : number < length f.groups.items) (at : g ≡ get_or f.groups.items number g) (counted : count ≡ tallied f.in_zones job.job g.zone) where
     zone_count : (k : ℕ) (s : Stand) (p : Spot) → k < length f.stands.items → (get_or f.spots.items k p).group ≡ number → count ≡ in_zone f.stands.items job.job (get_or f.stands.items k s).zone
     zone_count k s p below group =
-        counted ∙ field.tally job.job g.zone
+        counted ∙ field.zones job.job g.zone
         ∙ ap (λ (x : Group). in_zone f.stands.items job.job x.zone) (get_or_read f.groups.items number g within at (group_in s) ∙ group_there f field number k s p below group)
 
     pub zone_count_of : (q : Spot) → IsSpotIn f number q → (s : Stand) → count ≡ in_zone f.stands.items job.job (get_or f.stands.items q.cell s).zone

@@ -1,27 +1,27 @@
 -- A cell more beside the best so far.
-use Rattle.std.proofs.Common.{◌≡◌, ◌≢◌, ℕ, zero, suc, ◌+◌, ◌<◌, ◌≤◌, true, false, cond, eqb, List, [], ◌∷◌, length, get_or, Option, Some, None, ◌⊎◌, inl, inr, refl, sym, ap, subst, ◌∙◌, arith}
-use Rattle.std.specs.List.{All, Contains}
-use Rattle.std.specs.List.Sorted.{IsStrictlySortedBy}
+use Rattle.std.proofs.Common.{◌≡◌, ℕ, ◌<◌, ◌≤◌, true, false, cond, eqb, List, length, get_or, Option, Some, None, inl, inr, refl, sym, ap, subst, ◌∙◌, arith}
 use Rattle.std.specs.Option.{IfSome}
 use Rattle.std.specs.Cmp.{nat_cmp_total, tied_itself}
 use Rattle.std.specs.Ordering.{nat_cmp, is_gt, ordering_then}
 use Rattle.std.specs.declared.cmp.Ordering.{Ordering}
 use Rattle.std.specs.declared.cmp.Ordering.TheVariants.{Less, Equal, Greater}
-use Rattle.std.proofs.lemmas.Bool.{cases_order, cases_lt, lt-ltb}
-use Rattle.std.proofs.lemmas.List.Elements.{All-head, All-tail, All-contains, All-from_recursion}
-use Rattle.std.proofs.lemmas.Map.Keys.{sorted_head, sorted_tail}
+use Rattle.std.proofs.lemmas.Bool.{cases_order, lt-ltb}
+use Rattle.std.proofs.lemmas.List.{get_or_read}
 use Rattle.diego_names.specs.Order.{name_order}
 use Rattle.cell_records.specs.declared.job.Job.{Job}
-use Rattle.auction_scoring.specs.Order.{score_order, is_better}
+use Rattle.auction_scoring.specs.Order.{is_better}
+use Rattle.auction_scoring.specs.Score.{score_of}
 use Rattle.auction_scoring.specs.declared.scores.Score.{Score}
+use Rattle.auctioneer.specs.Asked.{AreStands}
 use Rattle.auctioneer.specs.Candidates.{better_candidate}
 use Rattle.auctioneer.specs.Fields.{IsFitting, IsNoWorse}
-use Rattle.auctioneer.specs.Spots.{spot_order}
-use Rattle.auctioneer.specs.Stands.{can_take, score_in, in_zone}
+use Rattle.auctioneer.specs.Stands.{can_take, score_in, in_zone, held_of, view_of}
+use Rattle.auctioneer.specs.Tallies.{count_at}
 use Rattle.auctioneer.specs.declared.candidate.Candidate.{Candidate}
-use Rattle.auctioneer.specs.declared.spots.Spot.{Spot}
 use Rattle.auctioneer.specs.declared.stand.Stand.{Stand}
+use Rattle.auctioneer.specs.declared.tally.Place.TheVariants.{Cell}
 use Rattle.auctioneer.proofs.AuctionLaws.{emptier_zone}
+use Rattle.auctioneer.proofs.Counts.{held-from_count}
 use Rattle.auctioneer.proofs.Leasts.{better_is_worse, better_is_no_worse, no_better_chain}
 
 module _ (stands : List Stand) (job : Job) where
@@ -84,3 +84,15 @@ later_is_no_better a b zone none later =
     better_is_worse b a
     ∙ not_above_then (nat_cmp a.in_zone b.in_zone) _ (not_above a.in_zone b.in_zone (omega arith)) (λ e.
     not_above_then (nat_cmp a.on_cell b.on_cell) _ (not_above a.on_cell b.on_cell (omega arith)) (λ f. later))
+
+-- a cell that fits, with its score by the counts that are kept
+pub IsFitting-counted : (stands : List Stand) (job : Job) (at : ℕ) (d : Stand) (zone cell : ℕ) (score : Score) → AreStands stands → at < length stands → d ≡ get_or stands at d → zone ≡ in_zone stands job.job d.zone → cell ≡ count_at Cell stands job.job d.cell → score ≡ score_of (view_of d zone cell) → can_take job d ≡ true → IsFitting stands job (record { at = at; score = score })
+IsFitting-counted stands job at d zone cell score sound inside is in_zone_is on_cell_is scored fits = record {
+  inside = inside;
+  score = λ s.
+      let same : d ≡ get_or stands at s = get_or_read stands at d inside is s in
+      let here : zone ≡ in_zone stands job.job (get_or stands at s).zone = in_zone_is ∙ ap (λ (x : Stand). in_zone stands job.job x.zone) same in
+      let held : cell ≡ held_of job.job (get_or stands at s) = on_cell_is ∙ ap (λ (x : Stand). count_at Cell stands job.job x.cell) same ∙ held-from_count job.job stands at s sound.rising inside in
+      scored ∙ (λ i. score_of (view_of (same i) (here i) (held i)));
+  fits = λ s. subst (λ (x : Stand). can_take job x ≡ true) (get_or_read stands at d inside is s) fits;
+}

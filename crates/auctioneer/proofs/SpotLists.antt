@@ -1,9 +1,9 @@
 -- The spots of the cells, one after the other.
-use Rattle.std.proofs.Common.{◌≡◌, ℕ, ◌+◌, ◌<◌, ◌≤◌, List, [], ◌∷◌, ◌++◌, length, take, set, get_or, refl, sym, ap, subst, ◌∙◌, inl, inr, arith}
+use Rattle.std.proofs.Common.{◌≡◌, ℕ, ◌<◌, List, [], ◌∷◌, ◌++◌, length, set, get_or, refl, sym, ap, subst, ◌∙◌, inl, inr, arith}
 use Rattle.std.proofs.lemmas.Bool.{cases_lt, cases_eq}
 use Rattle.std.proofs.lemmas.List.{length-append, length-set, get_or_append_left, get_or_push, get_or-set_same, get_or-set_other}
 use Rattle.cell_records.specs.declared.job.Job.{Job}
-use Rattle.auctioneer.specs.Spots.{load_in, group_in, IsGroupOf, AreSpots}
+use Rattle.auctioneer.specs.Spots.{load_in, IsGroupOf, AreSpots}
 use Rattle.auctioneer.specs.Stands.{with_job}
 use Rattle.auctioneer.specs.declared.spots.Group.{Group}
 use Rattle.auctioneer.specs.declared.spots.Spot.{Spot}

@@ -5,18 +5,20 @@ use Rattle.auction_scoring.specs.Order.{is_better}
 use Rattle.auctioneer.specs.Asked.{AreStands}
 use Rattle.auctioneer.specs.Spots.{AreSpots, IsOrderOf}
 use Rattle.auctioneer.specs.Stands.{can_take, score_in}
-use Rattle.auctioneer.specs.Tallies.{CountsZones}
+use Rattle.auctioneer.specs.Tallies.{CountsAt}
 use Rattle.auctioneer.specs.declared.candidate.Candidate.{Candidate}
 use Rattle.auctioneer.specs.declared.field.Field.{Field}
 use Rattle.auctioneer.specs.declared.spots.Spot.{Spot}
 use Rattle.auctioneer.specs.declared.stand.Stand.{Stand}
+use Rattle.auctioneer.specs.declared.tally.Place.TheVariants.{Zone, Cell}
 
--- spots, order and tally are those of the cells
+-- spots, order and tallies are those of the cells
 pub record IsFieldOf (f : Field) : Type 0 where
   pub sound : AreStands f.stands.items
   pub spots : AreSpots f.groups.items f.stands.items f.spots.items
   pub order : IsOrderOf f.order f.spots.items
-  pub tally : CountsZones f.tally f.stands.items
+  pub zones : CountsAt Zone f.in_zones f.stands.items
+  pub cells : CountsAt Cell f.on_cells f.stands.items
 
 -- the candidate is one of the cells, with its score, and fits
 pub record IsFitting (stands : List Stand) (job : Job) (c : Candidate) : Type 0 where

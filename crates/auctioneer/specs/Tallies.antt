@@ -1,31 +1,47 @@
--- How many containers of each process each zone has, as it is kept.
-use Rattle.std.specs.Prelude.{◌≡◌, ℕ, ◌+◌, Bool, ◌&&◌, List, nat_eq, unwrap_or, if◌then◌else◌}
+-- How many containers of each process each zone has, and each cell, as it is kept.
+use Rattle.std.specs.Prelude.{◌≡◌, ℕ, ◌+◌, Bool, ◌&&◌, List, sum_by, unwrap_or, if◌then◌else◌}
 use Rattle.std.specs.HashMap.{get}
 use Rattle.cell_records.specs.declared.job_name.JobName.{JobName}
 use Rattle.cell_records.specs.declared.job_name.JobName.TheVariants.{Lrp, Task}
-use Rattle.auctioneer.specs.Stands.{same_name, is_of, in_zone}
+use Rattle.auctioneer.specs.Stands.{same_name, is_of, held_of}
 use Rattle.auctioneer.specs.declared.stand.Stand.{Stand}
+use Rattle.auctioneer.specs.declared.tally.Place.{Place}
+use Rattle.auctioneer.specs.declared.tally.Place.TheVariants.{Zone, Cell}
 use Rattle.auctioneer.specs.declared.tally.Share.{Share}
 use Rattle.auctioneer.specs.declared.tally.Tally.{Tally}
 
--- whether both are one process in one zone
+-- the name of the cell's zone, or its own
+abbrev pub place_of : Place → Stand → List ℕ
+place_of Zone s = s.zone
+place_of Cell s = s.cell
+
+-- how many containers of the job's process the cell has, if it is at that place
+abbrev pub held_at : Place → JobName → List ℕ → Stand → ℕ
+held_at place job name s = if same_name (place_of place s) name then held_of job s else 0
+
+-- how many all cells at that place have
+abbrev pub count_at : Place → List Stand → JobName → List ℕ → ℕ
+count_at place stands job name = sum_by (held_at place job name) stands
+
+-- whether both are one process at one place
 abbrev pub same_share : Share → Share → Bool
-same_share a b = same_name a.process b.process && same_name a.zone b.zone
+same_share a b = same_name a.process b.process && same_name a.place b.place
 
--- how many containers of the job's process the zone has; a task is of none
+-- how many containers of the job's process the place has, by the tally; a task is of none
 abbrev pub tallied : Tally → JobName → List ℕ → ℕ
-tallied tally (Lrp key) zone = unwrap_or (get same_share tally.counts (record { process = key.process; zone = zone })) 0
-tallied tally (Task name) zone = 0
+tallied tally (Lrp key) name =
+    unwrap_or (get same_share tally.counts (record { process = key.process; place = name })) 0
+tallied tally (Task task) name = 0
 
--- whether a container counts for a process in a zone
+-- whether a container at a place counts for a process at another
 abbrev pub counts_for : JobName → List ℕ → JobName → List ℕ → ℕ
-counts_for job zone other place = if same_name zone place then (if is_of other job then 1 else 0) else 0
+counts_for job name other place = if same_name name place then (if is_of other job then 1 else 0) else 0
 
--- one container more is counted, of that job in that zone
+-- one container more is counted, of that job at that place
 abbrev pub Gains : Tally → Tally → JobName → List ℕ → Type 0
-Gains old new job zone =
-    (other : JobName) (place : List ℕ) → tallied new other place ≡ tallied old other place + counts_for job zone other place
+Gains old new job name =
+    (other : JobName) (place : List ℕ) → tallied new other place ≡ tallied old other place + counts_for job name other place
 
 -- the tally says what the cells hold
-abbrev pub CountsZones : Tally → List Stand → Type 0
-CountsZones tally stands = (job : JobName) (zone : List ℕ) → tallied tally job zone ≡ in_zone stands job zone
+abbrev pub CountsAt : Place → Tally → List Stand → Type 0
+CountsAt place tally stands = (job : JobName) (name : List ℕ) → tallied tally job name ≡ count_at place stands job name

@@ -9,13 +9,12 @@ ghost use Rattle.auctioneer.specs.Stands.{stands_of, can_take, in_zone};
 ghost use Rattle.auctioneer.specs.declared.stand.Stand.{Stand as AStand};
 
 use crate::candidate::{Candidate, better_of, view_of};
-use crate::counting::held_of;
 use crate::placement::Placement;
 use crate::placing::place_at;
 use crate::spots::{Group, Spot, first_of, load_of, move_cell, order_of, spots_of};
 use crate::stand::Stand;
 use crate::standing::stands_of;
-use crate::tally::{Tally, tally_of};
+use crate::tally::{Place, Tally, tally_of};
 use auction_scoring::{fits, score};
 use cell_records::{Answer, Job};
 use diego_names::OutOfMemory;
@@ -40,7 +39,9 @@ pub(crate) struct Field {
     spots: Vec<Spot>,
     // The same spots in their order.
     order: BTreeSet<Spot>,
-    tally: Tally,
+    // What the zones hold of each process, and the cells.
+    in_zones: Tally,
+    on_cells: Tally,
 }
 
 impl Field {
@@ -52,13 +53,15 @@ impl Field {
         let stands = stands_of(alloc, cells)?;
         let (groups, spots) = spots_of(alloc, stands.as_slice())?;
         let order = order_of(alloc, spots.as_slice())?;
-        let tally = tally_of(alloc, stands.as_slice())?;
+        let in_zones = tally_of(alloc, stands.as_slice(), Place::Zone)?;
+        let on_cells = tally_of(alloc, stands.as_slice(), Place::Cell)?;
         Ok(Field {
             stands,
             groups,
             spots,
             order,
-            tally,
+            in_zones,
+            on_cells,
         })
     }
 
@@ -78,7 +81,7 @@ impl Field {
         if !fits(job, &view) {
             return None;
         }
-        view.on_cell = held_of(&job.job, stand) as u64;
+        view.on_cell = self.on_cells.count(&job.job, &stand.cell);
         Some(Candidate {
             at,
             score: score(&view),
@@ -93,7 +96,7 @@ impl Field {
         requires found { IsBestOf self.now job.now (λ p. p.group < group) found }
         ensures { IsBestOf self.now job.now (λ p. p.group < group + 1) result }
     {
-        let count = self.tally.count(&job.job, &self.groups[group].zone);
+        let count = self.in_zones.count(&job.job, &self.groups[group].zone);
         if is_ahead(&found, count) {
             return found;
         }
@@ -137,7 +140,8 @@ impl Field {
     {
         let made = place_at(&mut self.stands, job, at)?;
         let stand = &self.stands[at];
-        self.tally.add(&job.job, &stand.zone)?;
+        self.in_zones.add(&job.job, &stand.zone)?;
+        self.on_cells.add(&job.job, &stand.cell)?;
         move_cell(&mut self.order, &mut self.spots, at, load_of(stand))?;
         Ok(made)
     }

@@ -1,8 +1,7 @@
-//! How many containers of each process each zone has.
+//! How many containers of each process each zone has, and how many each cell.
 ghost use Rattle.std.specs.Prelude.{◌≡◌, ℕ, ◌+◌, ◌<◌, ◌^◌, List, length, IfOk, OnOk};
 ghost use Rattle.auctioneer.specs.Asked.{AreStands};
-ghost use Rattle.auctioneer.specs.Tallies.{tallied, Gains, CountsZones};
-ghost use Rattle.auctioneer.specs.Stands.{held_in};
+ghost use Rattle.auctioneer.specs.Tallies.{place_of, tallied, Gains, held_at, CountsAt};
 ghost use Rattle.cell_records.specs.declared.job_name.JobName.{JobName as JobIs};
 
 use crate::stand::Stand;
@@ -11,11 +10,30 @@ use diego_names::{Name, OutOfMemory};
 use std::alloc::Global;
 use std::collections::HashMap;
 
-// A process in a zone.
+// By what containers are counted.
+#[derive(Clone, Copy)]
+pub(crate) enum Place {
+    Zone,
+    Cell,
+}
+
+impl Place {
+    // The name of the cell's zone, or its own.
+    fn of(self, stand: &Stand) -> Name
+        ensures { result ≡ place_of self stand.now }
+    {
+        match self {
+            Place::Zone => stand.zone,
+            Place::Cell => stand.cell,
+        }
+    }
+}
+
+// A process in a zone or on a cell.
 #[derive(Clone, Copy, PartialEq, Eq, Hash)]
 struct Share {
     process: Name,
-    zone: Name,
+    place: Name,
 }
 
 #[derive(Drop)]
@@ -24,15 +42,15 @@ pub(crate) struct Tally {
 }
 
 impl Tally {
-    // How many containers of the job's process the zone has: none of a task.
-    pub(crate) fn count(&self, job: &JobName, zone: &Name) -> u64
-        ensures { result ≡ tallied self.now job.now zone.now }
+    // How many containers of the job's process the place has: none of a task.
+    pub(crate) fn count(&self, job: &JobName, place: &Name) -> u64
+        ensures { result ≡ tallied self.now job.now place.now }
     {
         match job {
             JobName::Lrp(key) => {
                 let share = Share {
                     process: key.process,
-                    zone: *zone,
+                    place: *place,
                 };
                 self.counts.get(&share).copied().unwrap_or(0)
             }
@@ -41,15 +59,15 @@ impl Tally {
     }
 
     // Counts one container more.
-    pub(crate) fn add(&mut self, job: &JobName, zone: &Name) -> Result<(), OutOfMemory>
-        requires { tallied self.old job.now zone.now + 1 < 2 ^ 64 }
-        ensures { OnOk result (Gains self.old self.new job.now zone.now) }
+    pub(crate) fn add(&mut self, job: &JobName, place: &Name) -> Result<(), OutOfMemory>
+        requires { tallied self.old job.now place.now + 1 < 2 ^ 64 }
+        ensures { OnOk result (Gains self.old self.new job.now place.now) }
     {
-        let count = self.count(job, zone);
+        let count = self.count(job, place);
         if let JobName::Lrp(key) = job {
             let share = Share {
                 process: key.process,
-                zone: *zone,
+                place: *place,
             };
             self.counts.insert(share, count + 1)?;
         }
@@ -57,29 +75,31 @@ impl Tally {
     }
 
     // Counts the containers of a cell.
-    fn add_stand(&mut self, stand: &Stand) -> Result<(), OutOfMemory>
-        requires { (job : JobIs) (zone : List ℕ)
-            → tallied self.old job zone + length stand.now.jobs < 2 ^ 64 }
-        ensures { OnOk result ((job : JobIs) (zone : List ℕ)
-            → tallied self.new job zone ≡ tallied self.old job zone + held_in job zone stand.now) }
+    fn add_stand(&mut self, stand: &Stand, place: Place) -> Result<(), OutOfMemory>
+        requires { (job : JobIs) (name : List ℕ)
+            → tallied self.old job name + length stand.now.jobs < 2 ^ 64 }
+        ensures { OnOk result ((job : JobIs) (name : List ℕ)
+            → tallied self.new job name
+            ≡ tallied self.old job name + held_at place job name stand.now) }
     {
+        let name = place.of(stand);
         for job in stand.jobs.items() {
-            self.add(job, &stand.zone)?;
+            self.add(job, &name)?;
         }
         Ok(())
     }
 }
 
-// The tally of the cells.
-pub(crate) fn tally_of(alloc: Global, stands: &[Stand]) -> Result<Tally, OutOfMemory>
+// The tally of the cells by zones or by cells.
+pub(crate) fn tally_of(alloc: Global, stands: &[Stand], place: Place) -> Result<Tally, OutOfMemory>
     requires { AreStands stands.now }
-    ensures { IfOk result (λ tally. CountsZones tally stands.now) }
+    ensures { IfOk result (λ tally. CountsAt place tally stands.now) }
 {
     let mut tally = Tally {
         counts: HashMap::new(alloc),
     };
     for stand in stands {
-        tally.add_stand(stand)?;
+        tally.add_stand(stand, place)?;
     }
     Ok(tally)
 }

@@ -1,4 +1,4 @@
-use Rattle.std.proofs.Common.{◌≡◌, ◌+◌, ◌<◌, ◌∷◌, [], List, Option, Some, sym, ap, subst, ◌∙◌, rules}
+use Rattle.std.proofs.Common.{◌≡◌, ◌+◌, ◌<◌, List, Some, sym, subst, ◌∙◌}
 use Rattle.std.specs.BTreeSet.{IsKeyInRange, keys_between}
 use Rattle.std.specs.List.{All}
 use Rattle.std.specs.declared.ops.Bound.TheVariants.{Included, Excluded}

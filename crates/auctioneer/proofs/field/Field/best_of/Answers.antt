@@ -1,7 +1,6 @@
-use Rattle.std.proofs.Common.{◌≡◌, ◌+◌, ◌<◌, Option, None, MatchOption, sym, subst, ◌∙◌, arith, rules}
+use Rattle.std.proofs.Common.{◌≡◌, ◌+◌, ◌<◌, None, MatchOption, sym, subst, ◌∙◌, arith, rules}
 use Rattle.auctioneer.specs.Fields.{IsBestOf}
 use Rattle.auctioneer.specs.Least.{best, IsBestAt}
-use Rattle.auctioneer.specs.declared.candidate.Candidate.{Candidate}
 use Rattle.auctioneer.proofs.Groups.{best_other_tag, found_best}
 use Rattle.auctioneer.proofs.field.Field.best_of.Goals.{then-eq, else-eq}
 use Rattle.auctioneer.proofs.field.Field.best_of.Goals as goal

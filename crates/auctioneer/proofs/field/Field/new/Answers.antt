@@ -1,9 +1,10 @@
 use Rattle.std.proofs.Common.{List, subst}
 use Rattle.std.specs.BTreeSet.{IsFromIterResult}
 use Rattle.auctioneer.specs.Spots.{spot_order, AreSpots}
-use Rattle.auctioneer.specs.Tallies.{CountsZones}
+use Rattle.auctioneer.specs.Tallies.{CountsAt}
 use Rattle.auctioneer.specs.declared.spots.Spot.{Spot}
 use Rattle.auctioneer.specs.declared.stand.Stand.{Stand}
+use Rattle.auctioneer.specs.declared.tally.Place.TheVariants.{Zone, Cell}
 use Rattle.auctioneer.proofs.SpotOrders.{IsOrderOf-made}
 use Rattle.auctioneer.proofs.field.Field.new.Goals as goal
 
@@ -14,5 +15,6 @@ returns-clause-sound c =
       sound = c.in_ok-stands.ensures.sound;
       spots = spots;
       order = IsOrderOf-made c.in_ok-order.order c.in_ok-groups.spots.items spots.cell (subst (λ (ps : List Spot). IsFromIterResult spot_order ps c.in_ok-order.order) c.as_slice-2.ensures.value c.in_ok-order.ensures);
-      tally = subst (CountsZones c.in_ok-tally.tally) c.as_slice-3.ensures.value c.in_ok-tally.ensures;
+      zones = subst (CountsAt Zone c.in_ok-in_zones.in_zones) c.as_slice-3.ensures.value c.in_ok-in_zones.ensures;
+      cells = subst (CountsAt Cell c.in_ok-on_cells.on_cells) c.as_slice-4.ensures.value c.in_ok-on_cells.ensures;
     }

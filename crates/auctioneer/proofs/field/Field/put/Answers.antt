@@ -1,18 +1,22 @@
-use Rattle.std.proofs.Common.{◌≡◌, ◌+◌, ◌<◌, length, List, set, get_or, sym, ap, subst, ◌∙◌, arith}
+use Rattle.std.proofs.Common.{◌≡◌, ◌<◌, length, List, set, get_or, sym, ap, subst, ◌∙◌, arith}
 use Rattle.std.proofs.lemmas.List.{length-set, get_or_default, get_or-set_same}
 use Rattle.auctioneer.specs.Asked.{IsSoundStand}
 use Rattle.auctioneer.specs.Spots.{load_in, AreSpots}
 use Rattle.auctioneer.specs.Stands.{with_job}
-use Rattle.auctioneer.specs.Tallies.{Gains, CountsZones}
+use Rattle.auctioneer.specs.Tallies.{Gains, CountsAt}
 use Rattle.auctioneer.specs.declared.spots.Spot.{Spot}
 use Rattle.auctioneer.specs.declared.stand.Stand.{Stand}
-use Rattle.auctioneer.proofs.Counts.{CountsZones-put, tallied-few}
+use Rattle.auctioneer.specs.declared.tally.Place.TheVariants.{Zone, Cell}
+use Rattle.auctioneer.proofs.Counts.{CountsAt-put, tallied-few}
 use Rattle.auctioneer.proofs.Groups.{first_of}
 use Rattle.auctioneer.proofs.SpotLists.{AreSpots-set}
 use Rattle.auctioneer.proofs.field.Field.put.Goals as goal
 
 pub add-requires : goal.add-requires
-add-requires c = tallied-few c.args.self.now.tally c.args.self.now.stands.items c.args.job.now.job c.index-stand.result.now.zone c.requires.field.sound c.requires.field.tally
+add-requires c = tallied-few Zone c.args.self.now.in_zones c.args.self.now.stands.items c.args.job.now.job c.index-stand.result.now.zone c.requires.field.sound c.requires.field.zones
+
+pub add-requires-2 : goal.add-requires-2
+add-requires-2 c = tallied-few Cell c.args.self.now.on_cells c.args.self.now.stands.items c.args.job.now.job c.index-stand.result.now.cell c.requires.field.sound c.requires.field.cells
 
 pub load_of-requires : goal.load_of-requires
 load_of-requires c =
@@ -41,14 +45,18 @@ returns-clause-field c =
     let load : c.load_of.result ≡ load_in (with_job job s) = c.load_of.ensures ∙ ap load_in here in
     let moved : c.move_cell.new.spots.items ≡ set spots at (record spot { load = load_in (with_job job s) }) =
     c.in_ok-move_cell.ensures.spots (first_of 0) ∙ ap (λ n. set spots at (record spot { load = n })) load in
-    let gains : Gains c.args.self.now.tally c.add.new.self job.job s.zone = subst (λ (x : Stand). Gains c.args.self.now.tally c.add.new.self job.job x.zone) here c.in_ok-add.ensures in
+    let gains : Gains c.args.self.now.in_zones c.add.new.self job.job s.zone = subst (λ (x : Stand). Gains c.args.self.now.in_zones c.add.new.self job.job x.zone) here c.in_ok-add.ensures in
+    let gains_cell : Gains c.args.self.now.on_cells c.add-2.new.self job.job s.cell = subst (λ (x : Stand). Gains c.args.self.now.on_cells c.add-2.new.self job.job x.cell) here c.in_ok-add-2.ensures in
     record {
       sound = c.in_ok-made.ensures.sound;
       spots =
           subst (λ (ss : List Stand). AreSpots groups ss c.move_cell.new.spots.items) (sym changed)
           (subst (AreSpots groups (set items at (with_job job s))) (sym moved) (AreSpots-set groups items spots at s job spot c.requires.field.spots inside is was));
       order = c.in_ok-move_cell.ensures.order;
-      tally =
-          subst (CountsZones c.add.new.self) (sym changed)
-          (CountsZones-put c.args.self.now.tally c.add.new.self items at s job c.requires.field.tally gains inside is);
+      zones =
+          subst (CountsAt Zone c.add.new.self) (sym changed)
+          (CountsAt-put Zone c.args.self.now.in_zones c.add.new.self items at s job c.requires.field.zones gains inside is);
+      cells =
+          subst (CountsAt Cell c.add-2.new.self) (sym changed)
+          (CountsAt-put Cell c.args.self.now.on_cells c.add-2.new.self items at s job c.requires.field.cells gains_cell inside is);
     }
