@@ -2,7 +2,7 @@
 ghost use Rattle.std.specs.Prelude.{◌≡◌, ◌<◌, true, length, Some, None, IfOk, OnErr};
 ghost use Rattle.phase_runs.specs.Actors.{CanAllDo};
 ghost use Rattle.phase_runs.specs.Phases.{PhaseCut, PhaseRan};
-ghost use Rattle.phase_threads.specs.Clients.{are_of_clients, are_of_one};
+ghost use Rattle.phase_threads.specs.Clients.{are_of_clients};
 
 use crate::actors::run_actors;
 use crate::with_round::{Together, run_with_round};
@@ -104,9 +104,7 @@ fn run_shared_with_round<R: Threads + Wait + Sync, D: Disk + Drop + Send, G: Gat
 }
 
 // Whether one actor at most has lines.
-fn is_for_one(phase: &Phase) -> bool
-    ensures { result ≡ are_of_one phase.now.lines }
-{
+fn is_for_one(phase: &Phase) -> bool {
     match phase.lines.items() {
         [] => true,
         [first, rest @ ..] => rest.iter().all(|line| line.actor == first.actor),
