@@ -30,15 +30,19 @@ fn add(shelf: &mut Shelf<Desired>, row: Desired) -> Result<(), Fail> {
     Ok(())
 }
 
-fn come_in_order(rt: &impl Abort, alloc: Global, shelf: &mut Shelf<Desired>) -> Result<(), Fail> {
-    add(shelf, desired(b"web", 1)?)?;
-    add(shelf, desired(b"api", 2)?)?;
-    add(shelf, desired(b"cron", 3)?)?;
-    let rows = shelf.rows(alloc)?;
+// Checks that these are the three rows, in the order of their keys.
+fn are_in_order(rt: &impl Abort, rows: &[Desired]) {
     assert_eq!(rt; rows.len(), 3);
     for (row, wanted) in rows.iter().zip([("api", 2), ("cron", 3), ("web", 1)]) {
         assert_eq!(rt; (row.process.as_str(), row.instances), wanted);
     }
+}
+
+fn come_in_order(rt: &impl Abort, alloc: Global, shelf: &mut Shelf<Desired>) -> Result<(), Fail> {
+    add(shelf, desired(b"web", 1)?)?;
+    add(shelf, desired(b"api", 2)?)?;
+    add(shelf, desired(b"cron", 3)?)?;
+    are_in_order(rt, shelf.rows(alloc)?.as_slice());
     Ok(())
 }
 
@@ -87,7 +91,7 @@ fn a_removal_takes_one_row(rt: HostRuntime) -> Result<(), Fail> {
     loses_one(&rt, &mut shelf)
 }
 
-fn keeps_both(rt: &impl Abort, alloc: Global, shelf: &mut Shelf<Actual>) -> Result<(), Fail> {
+fn put_both(shelf: &mut Shelf<Actual>) -> Result<(), Fail> {
     let process = Name::read(b"web")?;
     let evacuating = Actual {
         key: Key { process, index: 0 },
@@ -104,11 +108,20 @@ fn keeps_both(rt: &impl Abort, alloc: Global, shelf: &mut Shelf<Actual>) -> Resu
     shelf.reserve(2)?;
     shelf.put(evacuating);
     shelf.put(ordinary);
-    let rows = shelf.rows(alloc)?;
+    Ok(())
+}
+
+// Checks that these are an ORDINARY row and an EVACUATING one.
+fn are_both(rt: &impl Abort, rows: &[Actual]) {
     assert_eq!(rt; rows.len(), 2);
     for (row, wanted) in rows.iter().zip([0, 1]) {
         assert_eq!(rt; row.presence.rank(), wanted);
     }
+}
+
+fn keeps_both(rt: &impl Abort, alloc: Global, shelf: &mut Shelf<Actual>) -> Result<(), Fail> {
+    put_both(shelf)?;
+    are_both(rt, shelf.rows(alloc)?.as_slice());
     Ok(())
 }
 
