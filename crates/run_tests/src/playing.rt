@@ -1,17 +1,18 @@
 //! Whole scenarios on a board in memory, whose texts are written out by hand.
-ghost use Rattle.std.specs.Prelude.{◌≡◌, [], IfOk};
+ghost use Rattle.std.specs.Prelude.{◌≡◌, []};
+ghost use Rattle.scenario_reader.specs.Facts.{IsScript};
 
-use crate::{Played, play};
+use crate::given::{Runtime, areas_disk, sink_of};
 use bbs_board::{Board, Closed, load, prepare};
 use byte_ports::{MemorySink, OpenGate};
 use disk_trait::MemoryDisk;
 use program_edge::Ending;
+use scenario_lines::Script;
 use scenario_reader::read_script;
+use scenario_runs::{Played, play};
 use std::alloc::Global;
+use std::panic::Expect;
 use std::process::Abort;
-use std::sync::Wait;
-use std::test::Fail;
-use std::thread::Threads;
 
 /// A scenario on an empty board, what fails in it, and what comes of it.
 #[derive(Clone, Copy)]
@@ -88,66 +89,75 @@ const THREE: Case<'static> = Case {
     reports: 0,
 };
 
-/// What a case left.
-#[derive(Drop)]
-struct Left {
-    played: Played,
-    sink: MemorySink,
-}
-
-fn text_of(alloc: Global, texts: &[&str]) -> Result<Vec<u8>, Fail> {
+fn bytes_of(rt: &impl Abort, alloc: Global, texts: &[&str]) -> Vec<u8> {
     let mut all = Vec::new(alloc);
     for text in texts {
-        all.extend_from_slice(text.as_bytes())?;
+        all.extend_from_slice(text.as_bytes()).expect(rt, "memory");
     }
-    Ok(all)
+    all
 }
 
-fn begin(alloc: Global, case: &Case<'_>) -> Result<Board<MemoryDisk>, Fail>
-    ensures { IfOk result (λ board. board.log ≡ []) }
+fn script_of(rt: &impl Abort, alloc: Global, texts: &[&str]) -> Script
+    ensures { IsScript result }
 {
-    let (a, b) = (Vec::new(alloc), Vec::new(alloc));
-    let mut disk = MemoryDisk::new(alloc, a, b, case.calls.to_vec(alloc)?);
-    prepare(&mut disk)?;
+    let text = bytes_of(rt, alloc, texts);
+    assert!(rt; text.len() <= 10_000);
+    read_script(alloc, &text).expect(rt, "a scenario")
+}
+
+/// An empty board in memory, behind 12 calls of its disk, of which these fail.
+pub fn begin(rt: &impl Abort, alloc: Global, calls: &[u64]) -> Board<MemoryDisk>
+    ensures { result.log ≡ [] }
+{
+    let mut disk = areas_disk(rt, alloc, b"", b"", calls);
+    prepare(&mut disk).expect(rt, "a disk that can be prepared");
     match load(alloc, disk) {
-        Ok(board) => Ok(board),
-        Err(_) => Err("there is a board")?,
+        Ok(board) => board,
+        Err(_) => rt.panic("there is a board"),
     }
 }
 
-fn run<R: Threads + Wait + Sync>(rt: &R, alloc: Global, case: &Case<'_>) -> Result<Left, Fail> {
-    let text = text_of(alloc, case.script)?;
-    if text.len() > 10_000 {
-        Err("the scenario is short")?;
-    }
-    let script = read_script(alloc, &text)?;
-    let mut sink = MemorySink::new(alloc, case.puts.to_vec(alloc)?);
-    let board = begin(alloc, case)?;
-    let (board, played) = play(rt, alloc, &script, board, &mut sink, &OpenGate);
+fn play_on(
+    rt: &impl Runtime,
+    alloc: Global,
+    script: &Script,
+    board: Board<MemoryDisk>,
+    sink: &mut MemorySink,
+) -> Played
+    requires script { IsScript script.now }
+    requires fresh { board.log ≡ [] }
+{
+    let (board, played) = play(rt, alloc, script, board, sink, &OpenGate);
+    close(board);
+    played
+}
+
+fn close(board: Board<MemoryDisk>) {
     let Closed {
         disk: _,
         log: _,
         marks: _,
     } = board.close();
-    Ok(Left { played, sink })
 }
 
-fn ends<R: Abort + Threads + Wait + Sync>(
-    rt: &R,
-    alloc: Global,
-    case: &Case<'_>,
-) -> Result<(), Fail> {
-    let left = run(rt, alloc, case)?;
-    let text = text_of(alloc, case.text)?;
-    assert_eq!(rt; left.sink.bytes(), text.as_slice());
-    assert_eq!(rt; left.played.ending, case.ending);
-    assert_eq!(rt; left.played.answers.len(), case.answers);
-    assert_eq!(rt; left.played.reports.len(), case.reports);
-    Ok(())
+fn is_told(rt: &impl Abort, alloc: Global, case: &Case<'_>, played: &Played, sink: &MemorySink) {
+    let text = bytes_of(rt, alloc, case.text);
+    assert_eq!(rt; sink.bytes(), text.as_slice());
+    assert_eq!(rt; played.ending, case.ending);
+    assert_eq!(rt; played.answers.len(), case.answers);
+    assert_eq!(rt; played.reports.len(), case.reports);
+}
+
+fn ends(rt: &impl Runtime, alloc: Global, case: &Case<'_>) {
+    let script = script_of(rt, alloc, case.script);
+    let board = begin(rt, alloc, case.calls);
+    let mut sink = sink_of(rt, alloc, case.puts);
+    let played = play_on(rt, alloc, &script, board, &mut sink);
+    is_told(rt, alloc, case, &played, &sink);
 }
 
 #[test]
-fn each_phase_is_told_and_then_the_summary(rt: HostRuntime) -> Result<(), Fail> {
+fn each_phase_is_told_and_then_the_summary(rt: HostRuntime) {
     let none = Case {
         script: &[],
         text: &["{\"done\":0,\"doubts\":0,\"next\":0,\"phases\":0}\n"],
@@ -174,13 +184,12 @@ fn each_phase_is_told_and_then_the_summary(rt: HostRuntime) -> Result<(), Fail> 
         ..THREE
     };
     for case in [THREE, none, empty, round] {
-        ends(&rt, rt.alloc(), &case)?;
+        ends(&rt, rt.alloc(), &case);
     }
-    Ok(())
 }
 
 #[test]
-fn no_phase_runs_behind_a_fault(rt: HostRuntime) -> Result<(), Fail> {
+fn no_phase_runs_behind_a_fault(rt: HostRuntime) {
     let doubt = Case {
         script: &[AT, JOIN, JOIN, LEAVE],
         calls: &[13],
@@ -214,7 +223,6 @@ fn no_phase_runs_behind_a_fault(rt: HostRuntime) -> Result<(), Fail> {
         ..THREE
     };
     for case in [doubt, first, second, last] {
-        ends(&rt, rt.alloc(), &case)?;
+        ends(&rt, rt.alloc(), &case);
     }
-    Ok(())
 }

@@ -4,73 +4,49 @@ mod bytes;
 mod faults;
 mod shown;
 
-use crate::{Asked, read_words, still_top};
-use byte_ports::{MemorySink, MemorySource, Sink};
-use disk_trait::{Area, Disk, MemoryDisk};
-use program_edge::TopEnd;
+ghost use Rattle.std.specs.Prelude.{◌≢◌, Some, map, string_bytes};
+ghost use Rattle.still_words.specs.Words.{asked_of};
+ghost use Rattle.still_words.specs.declared.words.Asked.TheVariants as wanted;
+
+use crate::given::{
+    Given, Left, areas_disk, ends, holds, left_of, sink_of, source_of, tells_nothing, words_of,
+};
+use byte_ports::Sink;
+use disk_trait::Disk;
 use std::alloc::Global;
 use std::process::Abort;
-use std::test::Fail;
+use still_words::{Asked, read_words, still_top};
 
-/// What a word meets: the two areas, and the device calls that fail, by their numbers from 1.
-#[derive(Clone, Copy)]
-struct Given<'a> {
-    a: &'a [u8],
-    b: &'a [u8],
-    calls: &'a [u64],
+// The words, which must not ask for a run.
+fn still_words_of(rt: &impl Abort, alloc: Global, texts: &[&str]) -> Vec<String>
+    ensures { asked_of (map (λ w. string_bytes w) result.items) ≢ Some wanted.Run }
+{
+    let words = words_of(rt, alloc, texts);
+    let asked = read_words(alloc, &words);
+    assert!(rt; !matches!(asked, Some(Asked::Run)));
+    words
 }
 
-/// Areas of which no device call fails.
-fn areas<'a>(a: &'a [u8], b: &'a [u8]) -> Given<'a> {
-    Given { a, b, calls: &[] }
-}
-
-fn words(alloc: Global, texts: &[&str]) -> Result<Vec<String>, Fail> {
-    let mut words = Vec::new(alloc);
-    for text in texts {
-        words.push(String::from_str(alloc, *text)?)?;
-    }
-    Ok(words)
-}
-
-fn disk(alloc: Global, given: Given<'_>) -> Result<MemoryDisk, Fail> {
-    let a = given.a.to_vec(alloc)?;
-    let b = given.b.to_vec(alloc)?;
-    Ok(MemoryDisk::new(alloc, a, b, given.calls.to_vec(alloc)?))
-}
-
-/// What the words do there with this sink: the status, the sink and the disk. No call was told.
-fn ended<K: Sink + Drop>(
+/// What the words do there with this sink. No call was told.
+fn left_at<K: Sink>(
     rt: &impl Abort,
     alloc: Global,
     texts: &[&str],
     given: Given<'_>,
     sink: K,
-) -> Result<(u8, K, MemoryDisk), Fail> {
-    let words = words(alloc, texts)?;
-    let source = MemorySource::new(Vec::new(alloc), Vec::new(alloc));
-    let disk = disk(alloc, given)?;
-    let end = match read_words(alloc, &words) {
-        Some(Asked::Run) => return Err(Fail::from("the words ask for a run")),
-        Some(Asked::Prepare) | Some(Asked::Records) | Some(Asked::Check) | None => {
-            still_top(alloc, &words, source, sink, disk)
-        }
-    };
-    let TopEnd {
-        status,
-        source: _,
-        sink,
-        disk,
-        log,
-        marks,
-        answers,
-        reports,
-    } = end;
-    assert!(rt; log.is_empty());
-    assert!(rt; marks.is_empty());
-    assert!(rt; answers.is_empty());
-    assert!(rt; reports.is_empty());
-    Ok((status, sink, disk))
+) -> Left<K> {
+    let words = still_words_of(rt, alloc, texts);
+    let source = source_of(rt, alloc, b"", &[]);
+    let disk = areas_disk(rt, alloc, given.a, given.b, given.calls);
+    let left = left_of(still_top(alloc, &words, source, sink, disk));
+    tells_nothing(rt, &left);
+    left
+}
+
+/// The same with a sink in memory.
+fn left_by(rt: &impl Abort, alloc: Global, texts: &[&str], given: Given<'_>) -> Left {
+    let sink = sink_of(rt, alloc, given.puts);
+    left_at(rt, alloc, texts, given, sink)
 }
 
 /// Checks the status, the whole of what is printed, and that neither area changes; gives the number of
@@ -82,12 +58,9 @@ fn shows(
     given: Given<'_>,
     status: u8,
     text: &str,
-) -> Result<u64, Fail> {
-    let sink = MemorySink::new(alloc, Vec::new(alloc));
-    let (got, sink, disk) = ended(rt, alloc, &["diego", word], given, sink)?;
-    assert_eq!(rt; got, status);
-    assert_eq!(rt; sink.bytes(), text.as_bytes());
-    assert_eq!(rt; disk.bytes(Area::A), given.a);
-    assert_eq!(rt; disk.bytes(Area::B), given.b);
-    Ok(disk.clock())
+) -> u64 {
+    let left = left_by(rt, alloc, &["diego", word], given);
+    ends(rt, &left, status, text);
+    holds(rt, &left.disk, given.a, given.b);
+    left.disk.clock()
 }

@@ -1,1 +1,2 @@
 mod Boards
+mod RoundBoard

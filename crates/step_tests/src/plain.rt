@@ -1,11 +1,13 @@
+//! A board in memory behind a port, by the plain step: what a desired process asks for, and what two calls tell. A test
+//! makes the port and lends it.
 ghost use Rattle.bbs_model.specs.Valid.{IsValid};
 
-use super::*;
 use bbs_laws::first_board_is_valid;
 use bbs_model::{BoardRefusal, Change, Command, Event, Op, Port, Reply, Row, Rows};
 use crash_backoff::Moment;
 use diego_names::{Key, List, Name};
 use lrp_records::Desired;
+use plain_step::{PlainPort, call_twice};
 use std::alloc::Global;
 use std::process::Abort;
 use std::test::Fail;
@@ -82,18 +84,25 @@ fn instances<P: Port>(alloc: Global, port: &mut P) -> Result<usize, Fail> {
     Ok(port.rows(alloc)?.actual.len())
 }
 
-#[test]
-fn a_desired_process_asks_for_its_instances(rt: HostRuntime) -> Result<(), Fail> {
-    let alloc = rt.alloc();
+fn each_instance_is_asked_for(
+    rt: &impl Abort,
+    alloc: Global,
+    port: &mut PlainPort,
+) -> Result<(), Fail> {
     let web = Name::read(b"web")?;
     let makes = [make(web, 0), make(web, 1), make(web, 2)];
-    let mut port = port(alloc)?;
-    call_each(&rt, &mut port, 0, &[desire(web)]);
-    asks(&rt, alloc, &mut port, &makes)?;
-    call_each(&rt, &mut port, 1, &makes);
-    asks(&rt, alloc, &mut port, &[])?;
-    assert_eq!(rt; instances(alloc, &mut port)?, 3);
+    call_each(rt, port, 0, &[desire(web)]);
+    asks(rt, alloc, port, &makes)?;
+    call_each(rt, port, 1, &makes);
+    asks(rt, alloc, port, &[])?;
+    assert_eq!(rt; instances(alloc, port)?, 3);
     Ok(())
+}
+
+#[test]
+fn a_desired_process_asks_for_its_instances(rt: HostRuntime) -> Result<(), Fail> {
+    let mut port = port(rt.alloc())?;
+    each_instance_is_asked_for(&rt, rt.alloc(), &mut port)
 }
 
 // Whether the only change that is heard is that the process is desired now.
@@ -106,19 +115,22 @@ fn hears_desire<P: Port>(alloc: Global, port: &mut P, process: Name) -> Result<b
     Ok(heard.events.items() == [event].as_slice() && heard.upto == port.place())
 }
 
-#[test]
-fn two_calls_over_a_port_are_heard(rt: HostRuntime) -> Result<(), Fail> {
-    let alloc = rt.alloc();
+fn both_are_heard(rt: &impl Abort, alloc: Global, port: &mut PlainPort) -> Result<(), Fail> {
     let web = Name::read(b"web")?;
-    let mut port = port(alloc)?;
-    let (first, second) = call_twice(&mut port, desire(web), make(web, 3));
+    let (first, second) = call_twice(port, desire(web), make(web, 3));
     let refused = Reply::Refused {
         why: BoardRefusal::NotWanted,
         place: 1,
     };
     assert_eq!(rt; first, Ok(Reply::Ok { place: 0, stamp: 0 }));
     assert_eq!(rt; second, Ok(refused));
-    assert!(rt; hears_desire(alloc, &mut port, web)?);
+    assert!(rt; hears_desire(alloc, port, web)?);
     assert_eq!(rt; port.log().len(), 1);
     Ok(())
+}
+
+#[test]
+fn two_calls_over_a_port_are_heard(rt: HostRuntime) -> Result<(), Fail> {
+    let mut port = port(rt.alloc())?;
+    both_are_heard(&rt, rt.alloc(), &mut port)
 }

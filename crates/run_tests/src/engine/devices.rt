@@ -1,13 +1,18 @@
 //! Runs in which the sink or the disk fails.
-use super::bytes::{PREPARED, STORED, TEXT, answer, command, first_run};
-use super::{Given, ends, left_by, prepare, run, tells_nothing, words};
-use crate::{TopEnd, diego_top};
+use super::bytes::{TEXT, answer, command, first_run};
+use super::{left_by, prepare, run};
+use crate::given::{
+    EMPTY, Given, Left, Runtime, STORED, areas_disk, ends, has_done, holds, source_of,
+    tells_nothing, words_of,
+};
+use crate::narrow::{Narrow, holds_front};
 use bbs_model::{CallFault, Item};
-use byte_ports::{MemorySource, OpenGate, StdSink};
+use byte_ports::{OpenGate, StdSink};
 use cell_rep::CallEnd;
-use disk_trait::{Area, Disk, MemoryDisk};
-use std::io::{Error, ErrorKind, Result as IoResult, Write};
-use std::test::Fail;
+use diego_engine::{TopEnd, diego_top};
+use disk_trait::{Area, Disk};
+use std::alloc::Global;
+use std::process::Abort;
 
 const DISK: &str = "{\"fault\":\"disk\"}\n";
 
@@ -15,124 +20,124 @@ const DOUBT: &str = r#"{"actor":"cli","answer":"disk","call":"desire","line":2,"
 {"done":0,"doubts":1,"next":0,"phases":1}
 "#;
 
+// The disk fails at the call of this number, which is the last one.
+fn is_cut_off(rt: &impl Abort, left: &Left, call: u64) {
+    ends(rt, left, 5, DISK);
+    tells_nothing(rt, left);
+    has_done(rt, &left.disk, call);
+}
+
+fn fails_to_open(rt: &impl Runtime, alloc: Global, call: u64) {
+    let given = Given {
+        calls: &[call],
+        ..first_run()
+    };
+    let left = run(rt, alloc, &given);
+    is_cut_off(rt, &left, call);
+    holds(rt, &left.disk, EMPTY, b"");
+}
+
+fn fails_to_prepare(rt: &impl Runtime, alloc: Global, call: u64) {
+    let given = Given {
+        calls: &[call],
+        a: &[],
+        ..first_run()
+    };
+    is_cut_off(rt, &prepare(rt, alloc, &given), call);
+}
+
 #[test]
-fn a_disk_that_fails_at_the_opening_or_a_preparing_ends_it(rt: HostRuntime) -> Result<(), Fail> {
+fn a_disk_that_fails_at_the_opening_or_a_preparing_ends_it(rt: HostRuntime) {
     for call in 1..8 {
-        let given = Given {
-            calls: &[call],
-            ..first_run()
-        };
-        let left = run(&rt, rt.alloc(), &given)?;
-        ends(&rt, &left, 5, DISK);
-        tells_nothing(&rt, &left);
-        assert_eq!(rt; left.disk.clock(), call);
-        assert_eq!(rt; left.disk.bytes(Area::A), PREPARED.as_slice());
+        fails_to_open(&rt, rt.alloc(), call);
     }
     for call in 1..6 {
-        let given = Given {
-            calls: &[call],
-            a: &[],
-            ..first_run()
-        };
-        let left = prepare(&rt, rt.alloc(), &given)?;
-        ends(&rt, &left, 5, DISK);
-        tells_nothing(&rt, &left);
-        assert_eq!(rt; left.disk.clock(), call);
+        fails_to_prepare(&rt, rt.alloc(), call);
     }
-    Ok(())
+}
+
+// The one item is a doubt, and its gate is closed.
+fn is_doubt(rt: &impl Abort, left: &Left, mark: u64) {
+    ends(rt, left, 5, DOUBT);
+    let item = Item::Doubt(1, command(rt));
+    assert_eq!(rt; left.log.as_slice(), [item].as_slice());
+    assert_eq!(rt; left.marks.as_slice(), [mark].as_slice());
+    let failed = answer(rt, CallEnd::Fault(CallFault::Disk { place: 0 }));
+    assert_eq!(rt; left.answers.as_slice(), [failed].as_slice());
+    assert_eq!(rt; left.disk.bytes(Area::A).get(47), Some(&0));
+    assert_eq!(rt; left.disk.bytes(Area::A).get(..47), EMPTY.get(..47));
+    assert!(rt; left.disk.bytes(Area::B).is_empty());
+}
+
+fn leaves_a_doubt(rt: &impl Runtime, alloc: Global, call: u64, mark: u64) {
+    let given = Given {
+        calls: &[call],
+        ..first_run()
+    };
+    is_doubt(rt, &run(rt, alloc, &given), mark);
 }
 
 #[test]
-fn a_disk_that_fails_in_the_call_leaves_a_doubt(rt: HostRuntime) -> Result<(), Fail> {
+fn a_disk_that_fails_in_the_call_leaves_a_doubt(rt: HostRuntime) {
     // A gate that failed is closed by two calls more.
     for (call, mark) in [(8, 8), (9, 9), (10, 12), (11, 13)] {
-        let given = Given {
-            calls: &[call],
-            ..first_run()
-        };
-        let left = run(&rt, rt.alloc(), &given)?;
-        ends(&rt, &left, 5, DOUBT);
-        let item = Item::Doubt(1, command()?);
-        assert_eq!(rt; left.log.as_slice(), [item].as_slice());
-        assert_eq!(rt; left.marks.as_slice(), [mark].as_slice());
-        assert_eq!(rt; left.disk.bytes(Area::A).get(47), Some(&0));
-        let failed = answer(CallEnd::Fault(CallFault::Disk { place: 0 }))?;
-        assert_eq!(rt; left.answers.as_slice(), [failed].as_slice());
-        assert_eq!(rt; left.disk.bytes(Area::A).get(..47), PREPARED.get(..47));
-        assert!(rt; left.disk.bytes(Area::B).is_empty());
+        leaves_a_doubt(&rt, rt.alloc(), call, mark);
     }
-    Ok(())
+}
+
+fn is_stored(rt: &impl Abort, left: &Left) {
+    assert_eq!(rt; left.log.len(), 1);
+    assert_eq!(rt; left.disk.bytes(Area::A), STORED);
 }
 
 #[test]
-fn a_sink_that_fails_ends_a_run_and_leaves_other_endings(rt: HostRuntime) -> Result<(), Fail> {
+fn a_sink_that_fails_ends_a_run_and_leaves_other_endings(rt: HostRuntime) {
+    let alloc = rt.alloc();
     let given = Given {
         puts: &[1],
         ..first_run()
     };
-    let left = run(&rt, rt.alloc(), &given)?;
+    let left = run(&rt, alloc, &given);
     ends(&rt, &left, 4, "");
-    assert_eq!(rt; left.log.len(), 1);
-    assert_eq!(rt; left.disk.bytes(Area::A), STORED.as_slice());
-    let left = left_by(&rt, rt.alloc(), &["diego_run", "help"], &given)?;
-    ends(&rt, &left, 1, "");
-    let left = run(&rt, rt.alloc(), &Given { a: &[], ..given })?;
-    ends(&rt, &left, 6, "");
-    Ok(())
+    is_stored(&rt, &left);
+    ends(
+        &rt,
+        &left_by(&rt, alloc, &["diego_run", "help"], &given),
+        1,
+        "",
+    );
+    ends(&rt, &run(&rt, alloc, &Given { a: &[], ..given }), 6, "");
 }
 
-// It takes 40 bytes a call while there is space, and then it fails.
-#[derive(Drop)]
-struct Narrow {
-    bytes: Vec<u8>,
-    space: usize,
+// The status of the first run where it writes there.
+fn status_at(rt: &impl Runtime, alloc: Global, narrow: &mut Narrow) -> u8 {
+    let words = words_of(rt, alloc, &["diego_run", "run"]);
+    let source = source_of(rt, alloc, first_run().source, &[]);
+    let disk = areas_disk(rt, alloc, EMPTY, b"", &[]);
+    let sink = StdSink::new(narrow);
+    let TopEnd {
+        status,
+        source: _,
+        sink: _,
+        disk: _,
+        log: _,
+        marks: _,
+        answers: _,
+        reports: _,
+    } = diego_top(rt, alloc, &words, source, sink, disk, &OpenGate);
+    status
 }
 
-impl Write for Narrow {
-    fn write(&mut self, buf: &[u8]) -> IoResult<usize> {
-        let count = buf.len().min(self.space).min(40);
-        if count == 0 {
-            return Err(Error::from(ErrorKind::BrokenPipe));
-        }
-        self.bytes.extend_from_slice(&buf[..count])?;
-        self.space -= count;
-        Ok(count)
-    }
-
-    fn flush(&mut self) -> IoResult<()> {
-        Ok(())
-    }
+fn is_cut(rt: &impl Runtime, alloc: Global, space: usize, status: u8) {
+    let mut narrow = Narrow::new(alloc, space);
+    let ended = status_at(rt, alloc, &mut narrow);
+    holds_front(rt, &narrow, TEXT, space);
+    assert_eq!(rt; ended, status);
 }
 
 #[test]
-fn a_sink_that_fails_in_mid_text_holds_its_front(rt: HostRuntime) -> Result<(), Fail> {
-    let alloc = rt.alloc();
+fn a_sink_that_fails_in_mid_text_holds_its_front(rt: HostRuntime) {
     for (space, status) in [(0, 4), (100, 4), (263, 4), (264, 0)] {
-        let mut narrow = Narrow {
-            bytes: Vec::new(alloc),
-            space,
-        };
-        let words = words(alloc, &["diego_run", "run"])?;
-        let source = MemorySource::new(first_run().source.to_vec(alloc)?, Vec::new(alloc));
-        let disk = MemoryDisk::new(
-            alloc,
-            PREPARED.to_vec(alloc)?,
-            Vec::new(alloc),
-            Vec::new(alloc),
-        );
-        let sink = StdSink::new(&mut narrow);
-        let TopEnd {
-            status: ended,
-            source: _,
-            sink: _,
-            disk: _,
-            log: _,
-            marks: _,
-            answers: _,
-            reports: _,
-        } = diego_top(&rt, alloc, &words, source, sink, disk, &OpenGate);
-        assert_eq!(rt; ended, status);
-        assert_eq!(rt; Some(narrow.bytes.as_slice()), TEXT.as_bytes().get(..space));
+        is_cut(&rt, rt.alloc(), space, status);
     }
-    Ok(())
 }

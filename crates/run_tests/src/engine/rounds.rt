@@ -1,20 +1,10 @@
 //! A scenario with cells, a client and a round, and what is shown of the board that it leaves.
 use super::bytes::first_run;
-use super::{Given, Left, Runtime, ends, left_by, run};
+use super::{left_by, run};
+use crate::given::{Given, Left, PLACES, Runtime, areas, ends};
 use disk_trait::{Area, Disk};
 use std::alloc::Global;
-use std::test::Fail;
-
-/// Two cells join, three instances are wanted, and a round places them.
-const PLACES: &str = r#"{"at":0}
-{"cell":"c1","op":"join","zone":"z1","memory":1024,"disk":4096,"containers":10,"ttl":600}
-{"at":0}
-{"cell":"c2","op":"join","zone":"z2","memory":1024,"disk":4096,"containers":10,"ttl":600}
-{"at":0}
-{"client":"cli","op":"desire","process":"web","domain":"apps","instances":3,"memory":64,"disk":128}
-{"at":1}
-{"op":"round"}
-"#;
+use std::process::Abort;
 
 /// Two ties go to the first cell by name; the instance between them goes to the empty zone.
 const PLACED: &str = r#"{"actor":"c1","answer":"ok","call":"join","line":2,"subject":"c1"}
@@ -44,32 +34,29 @@ const ROWS: &str =
 {"row":{"cell":"c2","containers":10,"disk":4096,"epoch":1,"evacuating":false,"memory":1024,"tag":null,"until":600,"zone":"z2"},"table":"cell"}
 "#;
 
-/// What a word shows of the board that a run left.
-fn shown(rt: &impl Runtime, alloc: Global, left: &Left, word: &str) -> Result<Left, Fail> {
-    let a = left.disk.bytes(Area::A).to_vec(alloc)?;
-    let b = left.disk.bytes(Area::B).to_vec(alloc)?;
-    let given = Given {
-        a: &a,
-        b: &b,
-        ..first_run()
-    };
-    left_by(rt, alloc, &["diego_run", word], &given)
+// What a word shows of the board that a run left.
+fn is_shown(rt: &impl Runtime, alloc: Global, left: &Left, word: &str, text: &str) {
+    let given = areas(left.disk.bytes(Area::A), left.disk.bytes(Area::B));
+    let shown = left_by(rt, alloc, &["diego_run", word], &given);
+    ends(rt, &shown, 0, text);
+}
+
+// Nine items, the answers of three actors, and a report.
+fn is_placed(rt: &impl Abort, left: &Left) {
+    ends(rt, left, 0, PLACED);
+    assert_eq!(rt; left.log.len(), 9);
+    assert_eq!(rt; left.answers.len(), 3);
+    assert_eq!(rt; left.reports.len(), 1);
 }
 
 #[test]
-fn a_round_places_what_is_wanted_on_two_cells(rt: HostRuntime) -> Result<(), Fail> {
+fn a_round_places_what_is_wanted_on_two_cells(rt: HostRuntime) {
     let given = Given {
         source: PLACES.as_bytes(),
         ..first_run()
     };
-    let left = run(&rt, rt.alloc(), &given)?;
-    ends(&rt, &left, 0, PLACED);
-    assert_eq!(rt; left.log.len(), 9);
-    assert_eq!(rt; left.answers.len(), 3);
-    assert_eq!(rt; left.reports.len(), 1);
-    let check = shown(&rt, rt.alloc(), &left, "check")?;
-    ends(&rt, &check, 0, KEPT);
-    let rows = shown(&rt, rt.alloc(), &left, "records")?;
-    ends(&rt, &rows, 0, ROWS);
-    Ok(())
+    let left = run(&rt, rt.alloc(), &given);
+    is_placed(&rt, &left);
+    is_shown(&rt, rt.alloc(), &left, "check", KEPT);
+    is_shown(&rt, rt.alloc(), &left, "records", ROWS);
 }

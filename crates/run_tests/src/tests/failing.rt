@@ -10,17 +10,6 @@ const OPENING: u64 = 7;
 
 const APPEND: u64 = 4;
 
-/// Two cells, and a process of three instances that a round places. Each phase has one actor.
-pub const PLACES: &str = r#"{"at":0}
-{"cell":"c1","op":"join","zone":"z1","memory":1024,"disk":4096,"containers":10,"ttl":600}
-{"at":0}
-{"cell":"c2","op":"join","zone":"z2","memory":1024,"disk":4096,"containers":10,"ttl":600}
-{"at":0}
-{"client":"cli","op":"desire","process":"web","domain":"apps","instances":3,"memory":64,"disk":128}
-{"at":1}
-{"op":"round"}
-"#;
-
 // Two processes in one phase, and one in the next.
 const DESIRES: &str = r#"{"at":0}
 {"client":"cli","op":"desire","process":"web","domain":"apps","instances":3,"memory":64,"disk":128}

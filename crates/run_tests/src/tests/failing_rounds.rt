@@ -1,5 +1,5 @@
 //! Disks that fail within a round: what it has made and placed stays, and the board opens afterwards.
-use super::failing::{PLACES, fails_in};
+use super::failing::fails_in;
 use super::*;
 
 const NONE_MADE: &str = r#"{"actor":"c1","answer":"ok","call":"join","line":2,"subject":"c1"}

@@ -1,5 +1,5 @@
 //! Sinks that fail in a run: what they hold then, that no phase follows, and that the board opens afterwards.
-use super::failing::{PLACES, opens};
+use super::failing::opens;
 use super::*;
 use std::alloc::Global;
 

@@ -16,7 +16,7 @@ fn a_source_of_nothing_but_newlines_is_a_scenario_of_no_phases(rt: HostRuntime) 
     let disk = disk_of(&rt, rt.alloc(), EMPTY, &[]);
     let left = left_by(&rt, rt.alloc(), "run", &source, &[], disk);
     ends(&rt, &left, 0, NOTHING);
-    holds(&rt, &left.disk, EMPTY);
+    holds(&rt, &left.disk, EMPTY, b"");
 }
 
 // The line of a client of that number.

@@ -1,5 +1,4 @@
 //! What a run hands back beside its text: who did what, and what a stop leaves of it.
-use super::failing::PLACES;
 use super::*;
 use bbs_model::{Item, Op};
 use disk_trait::{Disk, MemoryDisk, Torn};

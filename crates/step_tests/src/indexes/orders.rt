@@ -1,7 +1,10 @@
-use crate::tests::shelf::Numbered;
-use crate::{Order, Shelf};
+ghost use Rattle.std.specs.Prelude.{◌≤◌};
+
+use super::shelf::Numbered;
+use bbs_index::{Order, Shelf};
 use std::alloc::Global;
 use std::cmp::Ordering;
+use std::process::Abort;
 use std::test::Fail;
 
 fn add(shelf: &mut Shelf<Numbered>, number: u32) -> Result<(), Fail> {
@@ -10,12 +13,11 @@ fn add(shelf: &mut Shelf<Numbered>, number: u32) -> Result<(), Fail> {
     Ok(())
 }
 
-fn shelf_of(alloc: Global, keys: &[u32]) -> Result<Shelf<Numbered>, Fail> {
-    let mut shelf = Shelf::new(alloc);
+fn add_all(shelf: &mut Shelf<Numbered>, keys: &[u32]) -> Result<(), Fail> {
     for key in keys {
-        add(&mut shelf, *key)?;
+        add(shelf, *key)?;
     }
-    Ok(shelf)
+    Ok(())
 }
 
 // Makes the order that of the rows by their keys.
@@ -54,15 +56,25 @@ fn is_put_in(
     Ok(keys.as_slice() == wanted)
 }
 
-// Whether rows that come with the first keys are put in the order of the second ones.
-fn come_in(alloc: Global, order: &mut Order, keys: &[u32], wanted: &[u32]) -> Result<bool, Fail> {
-    let shelf = shelf_of(alloc, keys)?;
-    is_put_in(alloc, &shelf, order, wanted)
+fn fill_and_order(
+    alloc: Global,
+    shelf: &mut Shelf<Numbered>,
+    order: &mut Order,
+    keys: &[u32],
+    wanted: &[u32],
+) -> Result<bool, Fail> {
+    add_all(shelf, keys)?;
+    is_put_in(alloc, shelf, order, wanted)
 }
 
-#[test]
-fn keys_of_two_numbers_compare_where_they_lie(rt: HostRuntime) -> Result<(), Fail> {
-    let shelf = shelf_of(rt.alloc(), &[20, 10])?;
+// Whether rows that come with the first keys are put in the order of the second ones.
+fn come_in(alloc: Global, order: &mut Order, keys: &[u32], wanted: &[u32]) -> Result<bool, Fail> {
+    let mut shelf = Shelf::new(alloc);
+    fill_and_order(alloc, &mut shelf, order, keys, wanted)
+}
+
+fn compare(rt: &impl Abort, shelf: &mut Shelf<Numbered>) -> Result<(), Fail> {
+    add_all(shelf, &[20, 10])?;
     shelf.may_be_in_order();
     if shelf.len() != 2 {
         return Err(Fail::from("two keys are two rows"));
@@ -74,51 +86,81 @@ fn keys_of_two_numbers_compare_where_they_lie(rt: HostRuntime) -> Result<(), Fai
 }
 
 #[test]
+fn keys_of_two_numbers_compare_where_they_lie(rt: HostRuntime) -> Result<(), Fail> {
+    let mut shelf = Shelf::new(rt.alloc());
+    compare(&rt, &mut shelf)
+}
+
+fn all_come_in(rt: &impl Abort, alloc: Global, order: &mut Order) -> Result<(), Fail> {
+    assert!(rt; come_in(alloc, order, &[], &[])?);
+    assert!(rt; come_in(alloc, order, &[7], &[7])?);
+    assert!(rt; come_in(alloc, order, &[3, 1, 0, 2], &[0, 1, 2, 3])?);
+    assert!(rt; come_in(alloc, order, &[10, 20, 30, 25, 5], &[5, 10, 20, 25, 30])?);
+    Ok(())
+}
+
+#[test]
 fn rows_are_ordered_by_their_keys(rt: HostRuntime) -> Result<(), Fail> {
-    let alloc = rt.alloc();
-    let mut order = Order::new(alloc);
-    assert!(rt; come_in(alloc, &mut order, &[], &[])?);
-    assert!(rt; come_in(alloc, &mut order, &[7], &[7])?);
-    assert!(rt; come_in(alloc, &mut order, &[3, 1, 0, 2], &[0, 1, 2, 3])?);
-    assert!(rt;
-        come_in(
-            alloc,
-            &mut order,
-            &[10, 20, 30, 25, 5],
-            &[5, 10, 20, 25, 30]
-        )?
-    );
+    let mut order = Order::new(rt.alloc());
+    all_come_in(&rt, rt.alloc(), &mut order)
+}
+
+fn follow_those_that_come(
+    rt: &impl Abort,
+    alloc: Global,
+    shelf: &mut Shelf<Numbered>,
+    order: &mut Order,
+) -> Result<(), Fail> {
+    add_all(shelf, &[3, 1, 2])?;
+    assert!(rt; is_put_in(alloc, shelf, order, &[1, 2, 3])?);
+    assert!(rt; is_put_in(alloc, shelf, order, &[1, 2, 3])?);
+    add(shelf, 0)?;
+    assert!(rt; is_put_in(alloc, shelf, order, &[0, 1, 2, 3])?);
     Ok(())
 }
 
 #[test]
 fn an_order_follows_rows_that_come(rt: HostRuntime) -> Result<(), Fail> {
     let alloc = rt.alloc();
-    let mut order = Order::new(alloc);
-    let mut shelf = shelf_of(alloc, &[3, 1, 2])?;
-    assert!(rt; is_put_in(alloc, &shelf, &mut order, &[1, 2, 3])?);
-    assert!(rt; is_put_in(alloc, &shelf, &mut order, &[1, 2, 3])?);
-    add(&mut shelf, 0)?;
-    assert!(rt; is_put_in(alloc, &shelf, &mut order, &[0, 1, 2, 3])?);
-    Ok(())
+    let (mut shelf, mut order) = (Shelf::new(alloc), Order::new(alloc));
+    follow_those_that_come(&rt, alloc, &mut shelf, &mut order)
 }
 
 // The last row takes the number of the one that goes.
+fn follow_those_that_go(
+    rt: &impl Abort,
+    alloc: Global,
+    shelf: &mut Shelf<Numbered>,
+    order: &mut Order,
+) -> Result<(), Fail> {
+    add_all(shelf, &[3, 1, 2])?;
+    assert!(rt; is_put_in(alloc, shelf, order, &[1, 2, 3])?);
+    shelf.remove(&3);
+    assert!(rt; is_put_in(alloc, shelf, order, &[1, 2])?);
+    add(shelf, 0)?;
+    assert!(rt; is_put_in(alloc, shelf, order, &[0, 1, 2])?);
+    shelf.remove(&1);
+    shelf.remove(&2);
+    assert!(rt; is_put_in(alloc, shelf, order, &[0])?);
+    shelf.remove(&0);
+    assert!(rt; is_put_in(alloc, shelf, order, &[])?);
+    Ok(())
+}
+
 #[test]
 fn an_order_follows_rows_that_go(rt: HostRuntime) -> Result<(), Fail> {
     let alloc = rt.alloc();
-    let mut order = Order::new(alloc);
-    let mut shelf = shelf_of(alloc, &[3, 1, 2])?;
-    assert!(rt; is_put_in(alloc, &shelf, &mut order, &[1, 2, 3])?);
-    shelf.remove(&3);
-    assert!(rt; is_put_in(alloc, &shelf, &mut order, &[1, 2])?);
-    add(&mut shelf, 0)?;
-    assert!(rt; is_put_in(alloc, &shelf, &mut order, &[0, 1, 2])?);
-    shelf.remove(&1);
-    shelf.remove(&2);
-    assert!(rt; is_put_in(alloc, &shelf, &mut order, &[0])?);
-    shelf.remove(&0);
-    assert!(rt; is_put_in(alloc, &shelf, &mut order, &[])?);
+    let (mut shelf, mut order) = (Shelf::new(alloc), Order::new(alloc));
+    follow_those_that_go(&rt, alloc, &mut shelf, &mut order)
+}
+
+// Adds the rows of these counts.
+fn add_many(shelf: &mut Shelf<Numbered>, from: u32, to: u32) -> Result<(), Fail>
+    requires { to ≤ 50000 }
+{
+    for count in from..to {
+        add(shelf, count * 7 % 50_000)?;
+    }
     Ok(())
 }
 
@@ -132,20 +174,24 @@ fn are_all(keys: &[u32], count: usize) -> bool {
     keys.len() == count
 }
 
+fn order_again(
+    rt: &impl Abort,
+    alloc: Global,
+    shelf: &mut Shelf<Numbered>,
+    order: &mut Order,
+) -> Result<(), Fail> {
+    add_many(shelf, 0, 40_000)?;
+    put_in_order(shelf, order)?;
+    add_many(shelf, 40_000, 50_000)?;
+    put_in_order(shelf, order)?;
+    let keys = keys_along(alloc, shelf, order.numbers())?;
+    assert!(rt; are_all(&keys, 50_000));
+    Ok(())
+}
+
 #[test]
 fn many_rows_are_ordered_again_with_those_that_came(rt: HostRuntime) -> Result<(), Fail> {
     let alloc = rt.alloc();
-    let mut order = Order::new(alloc);
-    let mut shelf = Shelf::new(alloc);
-    for count in 0..40_000u32 {
-        add(&mut shelf, count * 7 % 50_000)?;
-    }
-    put_in_order(&shelf, &mut order)?;
-    for count in 40_000..50_000u32 {
-        add(&mut shelf, count * 7 % 50_000)?;
-    }
-    put_in_order(&shelf, &mut order)?;
-    let keys = keys_along(alloc, &shelf, order.numbers())?;
-    assert!(rt; are_all(&keys, 50_000));
-    Ok(())
+    let (mut shelf, mut order) = (Shelf::new(alloc), Order::new(alloc));
+    order_again(&rt, alloc, &mut shelf, &mut order)
 }

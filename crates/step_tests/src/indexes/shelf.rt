@@ -1,11 +1,13 @@
 ghost use Rattle.std.specs.FinMap.{nat_cmp-IsAntisymmetric};
 ghost use Rattle.std.specs.Cmp.{nat_cmp_total};
 
-use crate::Shelf;
+use bbs_index::Shelf;
 use bbs_model::Rowed;
 use crash_backoff::Moment;
 use diego_names::{Key, Name};
 use lrp_records::{Actual, Desired, LrpState, Presence};
+use std::alloc::Global;
+use std::process::Abort;
 use std::test::Fail;
 
 fn desired(process: &[u8], instances: u32) -> Result<Desired, Fail> {
@@ -28,27 +30,33 @@ fn add(shelf: &mut Shelf<Desired>, row: Desired) -> Result<(), Fail> {
     Ok(())
 }
 
-#[test]
-fn rows_come_out_in_the_order_of_their_keys(rt: HostRuntime) -> Result<(), Fail> {
-    let mut shelf = Shelf::new(rt.alloc());
-    add(&mut shelf, desired(b"web", 1)?)?;
-    add(&mut shelf, desired(b"api", 2)?)?;
-    add(&mut shelf, desired(b"cron", 3)?)?;
-    let rows = shelf.rows(rt.alloc())?;
+// Checks that these are the three rows, in the order of their keys.
+fn are_in_order(rt: &impl Abort, rows: &[Desired]) {
     assert_eq!(rt; rows.len(), 3);
     for (row, wanted) in rows.iter().zip([("api", 2), ("cron", 3), ("web", 1)]) {
         assert_eq!(rt; (row.process.as_str(), row.instances), wanted);
     }
+}
+
+fn come_in_order(rt: &impl Abort, alloc: Global, shelf: &mut Shelf<Desired>) -> Result<(), Fail> {
+    add(shelf, desired(b"web", 1)?)?;
+    add(shelf, desired(b"api", 2)?)?;
+    add(shelf, desired(b"cron", 3)?)?;
+    are_in_order(rt, shelf.rows(alloc)?.as_slice());
     Ok(())
 }
 
 #[test]
-fn a_put_at_a_known_key_takes_the_place_of_the_row_there(rt: HostRuntime) -> Result<(), Fail> {
+fn rows_come_out_in_the_order_of_their_keys(rt: HostRuntime) -> Result<(), Fail> {
     let mut shelf = Shelf::new(rt.alloc());
+    come_in_order(&rt, rt.alloc(), &mut shelf)
+}
+
+fn takes_the_place(rt: &impl Abort, shelf: &mut Shelf<Desired>) -> Result<(), Fail> {
     let row = desired(b"web", 1)?;
-    add(&mut shelf, row)?;
+    add(shelf, row)?;
     let spare = shelf.spare();
-    add(&mut shelf, desired(b"web", 5)?)?;
+    add(shelf, desired(b"web", 5)?)?;
     assert_eq!(rt; shelf.len(), 1);
     assert!(rt; spare <= shelf.spare());
     assert_eq!(rt;
@@ -59,12 +67,16 @@ fn a_put_at_a_known_key_takes_the_place_of_the_row_there(rt: HostRuntime) -> Res
 }
 
 #[test]
-fn a_removal_takes_one_row(rt: HostRuntime) -> Result<(), Fail> {
+fn a_put_at_a_known_key_takes_the_place_of_the_row_there(rt: HostRuntime) -> Result<(), Fail> {
     let mut shelf = Shelf::new(rt.alloc());
+    takes_the_place(&rt, &mut shelf)
+}
+
+fn loses_one(rt: &impl Abort, shelf: &mut Shelf<Desired>) -> Result<(), Fail> {
     let gone = desired(b"web", 1)?;
     let kept = desired(b"api", 2)?;
-    add(&mut shelf, gone)?;
-    add(&mut shelf, kept)?;
+    add(shelf, gone)?;
+    add(shelf, kept)?;
     shelf.remove(&gone.process);
     shelf.remove(&gone.process);
     assert_eq!(rt; shelf.len(), 1);
@@ -74,7 +86,12 @@ fn a_removal_takes_one_row(rt: HostRuntime) -> Result<(), Fail> {
 }
 
 #[test]
-fn an_instance_keeps_both_of_its_rows(rt: HostRuntime) -> Result<(), Fail> {
+fn a_removal_takes_one_row(rt: HostRuntime) -> Result<(), Fail> {
+    let mut shelf = Shelf::new(rt.alloc());
+    loses_one(&rt, &mut shelf)
+}
+
+fn put_both(shelf: &mut Shelf<Actual>) -> Result<(), Fail> {
     let process = Name::read(b"web")?;
     let evacuating = Actual {
         key: Key { process, index: 0 },
@@ -88,16 +105,30 @@ fn an_instance_keeps_both_of_its_rows(rt: HostRuntime) -> Result<(), Fail> {
         presence: Presence::Ordinary,
         ..evacuating
     };
-    let mut shelf = Shelf::new(rt.alloc());
     shelf.reserve(2)?;
     shelf.put(evacuating);
     shelf.put(ordinary);
-    let rows = shelf.rows(rt.alloc())?;
+    Ok(())
+}
+
+// Checks that these are an ORDINARY row and an EVACUATING one.
+fn are_both(rt: &impl Abort, rows: &[Actual]) {
     assert_eq!(rt; rows.len(), 2);
     for (row, wanted) in rows.iter().zip([0, 1]) {
         assert_eq!(rt; row.presence.rank(), wanted);
     }
+}
+
+fn keeps_both(rt: &impl Abort, alloc: Global, shelf: &mut Shelf<Actual>) -> Result<(), Fail> {
+    put_both(shelf)?;
+    are_both(rt, shelf.rows(alloc)?.as_slice());
     Ok(())
+}
+
+#[test]
+fn an_instance_keeps_both_of_its_rows(rt: HostRuntime) -> Result<(), Fail> {
+    let mut shelf = Shelf::new(rt.alloc());
+    keeps_both(&rt, rt.alloc(), &mut shelf)
 }
 
 // A row that is its own number, beside another.
@@ -119,9 +150,7 @@ impl Rowed for Numbered {
     }
 }
 
-#[test]
-fn fifty_thousand_rows_go_in_and_out(rt: HostRuntime) -> Result<(), Fail> {
-    let mut shelf = Shelf::new(rt.alloc());
+fn fill(shelf: &mut Shelf<Numbered>) -> Result<(), Fail> {
     for count in 0..50_000u32 {
         let number = count * 7 % 50_000;
         shelf.reserve(1)?;
@@ -130,16 +159,31 @@ fn fifty_thousand_rows_go_in_and_out(rt: HostRuntime) -> Result<(), Fail> {
             other: count,
         });
     }
-    assert_eq!(rt; shelf.len(), 50_000);
-    let rows = shelf.rows(rt.alloc())?;
+    Ok(())
+}
+
+// Checks that each row stands at its own place, beside its count.
+fn are_all(rt: &impl Abort, rows: &[Numbered]) {
     assert_eq!(rt; rows.len(), 50_000);
     for (place, row) in rows.iter().enumerate() {
         assert_eq!(rt; row.number as usize, place);
         assert_eq!(rt; u64::from(row.other) * 7 % 50_000, u64::from(row.number));
     }
+}
+
+fn go_in_and_out(rt: &impl Abort, alloc: Global, shelf: &mut Shelf<Numbered>) -> Result<(), Fail> {
+    fill(shelf)?;
+    assert_eq!(rt; shelf.len(), 50_000);
+    are_all(rt, shelf.rows(alloc)?.as_slice());
     for number in 0..50_000u32 {
         shelf.remove(&number);
     }
     assert_eq!(rt; shelf.len(), 0);
     Ok(())
+}
+
+#[test]
+fn fifty_thousand_rows_go_in_and_out(rt: HostRuntime) -> Result<(), Fail> {
+    let mut shelf = Shelf::new(rt.alloc());
+    go_in_and_out(&rt, rt.alloc(), &mut shelf)
 }

@@ -66,6 +66,40 @@ fn are_alike(one: &Rows, other: &Rows) -> bool {
         && one.next == other.next
 }
 
+// Does the commands by both steps: each must come to the same, and the rows must be the same after them.
+fn do_both(
+    rt: &impl Abort,
+    alloc: Global,
+    index: &mut Index,
+    rows: &mut Rows,
+    commands: &[Command],
+) -> Result<(), Fail>
+    requires index { IsValid index.old.rows }
+    requires rows { IsValid rows.old }
+    ensures { IsValid rows.new }
+{
+    let verdicts = run_all(alloc, rows, commands)?;
+    let same = come_to(index, commands, verdicts.as_slice())?;
+    assert!(rt; same);
+    let after = index.rows(alloc)?;
+    assert!(rt; are_alike(&after, rows));
+    Ok(())
+}
+
+// The same, the index made of the rows.
+fn step_alike(
+    rt: &impl Abort,
+    alloc: Global,
+    rows: &mut Rows,
+    commands: &[Command],
+) -> Result<(), Fail>
+    requires { IsValid rows.old }
+    ensures { IsValid rows.new }
+{
+    let mut index = Index::of(alloc, rows)?;
+    do_both(rt, alloc, &mut index, rows, commands)
+}
+
 // Does the operations at these seconds by the plain step and in place from the same rows: each must
 // come to the same, so many change the rows, and the rows are the same after them.
 fn run_alike(
@@ -78,25 +112,26 @@ fn run_alike(
     requires { IsValid rows.old }
     ensures { IsValid rows.new }
 {
-    let commands = commands_of(alloc, cases)?;
-    let mut index = Index::of(alloc, rows)?;
     let next = rows.next;
-    let verdicts = run_all(alloc, rows, commands.as_slice())?;
-    let same = come_to(&mut index, commands.as_slice(), verdicts.as_slice())?;
-    assert!(rt; same);
-    let after = index.rows(alloc)?;
-    assert!(rt; are_alike(&after, rows));
+    let commands = commands_of(alloc, cases)?;
+    step_alike(rt, alloc, rows, commands.as_slice())?;
     assert_eq!(rt; rows.next.wrapping_sub(next), changes);
+    Ok(())
+}
+
+fn all_run_alike(rt: &impl Abort, alloc: Global, rows: &mut Rows) -> Result<(), Fail>
+    requires { IsValid rows.old }
+{
+    let n = all_names()?;
+    run_alike(rt, alloc, rows, &beginning(&n), 5)?;
+    run_alike(rt, alloc, rows, &crashes(&n), 13)?;
+    run_alike(rt, alloc, rows, &two_tasks(&n), 10)?;
+    run_alike(rt, alloc, rows, &end_of_a_process(&n), 8)?;
     Ok(())
 }
 
 #[test]
 fn the_step_in_place_does_what_the_plain_one_does(rt: HostRuntime) -> Result<(), Fail> {
-    let n = all_names()?;
     let mut rows = first_board(rt.alloc());
-    run_alike(&rt, rt.alloc(), &mut rows, &beginning(&n), 5)?;
-    run_alike(&rt, rt.alloc(), &mut rows, &crashes(&n), 13)?;
-    run_alike(&rt, rt.alloc(), &mut rows, &two_tasks(&n), 10)?;
-    run_alike(&rt, rt.alloc(), &mut rows, &end_of_a_process(&n), 8)?;
-    Ok(())
+    all_run_alike(&rt, rt.alloc(), &mut rows)
 }

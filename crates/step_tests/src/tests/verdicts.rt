@@ -52,18 +52,24 @@ fn board(alloc: Global, web: Name, next: u64) -> Result<Rows, Fail>
     })
 }
 
+// What the desire comes to on a board of these rows.
+fn verdict_on(alloc: Global, rows: &Rows, desired: Desired) -> Result<Verdict, Fail>
+    requires { IsValid rows.now }
+{
+    let command = Command {
+        now: Moment(0),
+        op: Op::Desire { desired },
+    };
+    let index = Index::of(alloc, rows)?;
+    Ok(decide(&index, &command))
+}
+
 // What the desire of so many instances comes to on that board.
 fn desire(alloc: Global, next: u64, web: Name, name: Name, instances: u32) -> Result<Verdict, Fail>
     requires { next ≤ most_transitions }
 {
     let rows = board(alloc, web, next)?;
-    let index = Index::of(alloc, &rows)?;
-    let desired = process(name, instances);
-    let command = Command {
-        now: Moment(0),
-        op: Op::Desire { desired },
-    };
-    Ok(decide(&index, &command))
+    verdict_on(alloc, &rows, process(name, instances))
 }
 
 #[test]

@@ -1,3 +1,5 @@
+ghost use Rattle.bbs_model.specs.Valid.{IsValid};
+
 use super::*;
 use bbs_model::BoardRefusal;
 use diego_names::StateName;
@@ -161,17 +163,23 @@ fn parting(n: &Names) -> [(u32, Op, Verdict); 7] {
     ]
 }
 
-#[test]
-fn a_board_meets_every_kind_of_command(rt: HostRuntime) -> Result<(), Fail> {
+fn all_come_to(rt: &impl Abort, alloc: Global, rows: &mut Rows) -> Result<(), Fail>
+    requires { IsValid rows.old }
+{
     let n = all_names()?;
-    let mut rows = no_rows(rt.alloc());
-    each_comes_to(&rt, rt.alloc(), &mut rows, &placing(&n))?;
-    each_comes_to(&rt, rt.alloc(), &mut rows, &crashing(&n))?;
-    each_comes_to(&rt, rt.alloc(), &mut rows, &leaving(&n))?;
-    each_comes_to(&rt, rt.alloc(), &mut rows, &tasks(&n))?;
-    each_comes_to(&rt, rt.alloc(), &mut rows, &parting(&n))?;
+    each_comes_to(rt, alloc, rows, &placing(&n))?;
+    each_comes_to(rt, alloc, rows, &crashing(&n))?;
+    each_comes_to(rt, alloc, rows, &leaving(&n))?;
+    each_comes_to(rt, alloc, rows, &tasks(&n))?;
+    each_comes_to(rt, alloc, rows, &parting(&n))?;
     assert_eq!(rt; (rows.desired.len(), rows.actual.len()), (0, 0));
     assert_eq!(rt; (rows.tasks.len(), rows.cells.len()), (0, 0));
     assert_eq!(rt; rows.next, 34);
     Ok(())
+}
+
+#[test]
+fn a_board_meets_every_kind_of_command(rt: HostRuntime) -> Result<(), Fail> {
+    let mut rows = no_rows(rt.alloc());
+    all_come_to(&rt, rt.alloc(), &mut rows)
 }

@@ -1,3 +1,5 @@
+ghost use Rattle.bbs_model.specs.Valid.{IsValid};
+
 use super::*;
 use lrp_records::{Actual, LrpState, Presence};
 
@@ -36,12 +38,12 @@ fn first_placement(n: &Names, web: Name, apps: Name) -> [(u32, Op, Verdict); 9] 
     ]
 }
 
-#[test]
-fn a_process_is_placed(rt: HostRuntime) -> Result<(), Fail> {
+fn place(rt: &impl Abort, alloc: Global, rows: &mut Rows) -> Result<(), Fail>
+    requires { IsValid rows.old }
+{
     let n = all_names()?;
     let (web, apps) = (Name::read(b"web")?, Name::read(b"apps")?);
-    let mut rows = no_rows(rt.alloc());
-    each_comes_to(&rt, rt.alloc(), &mut rows, &first_placement(&n, web, apps))?;
+    each_comes_to(rt, alloc, rows, &first_placement(&n, web, apps))?;
     assert_eq!(rt; rows.next, 9);
     assert_eq!(rt; rows.desired.items(), [wanted(web, apps, 3)].as_slice());
     let cells = rows.cells.items().iter().map(|row| (row.epoch, row.until));
@@ -53,6 +55,12 @@ fn a_process_is_placed(rt: HostRuntime) -> Result<(), Fail> {
     ];
     assert_eq!(rt; rows.actual.items(), placed.as_slice());
     Ok(())
+}
+
+#[test]
+fn a_process_is_placed(rt: HostRuntime) -> Result<(), Fail> {
+    let mut rows = no_rows(rt.alloc());
+    place(&rt, rt.alloc(), &mut rows)
 }
 
 fn joins_and_wishes(n: &Names, apps: Name) -> [(u32, Op, Verdict); 7] {
@@ -115,22 +123,28 @@ fn placements_anew(n: &Names) -> [(u32, Op, Verdict); 5] {
     ]
 }
 
-#[test]
-fn a_board_lives_through_a_crash_and_an_evacuation(rt: HostRuntime) -> Result<(), Fail> {
+fn live(rt: &impl Abort, alloc: Global, rows: &mut Rows) -> Result<(), Fail>
+    requires { IsValid rows.old }
+{
     let n = all_names()?;
     let wishes = joins_and_wishes(&n, Name::read(b"cf-apps")?);
-    let mut rows = no_rows(rt.alloc());
-    each_comes_to(&rt, rt.alloc(), &mut rows, &wishes)?;
+    each_comes_to(rt, alloc, rows, &wishes)?;
     let births = rows.tasks.items().iter().map(|task| task.birth);
     assert!(rt; births.eq([6]));
-    each_comes_to(&rt, rt.alloc(), &mut rows, &placements(&n))?;
-    each_comes_to(&rt, rt.alloc(), &mut rows, &starts_and_a_crash(&n))?;
-    each_comes_to(&rt, rt.alloc(), &mut rows, &outcome_and_evacuation(&n))?;
+    each_comes_to(rt, alloc, rows, &placements(&n))?;
+    each_comes_to(rt, alloc, rows, &starts_and_a_crash(&n))?;
+    each_comes_to(rt, alloc, rows, &outcome_and_evacuation(&n))?;
     assert_eq!(rt; (rows.tasks.len(), rows.actual.len()), (0, 5));
-    each_comes_to(&rt, rt.alloc(), &mut rows, &placements_anew(&n))?;
+    each_comes_to(rt, alloc, rows, &placements_anew(&n))?;
     assert_eq!(rt; rows.next, 31);
     assert_eq!(rt; rows.actual.items(), last_rows(&n).as_slice());
     Ok(())
+}
+
+#[test]
+fn a_board_lives_through_a_crash_and_an_evacuation(rt: HostRuntime) -> Result<(), Fail> {
+    let mut rows = no_rows(rt.alloc());
+    live(&rt, rt.alloc(), &mut rows)
 }
 
 fn runs(instance: Instance, cell: Name) -> LrpState {

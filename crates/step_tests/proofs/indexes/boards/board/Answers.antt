@@ -2,8 +2,8 @@ use Rattle.std.proofs.Common.{◌≡◌, [], ◌∷◌, sym, ap, subst, ◌∙�
 use Rattle.cell_records.specs.declared.amounts.Amounts.{Amounts}
 use Rattle.crash_backoff.specs.declared.moment.Moment.{Moment}
 use Rattle.bbs_model.specs.Valid.{AreDesired, AreActual, AreCells, AreTasks}
-use Rattle.bbs_index.proofs.Boards.{web, c1, c2, wants, claim, joined, desired_board, actual_board, cells_board, tasks_board}
-use Rattle.bbs_index.proofs.tests.boards.board.Goals as goal
+use Rattle.step_tests.proofs.RoundBoard.{web, c1, c2, wants, claim, joined, desired_board, actual_board, cells_board, tasks_board}
+use Rattle.step_tests.proofs.indexes.boards.board.Goals as goal
 
 pub returns : goal.returns
 returns c =
