@@ -1,5 +1,5 @@
 //! Each line of what is asked by answers, as a case.
-use super::answers::{answer, held, held_task, plans};
+use super::answers::{held, held_task, plans};
 use super::{
     Names, at, container, desire, first, join, make, new_task, read_names, start, start_task,
 };
@@ -21,8 +21,7 @@ fn asked_of_a(
     holds: &[Container],
     asked: &[Op],
 ) -> Result<bool, OutOfMemory> {
-    let told = answer(alloc, names.a, 2, holds)?;
-    plans(alloc, done, told, asked)
+    plans(alloc, done, &[(names.a, 2, holds)], asked)
 }
 
 #[test]
@@ -81,10 +80,10 @@ fn nothing_is_asked_of_a_row_whose_cell_gave_no_answer(rt: HostRuntime) -> Resul
         join(cell, 90),
         start(web, 2, cell),
     ];
-    let stale = answer(alloc, cell, 1, &[])?;
-    assert!(rt; plans(alloc, &running, stale, &[])?);
-    let other = answer(alloc, names.b, 2, &[])?;
-    assert!(rt; plans(alloc, &running, other, &[])?);
+    let stale = (cell, 1, [].as_slice());
+    assert!(rt; plans(alloc, &running, &[stale], &[])?);
+    let other = (names.b, 2, [].as_slice());
+    assert!(rt; plans(alloc, &running, &[other], &[])?);
     Ok(())
 }
 

@@ -1,5 +1,5 @@
 //! Phases of actors: lines that are run more than once, and lines that made no command.
-use super::{OK, answer, called, instance, line, name, parts, phase, script, tells, web};
+use super::{Case, OK, answer, called, instance, line, name, tells, web};
 use bbs_model::{BoardRefusal, Change, Event, Op, Reply, Row};
 use cell_records::JobName;
 use cell_rep::{CallEnd, CellAct, RepRefusal};
@@ -34,7 +34,6 @@ fn new_job() -> Result<Op, Fail> {
 
 #[test]
 fn each_run_of_a_line_has_its_answer(rt: HostRuntime) -> Result<(), Fail> {
-    let alloc = rt.alloc();
     let (name, failed) = (name("job")?, false);
     let finish = Line {
         times: 2,
@@ -55,14 +54,18 @@ fn each_run_of_a_line_has_its_answer(rt: HostRuntime) -> Result<(), Fail> {
         called(&finish, complete, lost),
         called(&finish, complete, refused),
     ];
+    let case = Case {
+        actors: &[(true, "c1"), (false, "cli")],
+        lines: &[finish],
+        round: None,
+        parts: &[&runs, &[]],
+        report: None,
+        events: &[job(1, 9, Change::Changed, TaskState::Completed { failed })?],
+    };
     tells(
         &rt,
-        alloc,
-        &script(alloc, &[(true, "c1"), (false, "cli")])?,
-        &phase(alloc, &[finish], None)?,
-        &parts(alloc, &[&runs, &[]])?,
-        &None,
-        &[job(1, 9, Change::Changed, TaskState::Completed { failed })?],
+        rt.alloc(),
+        &case,
         &[
             r#"{"actor":"c1","answer":"lost reply","call":"completetask","line":8,"subject":"job"}"#,
             r#"{"actor":"c1","answer":"refused","call":"completetask","line":8,"subject":"job","why":"wrong state completed"}"#,
@@ -73,7 +76,6 @@ fn each_run_of_a_line_has_its_answer(rt: HostRuntime) -> Result<(), Fail> {
 
 #[test]
 fn events_of_one_row_stay_in_their_order(rt: HostRuntime) -> Result<(), Fail> {
-    let alloc = rt.alloc();
     let name = name("job")?;
     let (resolve, delete) = (Op::ResolveTask { name }, Op::DeleteTask { name });
     let make = new_job()?;
@@ -88,18 +90,23 @@ fn events_of_one_row_stay_in_their_order(rt: HostRuntime) -> Result<(), Fail> {
         called(&lines[1], delete, OK),
         called(&lines[2], make, OK),
     ];
+    let events = [
+        job(1, 10, Change::Changed, resolving)?,
+        job(1, 10, Change::Removed, resolving)?,
+        job(6, 10, Change::Created, TaskState::Pending)?,
+    ];
+    let case = Case {
+        actors: &[(true, "c1"), (false, "cli")],
+        lines: &lines,
+        round: None,
+        parts: &[&[], &runs],
+        report: None,
+        events: &events,
+    };
     tells(
         &rt,
-        alloc,
-        &script(alloc, &[(true, "c1"), (false, "cli")])?,
-        &phase(alloc, &lines, None)?,
-        &parts(alloc, &[&[], &runs])?,
-        &None,
-        &[
-            job(1, 10, Change::Changed, resolving)?,
-            job(1, 10, Change::Removed, resolving)?,
-            job(6, 10, Change::Created, TaskState::Pending)?,
-        ],
+        rt.alloc(),
+        &case,
         &[
             r#"{"actor":"cli","answer":"ok","call":"resolve","line":10,"subject":"job"}"#,
             r#"{"actor":"cli","answer":"ok","call":"delete","line":11,"subject":"job"}"#,
@@ -113,7 +120,6 @@ fn events_of_one_row_stay_in_their_order(rt: HostRuntime) -> Result<(), Fail> {
 
 #[test]
 fn a_line_without_a_command_tells_its_own_word_and_job(rt: HostRuntime) -> Result<(), Fail> {
-    let alloc = rt.alloc();
     let claim = CellAct::Claim {
         job: JobName::Lrp(web(0)?),
         memory: 64,
@@ -134,14 +140,18 @@ fn a_line_without_a_command_tells_its_own_word_and_job(rt: HostRuntime) -> Resul
         answer(&lines[3], None, down),
     ];
     let second = [answer(&lines[1], None, CallEnd::Idle)];
+    let case = Case {
+        actors: &[(true, "c1"), (true, "c2")],
+        lines: &lines,
+        round: None,
+        parts: &[&first, &second],
+        report: None,
+        events: &[],
+    };
     tells(
         &rt,
-        alloc,
-        &script(alloc, &[(true, "c1"), (true, "c2")])?,
-        &phase(alloc, &lines, None)?,
-        &parts(alloc, &[&first, &second])?,
-        &None,
-        &[],
+        rt.alloc(),
+        &case,
         &[
             r#"{"actor":"c1","answer":"refused","call":"claim","line":4,"subject":"web/0","why":"no memory left"}"#,
             r#"{"actor":"c2","answer":"none","call":"up","line":5,"subject":"job"}"#,

@@ -1,14 +1,15 @@
 //! The order of events: by table, by key, and the ORDINARY row before the EVACUATING one.
 use super::{
-    OK, TOTALS, actual_event, called, desired, instance, line, name, parts, phase, script, tells,
-    unclaimed, web,
+    Case, OK, TOTALS, actual_event, called, desired, instance, line, name, tells, unclaimed, web,
 };
-use crate::events_by_key;
 use bbs_model::{Change, Event, Op, Row};
 use cell_records::CellRow;
 use crash_backoff::Moment;
 use lrp_records::{Actual, LrpState, Presence};
+use phase_text::events_by_key;
 use scenario_lines::Act;
+use std::alloc::Global;
+use std::process::Abort;
 use std::test::Fail;
 use task_records::{Task, TaskState};
 
@@ -37,7 +38,6 @@ fn evacuating(index: u32) -> Result<Actual, Fail> {
 
 #[test]
 fn an_evacuation_is_told_by_its_calls_and_then_by_its_rows(rt: HostRuntime) -> Result<(), Fail> {
-    let alloc = rt.alloc();
     let evacuate = line(10, 1, Act::Evacuate);
     let drain = Op::Drain {
         cell: name("c1")?,
@@ -52,18 +52,23 @@ fn an_evacuation_is_told_by_its_calls_and_then_by_its_rows(rt: HostRuntime) -> R
         row: Row::Cell(cell("c1")?),
     };
     let runs = [called(&evacuate, drain, OK), called(&evacuate, leave, OK)];
+    let events = [
+        emptied,
+        actual_event(Change::Created, evacuating(0)?),
+        actual_event(Change::Changed, unclaimed(0, 3)?),
+    ];
+    let case = Case {
+        actors: &[(true, "c1"), (false, "cli")],
+        lines: &[evacuate],
+        round: None,
+        parts: &[&runs, &[]],
+        report: None,
+        events: &events,
+    };
     tells(
         &rt,
-        alloc,
-        &script(alloc, &[(true, "c1"), (false, "cli")])?,
-        &phase(alloc, &[evacuate], None)?,
-        &parts(alloc, &[&runs, &[]])?,
-        &None,
-        &[
-            emptied,
-            actual_event(Change::Created, evacuating(0)?),
-            actual_event(Change::Changed, unclaimed(0, 3)?),
-        ],
+        rt.alloc(),
+        &case,
         &[
             r#"{"actor":"c1","answer":"ok","call":"drain","line":10,"subject":"c1"}"#,
             r#"{"actor":"c1","answer":"ok","call":"evacuate","line":10,"subject":"web/0"}"#,
@@ -72,6 +77,21 @@ fn an_evacuation_is_told_by_its_calls_and_then_by_its_rows(rt: HostRuntime) -> R
             r#"{"event":"changed","row":{"cell":"c1","containers":10,"disk":4096,"epoch":0,"evacuating":true,"memory":1024,"tag":null,"until":600,"zone":"z1"},"table":"cell"}"#,
         ],
     )
+}
+
+// The order in which these events must stand.
+fn are_sorted_to(
+    rt: &impl Abort,
+    alloc: Global,
+    events: &[Event],
+    rows: &[Row],
+) -> Result<(), Fail> {
+    let events = events_by_key(alloc, events)?;
+    assert_eq!(rt; events.len(), rows.len());
+    for (event, row) in events.items().iter().zip(rows) {
+        assert!(rt; event.row == *row, "a row out of its place");
+    }
+    Ok(())
 }
 
 #[test]
@@ -96,16 +116,10 @@ fn events_stand_by_table_key_and_presence(rt: HostRuntime) -> Result<(), Fail> {
         Row::Cell(cell("a")?),
         Row::Cell(cell("b")?),
     ];
-    let mut mixed = Vec::new(rt.alloc());
-    for at in [8, 3, 5, 0, 7, 2, 6, 4, 1] {
-        let change = Change::Changed;
-        let row = sorted[at];
-        mixed.push(Event { change, row })?;
-    }
-    let events = events_by_key(rt.alloc(), mixed.as_slice())?;
-    assert_eq!(rt; events.len(), sorted.len());
-    for (event, row) in events.items().iter().zip(sorted.iter()) {
-        assert!(rt; event.row == *row, "a row out of its place");
-    }
-    Ok(())
+    let change = Change::Changed;
+    let mixed = [8, 3, 5, 0, 7, 2, 6, 4, 1].map(|at: usize| Event {
+        change,
+        row: sorted[at],
+    });
+    are_sorted_to(&rt, rt.alloc(), &mixed, &sorted)
 }

@@ -1,13 +1,11 @@
 //! Phases with a round: where its line stands, and what is told where the disk ended it.
+use super::telling::Reported;
 use super::{
-    OK, actual_event, called, desired, instance, line, name, parts, phase, report, round, script,
-    tells, unclaimed, web,
+    Case, OK, actual_event, called, complete, desired, instance, line, name, tells, unclaimed, web,
 };
 use bbs_model::{BoardRefusal, Change, Event, Op, Reply, Row};
 use cell_records::JobName;
 use cell_rep::CallEnd;
-use convergence::Report;
-use diego_names::List;
 use lrp_records::{Actual, Desired, LrpState};
 use scenario_lines::Act;
 use std::alloc::Global;
@@ -32,22 +30,26 @@ fn claimed(index: u32, cell: &str, epoch: u64, number: u32) -> Result<Event, Fai
 
 #[test]
 fn a_round_is_told_before_what_it_did(rt: HostRuntime) -> Result<(), Fail> {
-    let alloc = rt.alloc();
+    let events = [
+        made(0)?,
+        made(1)?,
+        made(2)?,
+        claimed(0, "c1", 0, 1)?,
+        claimed(2, "c1", 0, 2)?,
+        claimed(1, "c2", 1, 1)?,
+    ];
+    let case = Case {
+        actors: &[(true, "c1"), (true, "c2"), (false, "cli")],
+        lines: &[],
+        round: Some(8),
+        parts: &[&[], &[], &[]],
+        report: Some(complete(6)),
+        events: &events,
+    };
     tells(
         &rt,
-        alloc,
-        &script(alloc, &[(true, "c1"), (true, "c2"), (false, "cli")])?,
-        &phase(alloc, &[], Some(round(alloc, 8)))?,
-        &parts(alloc, &[&[], &[], &[]])?,
-        &Some(report(alloc, 8, 6)),
-        &[
-            made(0)?,
-            made(1)?,
-            made(2)?,
-            claimed(0, "c1", 0, 1)?,
-            claimed(2, "c1", 0, 2)?,
-            claimed(1, "c2", 1, 1)?,
-        ],
+        rt.alloc(),
+        &case,
         &[
             r#"{"asked":2,"complete":true,"foreign":0,"line":8,"lost":0,"op":"round","own":6,"refused":0,"stopped":0,"unplaced":[]}"#,
             r#"{"event":"created","row":{"cell":null,"count":0,"error":false,"index":0,"instance":null,"presence":"ordinary","process":"web","since":1,"state":"unclaimed"},"table":"actual"}"#,
@@ -62,26 +64,28 @@ fn a_round_is_told_before_what_it_did(rt: HostRuntime) -> Result<(), Fail> {
 
 #[test]
 fn a_round_that_left_a_job_names_it(rt: HostRuntime) -> Result<(), Fail> {
-    let alloc = rt.alloc();
-    let mut unplaced = List::new(alloc);
-    unplaced.push(JobName::Lrp(web(0)?))?;
-    let report = Report {
+    let unplaced = [JobName::Lrp(web(0)?)];
+    let report = Reported {
         asked: 1,
-        unplaced,
-        ..report(alloc, 12, 1)
+        unplaced: &unplaced,
+        ..complete(1)
     };
     let row = Actual {
         error: true,
         ..unclaimed(0, 3)?
     };
+    let case = Case {
+        actors: &[(true, "c1")],
+        lines: &[],
+        round: Some(12),
+        parts: &[&[]],
+        report: Some(report),
+        events: &[actual_event(Change::Changed, row)],
+    };
     tells(
         &rt,
-        alloc,
-        &script(alloc, &[(true, "c1")])?,
-        &phase(alloc, &[], Some(round(alloc, 12)))?,
-        &parts(alloc, &[&[]])?,
-        &Some(report),
-        &[actual_event(Change::Changed, row)],
+        rt.alloc(),
+        &case,
         &[
             r#"{"asked":1,"complete":false,"foreign":0,"line":12,"lost":0,"op":"round","own":1,"refused":0,"stopped":0,"unplaced":["web/0"]}"#,
             r#"{"event":"changed","row":{"cell":null,"count":0,"error":true,"index":0,"instance":null,"presence":"ordinary","process":"web","since":3,"state":"unclaimed"},"table":"actual"}"#,
@@ -97,7 +101,12 @@ fn wanted(desired: Desired) -> Event {
 }
 
 // Client a has the lines 2 and 5 and client b the line 4; the round's is line 3.
-fn around(rt: &impl Abort, alloc: Global, report: &Option<Report>, told: &str) -> Result<(), Fail> {
+fn around(
+    rt: &impl Abort,
+    alloc: Global,
+    report: Option<Reported<'_>>,
+    told: &str,
+) -> Result<(), Fail> {
     let (pa, pb) = (desired("pa", 1)?, desired("pb", 1)?);
     let first = line(2, 1, Act::Client(Op::Desire { desired: pa }));
     let other = line(4, 2, Act::Client(Op::Desire { desired: pb }));
@@ -106,23 +115,23 @@ fn around(rt: &impl Abort, alloc: Global, report: &Option<Report>, told: &str) -
         why: BoardRefusal::Exists,
         place: 2,
     });
+    let of_a = [
+        called(&first, Op::Desire { desired: pa }, OK),
+        called(&again, Op::Desire { desired: pa }, refused),
+    ];
+    let of_b = [called(&other, Op::Desire { desired: pb }, OK)];
+    let case = Case {
+        actors: &[(false, "a"), (false, "b")],
+        lines: &[first, other, again],
+        round: Some(3),
+        parts: &[&of_a, &of_b],
+        report,
+        events: &[wanted(pb), wanted(pa)],
+    };
     tells(
         rt,
         alloc,
-        &script(alloc, &[(false, "a"), (false, "b")])?,
-        &phase(alloc, &[first, other, again], Some(round(alloc, 3)))?,
-        &parts(
-            alloc,
-            &[
-                &[
-                    called(&first, Op::Desire { desired: pa }, OK),
-                    called(&again, Op::Desire { desired: pa }, refused),
-                ],
-                &[called(&other, Op::Desire { desired: pb }, OK)],
-            ],
-        )?,
-        report,
-        &[wanted(pb), wanted(pa)],
+        &case,
         &[
             r#"{"actor":"a","answer":"ok","call":"desire","line":2,"subject":"pa"}"#,
             told,
@@ -136,15 +145,15 @@ fn around(rt: &impl Abort, alloc: Global, report: &Option<Report>, told: &str) -
 
 #[test]
 fn a_round_is_told_where_its_line_stands(rt: HostRuntime) -> Result<(), Fail> {
-    let report = Report {
+    let report = Reported {
         asked: 0,
         foreign: 2,
-        ..report(rt.alloc(), 3, 0)
+        ..complete(0)
     };
     around(
         &rt,
         rt.alloc(),
-        &Some(report),
+        Some(report),
         r#"{"asked":0,"complete":false,"foreign":2,"line":3,"lost":0,"op":"round","own":0,"refused":0,"stopped":0,"unplaced":[]}"#,
     )
 }
@@ -152,5 +161,5 @@ fn a_round_is_told_where_its_line_stands(rt: HostRuntime) -> Result<(), Fail> {
 #[test]
 fn a_round_that_the_disk_ended_is_told_so(rt: HostRuntime) -> Result<(), Fail> {
     let told = r#"{"answer":"disk","line":3,"op":"round"}"#;
-    around(&rt, rt.alloc(), &None, told)
+    around(&rt, rt.alloc(), None, told)
 }

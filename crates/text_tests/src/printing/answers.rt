@@ -1,12 +1,12 @@
 //! Answers: each way in which a call ends, and lines that made none.
 use super::{desired, instance, key, name, reads};
-use crate::{ActWord, Asked, answer_text};
 use bbs_model::{BoardRefusal, CallFault, Op, Reply};
 use cell_records::JobName;
 use cell_rep::{CallEnd, RepRefusal};
 use container_store::StoreRefusal;
 use diego_names::{Instance, StateName};
 use lrp_records::LrpRefusal;
+use record_print::{ActWord, Asked, answer_text};
 use std::alloc::Global;
 use std::process::Abort;
 use std::test::Fail;
