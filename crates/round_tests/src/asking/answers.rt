@@ -33,13 +33,13 @@ pub fn held_task(name: Name, epoch: u64, number: u32, state: ContainerState) -> 
     }
 }
 
-// The containers in a list.
-fn listed(alloc: Global, held: &[Container]) -> Result<List<Container>, OutOfMemory> {
-    let mut containers = List::new(alloc);
-    for container in held {
-        containers.push(*container)?;
+// Items in a list.
+fn listed<X: Copy>(alloc: Global, of: &[X]) -> Result<List<X>, OutOfMemory> {
+    let mut items = List::new(alloc);
+    for item in of {
+        items.push(*item)?;
     }
-    Ok(containers)
+    Ok(items)
 }
 
 // What a cell with these containers answers.

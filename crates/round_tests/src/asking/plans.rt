@@ -5,13 +5,25 @@ use super::{
 };
 use bbs_model::{Command, Op};
 use cell_records::{Container, ContainerState};
-use diego_names::OutOfMemory;
+use diego_names::{Name, OutOfMemory};
 use std::alloc::Global;
 use std::test::Fail;
 
 const RUNNING: ContainerState = ContainerState::Running;
 
 const ENDED: ContainerState = ContainerState::Completed { failed: true };
+
+/// What is asked where a cell answers with this epoch and these.
+fn asked_of(
+    alloc: Global,
+    cell: Name,
+    epoch: u64,
+    done: &[Command],
+    holds: &[Container],
+    asked: &[Op],
+) -> Result<bool, OutOfMemory> {
+    plans(alloc, done, &[(cell, epoch, holds)], asked)
+}
 
 /// What is asked where cell a joined as the third command and holds these.
 fn asked_of_a(
@@ -21,7 +33,7 @@ fn asked_of_a(
     holds: &[Container],
     asked: &[Op],
 ) -> Result<bool, OutOfMemory> {
-    plans(alloc, done, &[(names.a, 2, holds)], asked)
+    asked_of(alloc, names.a, 2, done, holds, asked)
 }
 
 #[test]
@@ -80,10 +92,8 @@ fn nothing_is_asked_of_a_row_whose_cell_gave_no_answer(rt: HostRuntime) -> Resul
         join(cell, 90),
         start(web, 2, cell),
     ];
-    let stale = (cell, 1, [].as_slice());
-    assert!(rt; plans(alloc, &running, &[stale], &[])?);
-    let other = (names.b, 2, [].as_slice());
-    assert!(rt; plans(alloc, &running, &[other], &[])?);
+    assert!(rt; asked_of(alloc, cell, 1, &running, &[], &[])?);
+    assert!(rt; asked_of(alloc, names.b, 2, &running, &[], &[])?);
     Ok(())
 }
 

@@ -53,14 +53,14 @@ pub(super) fn cell(cell: &[u8], zone: &[u8], totals: Amounts) -> Result<Site, Fa
     })
 }
 
-// The container in a list, if there is one.
-fn listed(alloc: Global, holds: Option<Container>) -> Result<List<Container>, OutOfMemory> {
-    let mut containers = List::new(alloc);
-    match holds {
+// An item in a list, if there is one.
+fn listed<X: Copy>(alloc: Global, item: Option<X>) -> Result<List<X>, OutOfMemory> {
+    let mut items = List::new(alloc);
+    match item {
         None => {}
-        Some(container) => containers.push(container)?,
+        Some(item) => items.push(item)?,
     }
-    Ok(containers)
+    Ok(items)
 }
 
 // What a cell answers.

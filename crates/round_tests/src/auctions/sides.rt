@@ -60,8 +60,8 @@ fn state(seed: &mut u64) -> ContainerState {
     }
 }
 
-// A cell, which may be full or of another size.
-fn site(seed: &mut u64, letter: u8) -> Result<Site, Fail> {
+// Adds a cell, which may be full or of another size.
+fn add_site(sites: &mut Vec<Site>, seed: &mut u64, letter: u8) -> Result<(), Fail> {
     let totals = Amounts {
         memory: 4 + next(seed) % 6,
         disk: 8,
@@ -76,7 +76,7 @@ fn site(seed: &mut u64, letter: u8) -> Result<Site, Fail> {
     let process = pick(seed, &[b"p", b"q", b"r", b"s"])?;
     let job = JobName::Lrp(Key { process, index: 99 });
     made.holds = Some(container(job, state(seed)));
-    Ok(made)
+    Ok(sites.push(made)?)
 }
 
 // A few cells, some of them full or of another size.
@@ -84,7 +84,7 @@ fn sites(alloc: Global, seed: &mut u64) -> Result<Vec<Site>, Fail> {
     let mut sites = Vec::new(alloc);
     for at in 0..9u32 {
         let letter = LETTERS[(15 - at % 9) as usize];
-        sites.push(site(seed, letter)?)?;
+        add_site(&mut sites, seed, letter)?;
     }
     Ok(sites)
 }

@@ -5,8 +5,8 @@ use cell_records::JobName;
 use cell_rep::{CallEnd, CellAct, RepRefusal};
 use container_store::StoreRefusal;
 use crash_backoff::Moment;
-use diego_names::StateName;
-use scenario_lines::{Act, Line};
+use diego_names::{Name, StateName};
+use scenario_lines::{Act, Answered, Line};
 use std::test::Fail;
 use task_records::{Task, TaskRefusal, TaskState};
 
@@ -32,9 +32,8 @@ fn new_job() -> Result<Op, Fail> {
     })
 }
 
-#[test]
-fn each_run_of_a_line_has_its_answer(rt: HostRuntime) -> Result<(), Fail> {
-    let (name, failed) = (name("job")?, false);
+// A line that is run twice, and its answers.
+fn finished_twice(name: Name, failed: bool) -> ([Line; 1], [Answered; 2]) {
     let finish = Line {
         times: 2,
         ..line(8, 1, Act::Cell(CellAct::Finish { name, failed }))
@@ -54,32 +53,33 @@ fn each_run_of_a_line_has_its_answer(rt: HostRuntime) -> Result<(), Fail> {
         called(&finish, complete, lost),
         called(&finish, complete, refused),
     ];
+    ([finish], runs)
+}
+
+#[test]
+fn each_run_of_a_line_has_its_answer(rt: HostRuntime) -> Result<(), Fail> {
+    let failed = false;
+    let (lines, runs) = finished_twice(name("job")?, failed);
     let case = Case {
         actors: &[(true, "c1"), (false, "cli")],
-        lines: &[finish],
+        lines: &lines,
         round: None,
         parts: &[&runs, &[]],
         report: None,
         events: &[job(1, 9, Change::Changed, TaskState::Completed { failed })?],
     };
-    tells(
-        &rt,
-        rt.alloc(),
-        &case,
-        &[
-            r#"{"actor":"c1","answer":"lost reply","call":"completetask","line":8,"subject":"job"}"#,
-            r#"{"actor":"c1","answer":"refused","call":"completetask","line":8,"subject":"job","why":"wrong state completed"}"#,
-            r#"{"event":"changed","row":{"birth":1,"cell":null,"disk":64,"failed":false,"instance":null,"memory":64,"name":"job","since":9,"state":"completed","tag":null},"table":"task"}"#,
-        ],
-    )
+    let want = [
+        r#"{"actor":"c1","answer":"lost reply","call":"completetask","line":8,"subject":"job"}"#,
+        r#"{"actor":"c1","answer":"refused","call":"completetask","line":8,"subject":"job","why":"wrong state completed"}"#,
+        r#"{"event":"changed","row":{"birth":1,"cell":null,"disk":64,"failed":false,"instance":null,"memory":64,"name":"job","since":9,"state":"completed","tag":null},"table":"task"}"#,
+    ];
+    tells(&rt, rt.alloc(), &case, &want)
 }
 
-#[test]
-fn events_of_one_row_stay_in_their_order(rt: HostRuntime) -> Result<(), Fail> {
-    let name = name("job")?;
+// A task that is resolved, deleted and made anew, and the answers.
+fn made_anew(name: Name) -> Result<([Line; 3], [Answered; 3]), Fail> {
     let (resolve, delete) = (Op::ResolveTask { name }, Op::DeleteTask { name });
     let make = new_job()?;
-    let resolving = TaskState::Resolving { failed: false };
     let lines = [
         line(10, 2, Act::Client(resolve)),
         line(11, 2, Act::Client(delete)),
@@ -90,6 +90,13 @@ fn events_of_one_row_stay_in_their_order(rt: HostRuntime) -> Result<(), Fail> {
         called(&lines[1], delete, OK),
         called(&lines[2], make, OK),
     ];
+    Ok((lines, runs))
+}
+
+#[test]
+fn events_of_one_row_stay_in_their_order(rt: HostRuntime) -> Result<(), Fail> {
+    let (lines, runs) = made_anew(name("job")?)?;
+    let resolving = TaskState::Resolving { failed: false };
     let events = [
         job(1, 10, Change::Changed, resolving)?,
         job(1, 10, Change::Removed, resolving)?,
@@ -103,19 +110,15 @@ fn events_of_one_row_stay_in_their_order(rt: HostRuntime) -> Result<(), Fail> {
         report: None,
         events: &events,
     };
-    tells(
-        &rt,
-        rt.alloc(),
-        &case,
-        &[
-            r#"{"actor":"cli","answer":"ok","call":"resolve","line":10,"subject":"job"}"#,
-            r#"{"actor":"cli","answer":"ok","call":"delete","line":11,"subject":"job"}"#,
-            r#"{"actor":"cli","answer":"ok","call":"task","line":12,"subject":"job"}"#,
-            r#"{"event":"changed","row":{"birth":1,"cell":null,"disk":64,"failed":false,"instance":null,"memory":64,"name":"job","since":10,"state":"resolving","tag":null},"table":"task"}"#,
-            r#"{"event":"removed","row":{"birth":1,"cell":null,"disk":64,"failed":false,"instance":null,"memory":64,"name":"job","since":10,"state":"resolving","tag":null},"table":"task"}"#,
-            r#"{"event":"created","row":{"birth":6,"cell":null,"disk":64,"failed":null,"instance":null,"memory":64,"name":"job","since":10,"state":"pending","tag":null},"table":"task"}"#,
-        ],
-    )
+    let want = [
+        r#"{"actor":"cli","answer":"ok","call":"resolve","line":10,"subject":"job"}"#,
+        r#"{"actor":"cli","answer":"ok","call":"delete","line":11,"subject":"job"}"#,
+        r#"{"actor":"cli","answer":"ok","call":"task","line":12,"subject":"job"}"#,
+        r#"{"event":"changed","row":{"birth":1,"cell":null,"disk":64,"failed":false,"instance":null,"memory":64,"name":"job","since":10,"state":"resolving","tag":null},"table":"task"}"#,
+        r#"{"event":"removed","row":{"birth":1,"cell":null,"disk":64,"failed":false,"instance":null,"memory":64,"name":"job","since":10,"state":"resolving","tag":null},"table":"task"}"#,
+        r#"{"event":"created","row":{"birth":6,"cell":null,"disk":64,"failed":null,"instance":null,"memory":64,"name":"job","since":10,"state":"pending","tag":null},"table":"task"}"#,
+    ];
+    tells(&rt, rt.alloc(), &case, &want)
 }
 
 #[test]
@@ -148,15 +151,11 @@ fn a_line_without_a_command_tells_its_own_word_and_job(rt: HostRuntime) -> Resul
         report: None,
         events: &[],
     };
-    tells(
-        &rt,
-        rt.alloc(),
-        &case,
-        &[
-            r#"{"actor":"c1","answer":"refused","call":"claim","line":4,"subject":"web/0","why":"no memory left"}"#,
-            r#"{"actor":"c2","answer":"none","call":"up","line":5,"subject":"job"}"#,
-            r#"{"actor":"c1","answer":"none","call":"die","line":6,"subject":"c1"}"#,
-            r#"{"actor":"c1","answer":"refused","call":"evacuate","line":7,"subject":"c1","why":"down"}"#,
-        ],
-    )
+    let want = [
+        r#"{"actor":"c1","answer":"refused","call":"claim","line":4,"subject":"web/0","why":"no memory left"}"#,
+        r#"{"actor":"c2","answer":"none","call":"up","line":5,"subject":"job"}"#,
+        r#"{"actor":"c1","answer":"none","call":"die","line":6,"subject":"c1"}"#,
+        r#"{"actor":"c1","answer":"refused","call":"evacuate","line":7,"subject":"c1","why":"down"}"#,
+    ];
+    tells(&rt, rt.alloc(), &case, &want)
 }

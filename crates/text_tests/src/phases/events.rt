@@ -7,7 +7,7 @@ use cell_records::CellRow;
 use crash_backoff::Moment;
 use lrp_records::{Actual, LrpState, Presence};
 use phase_text::events_by_key;
-use scenario_lines::Act;
+use scenario_lines::{Act, Answered, Line};
 use std::alloc::Global;
 use std::process::Abort;
 use std::test::Fail;
@@ -36,8 +36,8 @@ fn evacuating(index: u32) -> Result<Actual, Fail> {
     })
 }
 
-#[test]
-fn an_evacuation_is_told_by_its_calls_and_then_by_its_rows(rt: HostRuntime) -> Result<(), Fail> {
+// An evacuation of one instance, and its answers.
+fn evacuated() -> Result<([Line; 1], [Answered; 2]), Fail> {
     let evacuate = line(10, 1, Act::Evacuate);
     let drain = Op::Drain {
         cell: name("c1")?,
@@ -47,11 +47,17 @@ fn an_evacuation_is_told_by_its_calls_and_then_by_its_rows(rt: HostRuntime) -> R
         key: web(0)?,
         instance: instance(0, 1),
     };
+    let runs = [called(&evacuate, drain, OK), called(&evacuate, leave, OK)];
+    Ok(([evacuate], runs))
+}
+
+#[test]
+fn an_evacuation_is_told_by_its_calls_and_then_by_its_rows(rt: HostRuntime) -> Result<(), Fail> {
+    let (lines, runs) = evacuated()?;
     let emptied = Event {
         change: Change::Changed,
         row: Row::Cell(cell("c1")?),
     };
-    let runs = [called(&evacuate, drain, OK), called(&evacuate, leave, OK)];
     let events = [
         emptied,
         actual_event(Change::Created, evacuating(0)?),
@@ -59,24 +65,20 @@ fn an_evacuation_is_told_by_its_calls_and_then_by_its_rows(rt: HostRuntime) -> R
     ];
     let case = Case {
         actors: &[(true, "c1"), (false, "cli")],
-        lines: &[evacuate],
+        lines: &lines,
         round: None,
         parts: &[&runs, &[]],
         report: None,
         events: &events,
     };
-    tells(
-        &rt,
-        rt.alloc(),
-        &case,
-        &[
-            r#"{"actor":"c1","answer":"ok","call":"drain","line":10,"subject":"c1"}"#,
-            r#"{"actor":"c1","answer":"ok","call":"evacuate","line":10,"subject":"web/0"}"#,
-            r#"{"event":"changed","row":{"cell":null,"count":0,"error":false,"index":0,"instance":null,"presence":"ordinary","process":"web","since":3,"state":"unclaimed"},"table":"actual"}"#,
-            r#"{"event":"created","row":{"cell":"c1","count":0,"error":false,"index":0,"instance":"0.1","presence":"evacuating","process":"web","since":2,"state":"running"},"table":"actual"}"#,
-            r#"{"event":"changed","row":{"cell":"c1","containers":10,"disk":4096,"epoch":0,"evacuating":true,"memory":1024,"tag":null,"until":600,"zone":"z1"},"table":"cell"}"#,
-        ],
-    )
+    let want = [
+        r#"{"actor":"c1","answer":"ok","call":"drain","line":10,"subject":"c1"}"#,
+        r#"{"actor":"c1","answer":"ok","call":"evacuate","line":10,"subject":"web/0"}"#,
+        r#"{"event":"changed","row":{"cell":null,"count":0,"error":false,"index":0,"instance":null,"presence":"ordinary","process":"web","since":3,"state":"unclaimed"},"table":"actual"}"#,
+        r#"{"event":"created","row":{"cell":"c1","count":0,"error":false,"index":0,"instance":"0.1","presence":"evacuating","process":"web","since":2,"state":"running"},"table":"actual"}"#,
+        r#"{"event":"changed","row":{"cell":"c1","containers":10,"disk":4096,"epoch":0,"evacuating":true,"memory":1024,"tag":null,"until":600,"zone":"z1"},"table":"cell"}"#,
+    ];
+    tells(&rt, rt.alloc(), &case, &want)
 }
 
 // The order in which these events must stand.
@@ -117,9 +119,10 @@ fn events_stand_by_table_key_and_presence(rt: HostRuntime) -> Result<(), Fail> {
         Row::Cell(cell("b")?),
     ];
     let change = Change::Changed;
-    let mixed = [8, 3, 5, 0, 7, 2, 6, 4, 1].map(|at: usize| Event {
-        change,
-        row: sorted[at],
-    });
+    let mixed = [
+        sorted[8], sorted[3], sorted[5], sorted[0], sorted[7], sorted[2], sorted[6], sorted[4],
+        sorted[1],
+    ]
+    .map(|row| Event { change, row });
     are_sorted_to(&rt, rt.alloc(), &mixed, &sorted)
 }

@@ -46,28 +46,23 @@ fn a_round_is_told_before_what_it_did(rt: HostRuntime) -> Result<(), Fail> {
         report: Some(complete(6)),
         events: &events,
     };
-    tells(
-        &rt,
-        rt.alloc(),
-        &case,
-        &[
-            r#"{"asked":2,"complete":true,"foreign":0,"line":8,"lost":0,"op":"round","own":6,"refused":0,"stopped":0,"unplaced":[]}"#,
-            r#"{"event":"created","row":{"cell":null,"count":0,"error":false,"index":0,"instance":null,"presence":"ordinary","process":"web","since":1,"state":"unclaimed"},"table":"actual"}"#,
-            r#"{"event":"changed","row":{"cell":"c1","count":0,"error":false,"index":0,"instance":"0.1","presence":"ordinary","process":"web","since":1,"state":"claimed"},"table":"actual"}"#,
-            r#"{"event":"created","row":{"cell":null,"count":0,"error":false,"index":1,"instance":null,"presence":"ordinary","process":"web","since":1,"state":"unclaimed"},"table":"actual"}"#,
-            r#"{"event":"changed","row":{"cell":"c2","count":0,"error":false,"index":1,"instance":"1.1","presence":"ordinary","process":"web","since":1,"state":"claimed"},"table":"actual"}"#,
-            r#"{"event":"created","row":{"cell":null,"count":0,"error":false,"index":2,"instance":null,"presence":"ordinary","process":"web","since":1,"state":"unclaimed"},"table":"actual"}"#,
-            r#"{"event":"changed","row":{"cell":"c1","count":0,"error":false,"index":2,"instance":"0.2","presence":"ordinary","process":"web","since":1,"state":"claimed"},"table":"actual"}"#,
-        ],
-    )
+    let want = [
+        r#"{"asked":2,"complete":true,"foreign":0,"line":8,"lost":0,"op":"round","own":6,"refused":0,"stopped":0,"unplaced":[]}"#,
+        r#"{"event":"created","row":{"cell":null,"count":0,"error":false,"index":0,"instance":null,"presence":"ordinary","process":"web","since":1,"state":"unclaimed"},"table":"actual"}"#,
+        r#"{"event":"changed","row":{"cell":"c1","count":0,"error":false,"index":0,"instance":"0.1","presence":"ordinary","process":"web","since":1,"state":"claimed"},"table":"actual"}"#,
+        r#"{"event":"created","row":{"cell":null,"count":0,"error":false,"index":1,"instance":null,"presence":"ordinary","process":"web","since":1,"state":"unclaimed"},"table":"actual"}"#,
+        r#"{"event":"changed","row":{"cell":"c2","count":0,"error":false,"index":1,"instance":"1.1","presence":"ordinary","process":"web","since":1,"state":"claimed"},"table":"actual"}"#,
+        r#"{"event":"created","row":{"cell":null,"count":0,"error":false,"index":2,"instance":null,"presence":"ordinary","process":"web","since":1,"state":"unclaimed"},"table":"actual"}"#,
+        r#"{"event":"changed","row":{"cell":"c1","count":0,"error":false,"index":2,"instance":"0.2","presence":"ordinary","process":"web","since":1,"state":"claimed"},"table":"actual"}"#,
+    ];
+    tells(&rt, rt.alloc(), &case, &want)
 }
 
 #[test]
 fn a_round_that_left_a_job_names_it(rt: HostRuntime) -> Result<(), Fail> {
-    let unplaced = [JobName::Lrp(web(0)?)];
     let report = Reported {
         asked: 1,
-        unplaced: &unplaced,
+        unplaced: Some(JobName::Lrp(web(0)?)),
         ..complete(1)
     };
     let row = Actual {
@@ -82,15 +77,11 @@ fn a_round_that_left_a_job_names_it(rt: HostRuntime) -> Result<(), Fail> {
         report: Some(report),
         events: &[actual_event(Change::Changed, row)],
     };
-    tells(
-        &rt,
-        rt.alloc(),
-        &case,
-        &[
-            r#"{"asked":1,"complete":false,"foreign":0,"line":12,"lost":0,"op":"round","own":1,"refused":0,"stopped":0,"unplaced":["web/0"]}"#,
-            r#"{"event":"changed","row":{"cell":null,"count":0,"error":true,"index":0,"instance":null,"presence":"ordinary","process":"web","since":3,"state":"unclaimed"},"table":"actual"}"#,
-        ],
-    )
+    let want = [
+        r#"{"asked":1,"complete":false,"foreign":0,"line":12,"lost":0,"op":"round","own":1,"refused":0,"stopped":0,"unplaced":["web/0"]}"#,
+        r#"{"event":"changed","row":{"cell":null,"count":0,"error":true,"index":0,"instance":null,"presence":"ordinary","process":"web","since":3,"state":"unclaimed"},"table":"actual"}"#,
+    ];
+    tells(&rt, rt.alloc(), &case, &want)
 }
 
 fn wanted(desired: Desired) -> Event {
@@ -104,7 +95,7 @@ fn wanted(desired: Desired) -> Event {
 fn around(
     rt: &impl Abort,
     alloc: Global,
-    report: Option<Reported<'_>>,
+    report: Option<Reported>,
     told: &str,
 ) -> Result<(), Fail> {
     let (pa, pb) = (desired("pa", 1)?, desired("pb", 1)?);
@@ -128,19 +119,15 @@ fn around(
         report,
         events: &[wanted(pb), wanted(pa)],
     };
-    tells(
-        rt,
-        alloc,
-        &case,
-        &[
-            r#"{"actor":"a","answer":"ok","call":"desire","line":2,"subject":"pa"}"#,
-            told,
-            r#"{"actor":"b","answer":"ok","call":"desire","line":4,"subject":"pb"}"#,
-            r#"{"actor":"a","answer":"refused","call":"desire","line":5,"subject":"pa","why":"exists"}"#,
-            r#"{"event":"created","row":{"disk":128,"domain":"apps","instances":1,"memory":64,"port":8080,"process":"pa","route":null,"tag":null},"table":"desired"}"#,
-            r#"{"event":"created","row":{"disk":128,"domain":"apps","instances":1,"memory":64,"port":8080,"process":"pb","route":null,"tag":null},"table":"desired"}"#,
-        ],
-    )
+    let want = [
+        r#"{"actor":"a","answer":"ok","call":"desire","line":2,"subject":"pa"}"#,
+        told,
+        r#"{"actor":"b","answer":"ok","call":"desire","line":4,"subject":"pb"}"#,
+        r#"{"actor":"a","answer":"refused","call":"desire","line":5,"subject":"pa","why":"exists"}"#,
+        r#"{"event":"created","row":{"disk":128,"domain":"apps","instances":1,"memory":64,"port":8080,"process":"pa","route":null,"tag":null},"table":"desired"}"#,
+        r#"{"event":"created","row":{"disk":128,"domain":"apps","instances":1,"memory":64,"port":8080,"process":"pb","route":null,"tag":null},"table":"desired"}"#,
+    ];
+    tells(rt, alloc, &case, &want)
 }
 
 #[test]

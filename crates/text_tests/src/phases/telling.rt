@@ -12,22 +12,22 @@ use std::alloc::Global;
 use std::process::Abort;
 use std::test::Fail;
 
-/// What a round reports that asked so many cells.
+/// What a round reports that asked so many cells, and left one job at most without a cell.
 #[derive(Clone, Copy)]
-pub struct Reported<'a> {
+pub struct Reported {
     pub asked: u32,
     pub own: u64,
     pub foreign: u64,
-    pub unplaced: &'a [JobName],
+    pub unplaced: Option<JobName>,
 }
 
 /// What a round reports that asked two cells, made so many transitions and left nothing open.
-pub const fn complete(own: u64) -> Reported<'static> {
+pub const fn complete(own: u64) -> Reported {
     Reported {
         asked: 2,
         own,
         foreign: 0,
-        unplaced: &[],
+        unplaced: None,
     }
 }
 
@@ -39,7 +39,7 @@ pub struct Case<'a> {
     pub lines: &'a [Line],
     pub round: Option<u32>,
     pub parts: &'a [&'a [Answered]],
-    pub report: Option<Reported<'a>>,
+    pub report: Option<Reported>,
     pub events: &'a [Event],
 }
 
@@ -47,6 +47,15 @@ fn listed<X: Copy>(alloc: Global, of: &[X]) -> Result<List<X>, OutOfMemory> {
     let mut items = List::new(alloc);
     for item in of {
         items.push(*item)?;
+    }
+    Ok(items)
+}
+
+fn listed_one<X: Copy>(alloc: Global, item: Option<X>) -> Result<List<X>, OutOfMemory> {
+    let mut items = List::new(alloc);
+    match item {
+        None => {}
+        Some(item) => items.push(item)?,
     }
     Ok(items)
 }
@@ -102,8 +111,8 @@ fn parts(alloc: Global, of: &[&[Answered]]) -> Result<List<List<Answered>>, OutO
     Ok(parts)
 }
 
-fn report(alloc: Global, line: u32, of: &Reported<'_>) -> Result<Report, OutOfMemory> {
-    let unplaced = listed(alloc, of.unplaced)?;
+fn report(alloc: Global, line: u32, of: &Reported) -> Result<Report, OutOfMemory> {
+    let unplaced = listed_one(alloc, of.unplaced)?;
     Ok(Report {
         line,
         start: 0,
@@ -120,8 +129,8 @@ fn report(alloc: Global, line: u32, of: &Reported<'_>) -> Result<Report, OutOfMe
 }
 
 fn report_of(alloc: Global, case: &Case<'_>) -> Result<Option<Report>, OutOfMemory> {
-    match (case.round, case.report) {
-        (Some(line), Some(of)) => match report(alloc, line, &of) {
+    match (case.round, &case.report) {
+        (Some(line), Some(of)) => match report(alloc, line, of) {
             Err(why) => Err(why),
             Ok(report) => Ok(Some(report)),
         },

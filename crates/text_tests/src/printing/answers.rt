@@ -150,9 +150,7 @@ fn a_lost_call_or_reply_tells_nothing_of_the_board(rt: HostRuntime) -> Result<()
 }
 
 #[test]
-fn a_line_without_a_call_tells_its_word_and_its_job_or_its_cell(
-    rt: HostRuntime,
-) -> Result<(), Fail> {
+fn a_line_without_a_call_tells_its_word_and_its_job_or_cell(rt: HostRuntime) -> Result<(), Fail> {
     let web = Some(JobName::Lrp(key("web", 0)?));
     let job = Some(JobName::Task(name("job")?));
     for (word, of, end, want) in [
