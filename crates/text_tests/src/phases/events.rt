@@ -81,6 +81,17 @@ fn an_evacuation_is_told_by_its_calls_and_then_by_its_rows(rt: HostRuntime) -> R
     tells(&rt, rt.alloc(), &case, &want)
 }
 
+// Events of these rows, in another order.
+fn mixed(alloc: Global, sorted: &[Row; 9]) -> Result<Vec<Event>, Fail> {
+    let mut mixed = Vec::new(alloc);
+    for at in [8, 3, 5, 0, 7, 2, 6, 4, 1] {
+        let change = Change::Changed;
+        let row = sorted[at];
+        mixed.push(Event { change, row })?;
+    }
+    Ok(mixed)
+}
+
 // The order in which these events must stand.
 fn are_sorted_to(
     rt: &impl Abort,
@@ -118,11 +129,6 @@ fn events_stand_by_table_key_and_presence(rt: HostRuntime) -> Result<(), Fail> {
         Row::Cell(cell("a")?),
         Row::Cell(cell("b")?),
     ];
-    let change = Change::Changed;
-    let mixed = [
-        sorted[8], sorted[3], sorted[5], sorted[0], sorted[7], sorted[2], sorted[6], sorted[4],
-        sorted[1],
-    ]
-    .map(|row| Event { change, row });
+    let mixed = mixed(rt.alloc(), &sorted)?;
     are_sorted_to(&rt, rt.alloc(), &mixed, &sorted)
 }
