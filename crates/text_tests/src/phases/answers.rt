@@ -23,13 +23,21 @@ fn job(birth: u64, since: u32, change: Change, state: TaskState) -> Result<Event
     Ok(Event { change, row })
 }
 
-fn new_job() -> Result<Op, Fail> {
-    Ok(Op::NewTask {
-        name: name("job")?,
+const fn new_job(name: Name) -> Op {
+    Op::NewTask {
+        name,
         memory: 64,
         disk: 64,
         tag: None,
-    })
+    }
+}
+
+const fn completed(name: Name, failed: bool) -> Op {
+    Op::CompleteTask {
+        name,
+        instance: instance(0, 1),
+        failed,
+    }
 }
 
 // A line that is run twice, and its answers.
@@ -38,11 +46,6 @@ fn finished_twice(name: Name, failed: bool) -> ([Line; 1], [Answered; 2]) {
         times: 2,
         ..line(8, 1, Act::Cell(CellAct::Finish { name, failed }))
     };
-    let complete = Op::CompleteTask {
-        name,
-        instance: instance(0, 1),
-        failed,
-    };
     let state = StateName::Completed;
     let refused = CallEnd::Got(Reply::Refused {
         why: BoardRefusal::Task(TaskRefusal::WrongState { state }),
@@ -50,21 +53,21 @@ fn finished_twice(name: Name, failed: bool) -> ([Line; 1], [Answered; 2]) {
     });
     let lost = CallEnd::ReplyLost(Ok(Reply::Ok { place: 3, stamp: 3 }));
     let runs = [
-        called(&finish, complete, lost),
-        called(&finish, complete, refused),
+        called(&finish, completed(name, failed), lost),
+        called(&finish, completed(name, failed), refused),
     ];
     ([finish], runs)
 }
 
 #[test]
 fn each_run_of_a_line_has_its_answer(rt: HostRuntime) -> Result<(), Fail> {
-    let failed = false;
+    let (failed, none) = (false, []);
     let (lines, runs) = finished_twice(name("job")?, failed);
     let case = Case {
         actors: &[(true, "c1"), (false, "cli")],
         lines: &lines,
         round: None,
-        parts: &[&runs, &[]],
+        parts: &[&runs, &none],
         report: None,
         events: &[job(1, 9, Change::Changed, TaskState::Completed { failed })?],
     };
@@ -77,36 +80,32 @@ fn each_run_of_a_line_has_its_answer(rt: HostRuntime) -> Result<(), Fail> {
 }
 
 // A task that is resolved, deleted and made anew, and the answers.
-fn made_anew(name: Name) -> Result<([Line; 3], [Answered; 3]), Fail> {
-    let (resolve, delete) = (Op::ResolveTask { name }, Op::DeleteTask { name });
-    let make = new_job()?;
-    let lines = [
-        line(10, 2, Act::Client(resolve)),
-        line(11, 2, Act::Client(delete)),
-        line(12, 2, Act::Client(make)),
-    ];
+fn made_anew(name: Name) -> ([Line; 3], [Answered; 3]) {
+    let resolve = line(10, 2, Act::Client(Op::ResolveTask { name }));
+    let delete = line(11, 2, Act::Client(Op::DeleteTask { name }));
+    let make = line(12, 2, Act::Client(new_job(name)));
     let runs = [
-        called(&lines[0], resolve, OK),
-        called(&lines[1], delete, OK),
-        called(&lines[2], make, OK),
+        called(&resolve, Op::ResolveTask { name }, OK),
+        called(&delete, Op::DeleteTask { name }, OK),
+        called(&make, new_job(name), OK),
     ];
-    Ok((lines, runs))
+    ([resolve, delete, make], runs)
 }
 
 #[test]
 fn events_of_one_row_stay_in_their_order(rt: HostRuntime) -> Result<(), Fail> {
-    let (lines, runs) = made_anew(name("job")?)?;
-    let resolving = TaskState::Resolving { failed: false };
+    let (failed, none) = (false, []);
+    let (lines, runs) = made_anew(name("job")?);
     let events = [
-        job(1, 10, Change::Changed, resolving)?,
-        job(1, 10, Change::Removed, resolving)?,
+        job(1, 10, Change::Changed, TaskState::Resolving { failed })?,
+        job(1, 10, Change::Removed, TaskState::Resolving { failed })?,
         job(6, 10, Change::Created, TaskState::Pending)?,
     ];
     let case = Case {
         actors: &[(true, "c1"), (false, "cli")],
         lines: &lines,
         round: None,
-        parts: &[&[], &runs],
+        parts: &[&none, &runs],
         report: None,
         events: &events,
     };

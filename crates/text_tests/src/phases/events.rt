@@ -53,6 +53,7 @@ fn evacuated() -> Result<([Line; 1], [Answered; 2]), Fail> {
 
 #[test]
 fn an_evacuation_is_told_by_its_calls_and_then_by_its_rows(rt: HostRuntime) -> Result<(), Fail> {
+    let none = [];
     let (lines, runs) = evacuated()?;
     let emptied = Event {
         change: Change::Changed,
@@ -67,7 +68,7 @@ fn an_evacuation_is_told_by_its_calls_and_then_by_its_rows(rt: HostRuntime) -> R
         actors: &[(true, "c1"), (false, "cli")],
         lines: &lines,
         round: None,
-        parts: &[&runs, &[]],
+        parts: &[&runs, &none],
         report: None,
         events: &events,
     };
