@@ -1,14 +1,16 @@
+//! What convergence asks by rows and by answers, and which containers it finds to be strays, as cases.
 ghost use Rattle.bbs_model.specs.Valid.{IsValid};
 
 mod answers;
 mod plans;
+mod steps;
 mod strays;
 mod table;
 
-use super::*;
 use bbs_laws::first_board_is_valid;
 use bbs_model::{Command, Op, Rows};
 use cell_records::Amounts;
+use convergence::work_of;
 use crash_backoff::Moment;
 use diego_names::{Instance, Key, List, Name, NameFault, OutOfMemory};
 use lrp_records::Desired;
@@ -138,23 +140,33 @@ fn start_task(name: Name, epoch: u64, cell: Name) -> Command {
     )
 }
 
-/// Whether convergence asks for these at a moment once those were done, and by plain scans too.
-fn asks(alloc: Global, done: &[Command], now: u32, asked: &[Op]) -> Result<bool, OutOfMemory> {
-    let now = Moment(now);
-    let mut rows = first_board(alloc);
-    match run_all(alloc, &mut rows, done) {
-        Err(why) => return Err(why),
-        Ok(_) => {}
+/// Whether these are the operations of commands at a moment.
+fn are_asked(commands: &[Command], now: Moment, asked: &[Op]) -> bool {
+    if commands.len() != asked.len() {
+        return false;
     }
-    let plain = plain_step::work_of(alloc, &rows, now)?;
-    let work = work_of(alloc, &rows, now)?;
-    if work.items() != plain.items() || work.len() != asked.len() {
-        return Ok(false);
-    }
-    for (command, op) in work.items().iter().zip(asked) {
+    for (command, op) in commands.iter().zip(asked) {
         if command.now != now || command.op != *op {
-            return Ok(false);
+            return false;
         }
     }
-    Ok(true)
+    true
+}
+
+/// Whether convergence asks for these by rows, and by plain scans of them too.
+fn asks_by(alloc: Global, rows: &Rows, now: Moment, asked: &[Op]) -> Result<bool, OutOfMemory>
+    requires { IsValid rows.now }
+{
+    let plain = plain_step::work_of(alloc, rows, now)?;
+    let work = work_of(alloc, rows, now)?;
+    Ok(work.items() == plain.items() && are_asked(work.items(), now, asked))
+}
+
+/// Whether convergence asks for these at a moment once those were done, and by plain scans too.
+fn asks(alloc: Global, done: &[Command], now: u32, asked: &[Op]) -> Result<bool, OutOfMemory> {
+    let mut rows = first_board(alloc);
+    match run_all(alloc, &mut rows, done) {
+        Err(why) => Err(why),
+        Ok(_) => asks_by(alloc, &rows, Moment(now), asked),
+    }
 }

@@ -1,10 +1,4 @@
-use super::*;
-use cell_records::{Amounts, Answer, Container, ContainerState, Job, JobName};
-use diego_names::{Instance, Key, List, Name};
-use std::alloc::Global;
-use std::process::Abort;
-use std::test::Fail;
-
+//! Auctions: worked ones, and many that look like chance, by the code and by its scan.
 mod checks;
 mod making;
 mod places;

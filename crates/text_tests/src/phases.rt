@@ -3,20 +3,17 @@ mod answers;
 mod events;
 mod fitting;
 mod rounds;
+mod telling;
 
-use crate::{answers_by_line, events_by_key, phase_text};
 use bbs_model::{Change, Command, Event, Op, Reply, Row};
 use cell_records::Amounts;
 use cell_rep::CallEnd;
-use convergence::Report;
 use crash_backoff::Moment;
-use diego_names::{Instance, Key, List, Name};
-use fitting::fits;
+use diego_names::{Instance, Key, Name};
 use lrp_records::{Actual, Desired, LrpState, Presence};
-use scenario_lines::{Act, Actor, Answered, Line, Phase, RoundLine, Script};
-use std::alloc::Global;
-use std::process::Abort;
+use scenario_lines::{Act, Answered, Line};
 use std::test::Fail;
+use telling::{Case, complete, tells};
 
 const OK: CallEnd = CallEnd::Got(Reply::Ok { place: 0, stamp: 0 });
 
@@ -93,96 +90,4 @@ const fn answer(line: &Line, command: Option<Command>, end: CallEnd) -> Answered
 const fn called(line: &Line, op: Op, end: CallEnd) -> Answered {
     let now = Moment(0);
     answer(line, Some(Command { now, op }), end)
-}
-
-/// A script of these actors, each a cell or a client.
-fn script(alloc: Global, of: &[(bool, &str)]) -> Result<Script, Fail> {
-    let mut actors = List::new(alloc);
-    for (cell, text) in of {
-        let name = name(text)?;
-        actors.push(Actor { cell: *cell, name })?;
-    }
-    let phases = List::new(alloc);
-    Ok(Script { actors, phases })
-}
-
-fn round(alloc: Global, line: u32) -> RoundLine {
-    RoundLine {
-        line,
-        lose_ask: List::new(alloc),
-        lose_stop: List::new(alloc),
-        lose_start: List::new(alloc),
-        lose_reply: List::new(alloc),
-    }
-}
-
-fn phase(alloc: Global, of: &[Line], round: Option<RoundLine>) -> Result<Phase, Fail> {
-    let mut lines = List::new(alloc);
-    for line in of {
-        lines.push(*line)?;
-    }
-    let at = Moment(0);
-    Ok(Phase { at, lines, round })
-}
-
-fn parts(alloc: Global, of: &[&[Answered]]) -> Result<List<List<Answered>>, Fail> {
-    let mut parts = List::new(alloc);
-    for answers in of {
-        let mut part = List::new(alloc);
-        for answered in *answers {
-            part.push(*answered)?;
-        }
-        parts.push(part)?;
-    }
-    Ok(parts)
-}
-
-/// A round that asked two cells, made so many transitions and left nothing open.
-fn report(alloc: Global, line: u32, own: u64) -> Report {
-    Report {
-        line,
-        start: 0,
-        end: 0,
-        asked: 2,
-        lost: 0,
-        refused: List::new(alloc),
-        unplaced: List::new(alloc),
-        foreign: 0,
-        own,
-        stopped: List::new(alloc),
-        stores: List::new(alloc),
-    }
-}
-
-/// That the phase is told by these lines, and no others.
-#[tactic(auto, using(crate::proofs::Fitting::fits_same))]
-fn tells(
-    rt: &impl Abort,
-    alloc: Global,
-    script: &Script,
-    phase: &Phase,
-    parts: &List<List<Answered>>,
-    report: &Option<Report>,
-    events: &[Event],
-    want: &[&str],
-) -> Result<(), Fail> {
-    let answers = answers_by_line(alloc, parts)?;
-    let events = events_by_key(alloc, events)?;
-    let is_fit = fits(script.actors.items(), phase.lines.items(), answers.items());
-    assert!(rt; is_fit, "answers of another phase");
-    let text = phase_text(
-        alloc,
-        script,
-        phase,
-        answers.items(),
-        report,
-        events.items(),
-    )?;
-    let mut wanted = Vec::new(alloc);
-    for line in want {
-        wanted.extend_from_slice(line.as_bytes())?;
-        wanted.push(b'\n')?;
-    }
-    assert_eq!(rt; text.as_slice(), wanted.as_slice());
-    Ok(())
 }

@@ -4,11 +4,11 @@ mod events;
 mod rounds;
 mod tables;
 
-use crate::{Check, Summary, check_text, summary_text};
 use cell_records::Amounts;
 use diego_names::{Instance, Key, Name};
 use disk_trait::Area;
 use lrp_records::Desired;
+use record_print::{Check, Summary, check_text, summary_text};
 use std::process::Abort;
 use std::test::Fail;
 

@@ -1,11 +1,15 @@
 //! Scenarios that are read, written out by hand.
-use crate::*;
-use diego_names::Name;
-use scenario_lines::{Actor, Loss};
-use std::test::Fail;
+ghost use Rattle.std.specs.Prelude.{◌≤◌, length};
 
 mod faults;
 mod limits;
+
+use diego_names::Name;
+use scenario_lines::{Actor, Loss};
+use scenario_reader::{Line, Phase, RoundLine, Script, ScriptFault, read_script};
+use std::alloc::Global;
+use std::process::Abort;
+use std::test::Fail;
 
 const DAY: &str = r#"
 {"at":3}
@@ -84,9 +88,8 @@ fn are_named(names: &[Name], texts: &[&str]) -> bool {
             .all(|(name, text)| name.as_str() == *text)
 }
 
-#[test]
-fn phases_actors_and_rounds_are_read(rt: HostRuntime) -> Result<(), Fail> {
-    let script = read_script(rt.alloc(), DAY.as_bytes())?;
+// What must be read of the day.
+fn is_the_day(rt: &impl Abort, script: &Script) -> Result<(), Fail> {
     assert!(rt; are_actors(script.actors.items()));
     match script.phases.items() {
         [first, second, third] => {
@@ -94,17 +97,34 @@ fn phases_actors_and_rounds_are_read(rt: HostRuntime) -> Result<(), Fail> {
             assert!(rt; is_empty_phase(second));
             assert!(rt; is_last_phase(third));
             assert!(rt; third.round.as_ref().is_some_and(is_its_round));
+            Ok(())
         }
-        _ => Err("there are three phases")?,
+        _ => Err(Fail::from("there are three phases")),
     }
-    Ok(())
+}
+
+#[test]
+fn phases_actors_and_rounds_are_read(rt: HostRuntime) -> Result<(), Fail> {
+    match read_script(rt.alloc(), DAY.as_bytes()) {
+        Err(fault) => Err(Fail::from(fault)),
+        Ok(script) => is_the_day(&rt, &script),
+    }
+}
+
+// How many actors and phases a text has.
+fn counts(alloc: Global, text: &[u8]) -> Result<(usize, usize), ScriptFault>
+    requires { length text.now ≤ 1000 }
+{
+    match read_script(alloc, text) {
+        Err(fault) => Err(fault),
+        Ok(script) => Ok((script.actors.len(), script.phases.len())),
+    }
 }
 
 #[test]
 fn a_text_without_lines_is_a_scenario_without_phases(rt: HostRuntime) -> Result<(), Fail> {
     for text in ["", "\n", " \t\r", "\n \r\n\t\n"] {
-        let script = read_script(rt.alloc(), text.as_bytes())?;
-        assert!(rt; script.phases.is_empty() && script.actors.is_empty());
+        assert_eq!(rt; counts(rt.alloc(), text.as_bytes())?, (0, 0));
     }
     Ok(())
 }
@@ -112,7 +132,6 @@ fn a_text_without_lines_is_a_scenario_without_phases(rt: HostRuntime) -> Result<
 #[test]
 fn the_last_line_may_lack_its_newline(rt: HostRuntime) -> Result<(), Fail> {
     let text = "{\"at\":0}\n{\"op\":\"round\"}";
-    let script = read_script(rt.alloc(), text.as_bytes())?;
-    assert_eq!(rt; script.phases.len(), 1);
+    assert_eq!(rt; counts(rt.alloc(), text.as_bytes())?, (0, 1));
     Ok(())
 }

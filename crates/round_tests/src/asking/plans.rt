@@ -1,17 +1,29 @@
 //! Each line of what is asked by answers, as a case.
-use super::answers::{answer, held, held_task, plans};
+use super::answers::{held, held_task, plans};
 use super::{
     Names, at, container, desire, first, join, make, new_task, read_names, start, start_task,
 };
 use bbs_model::{Command, Op};
 use cell_records::{Container, ContainerState};
-use diego_names::OutOfMemory;
+use diego_names::{Name, OutOfMemory};
 use std::alloc::Global;
 use std::test::Fail;
 
 const RUNNING: ContainerState = ContainerState::Running;
 
 const ENDED: ContainerState = ContainerState::Completed { failed: true };
+
+/// What is asked where a cell answers with this epoch and these.
+fn asked_of(
+    alloc: Global,
+    cell: Name,
+    epoch: u64,
+    done: &[Command],
+    holds: &[Container],
+    asked: &[Op],
+) -> Result<bool, OutOfMemory> {
+    plans(alloc, done, &[(cell, epoch, holds)], asked)
+}
 
 /// What is asked where cell a joined as the third command and holds these.
 fn asked_of_a(
@@ -21,8 +33,7 @@ fn asked_of_a(
     holds: &[Container],
     asked: &[Op],
 ) -> Result<bool, OutOfMemory> {
-    let told = answer(alloc, names.a, 2, holds)?;
-    plans(alloc, done, told, asked)
+    asked_of(alloc, names.a, 2, done, holds, asked)
 }
 
 #[test]
@@ -81,10 +92,8 @@ fn nothing_is_asked_of_a_row_whose_cell_gave_no_answer(rt: HostRuntime) -> Resul
         join(cell, 90),
         start(web, 2, cell),
     ];
-    let stale = answer(alloc, cell, 1, &[])?;
-    assert!(rt; plans(alloc, &running, stale, &[])?);
-    let other = answer(alloc, names.b, 2, &[])?;
-    assert!(rt; plans(alloc, &running, other, &[])?);
+    assert!(rt; asked_of(alloc, cell, 1, &running, &[], &[])?);
+    assert!(rt; asked_of(alloc, names.b, 2, &running, &[], &[])?);
     Ok(())
 }
 

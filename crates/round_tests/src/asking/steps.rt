@@ -1,7 +1,7 @@
 //! A counter of steps is made for a call, and is gone after it.
 ghost use Rattle.std.specs.Prelude.{◌≡◌, ◌+◌, ◌≤◌, ◌<◌, length};
 
-use super::Steps;
+use convergence::Steps;
 use std::marker::Brand;
 use std::mem::size_of;
 use std::sync::ledger::{Blank, Ledger};

@@ -1,5 +1,5 @@
 //! Which containers are strays.
-use super::answers::{answer, held, stray};
+use super::answers::{held, stray};
 use super::{container, desire, join, make, read_names, start};
 use cell_records::ContainerState;
 use diego_names::{Instance, Name};
@@ -16,11 +16,9 @@ fn a_container_that_no_row_names_is_a_stray(rt: HostRuntime) -> Result<(), Fail>
     let alloc = rt.alloc();
     let web = read_names()?.web;
     let (one, other) = (Name::read(b"c1")?, Name::read(b"c2")?);
-    let told = (
-        answer(alloc, one, 0, &[held(web, 0, 1, RESERVED)])?,
-        answer(alloc, other, 0, &[])?,
-    );
-    assert!(rt; stray(alloc, &[], told, &[(one, container(0))])?);
+    let reserved = [held(web, 0, 1, RESERVED)];
+    let told = [(one, 0, reserved.as_slice()), (other, 0, &[])];
+    assert!(rt; stray(alloc, &[], &told, &[(one, container(0))])?);
     Ok(())
 }
 
@@ -35,16 +33,12 @@ fn a_container_that_a_row_names_is_none_unless_it_ended(rt: HostRuntime) -> Resu
         join(cell, 90),
         start(web, 2, cell),
     ];
-    let runs = (
-        answer(alloc, cell, 2, &[held(web, 2, 1, RUNNING)])?,
-        answer(alloc, names.b, 3, &[])?,
-    );
-    assert!(rt; stray(alloc, &running, runs, &[])?);
-    let ended = (
-        answer(alloc, cell, 2, &[held(web, 2, 1, ENDED)])?,
-        answer(alloc, names.b, 3, &[])?,
-    );
-    assert!(rt; stray(alloc, &running, ended, &[(cell, container(2))])?);
+    let runs = [held(web, 2, 1, RUNNING)];
+    let told = [(cell, 2, runs.as_slice()), (names.b, 3, &[])];
+    assert!(rt; stray(alloc, &running, &told, &[])?);
+    let ended = [held(web, 2, 1, ENDED)];
+    let told = [(cell, 2, ended.as_slice()), (names.b, 3, &[])];
+    assert!(rt; stray(alloc, &running, &told, &[(cell, container(2))])?);
     Ok(())
 }
 
@@ -53,15 +47,9 @@ fn strays_stand_by_cell_and_number(rt: HostRuntime) -> Result<(), Fail> {
     let alloc = rt.alloc();
     let names = read_names()?;
     let web = names.web;
-    let told = (
-        answer(alloc, names.b, 4, &[held(web, 4, 1, RUNNING)])?,
-        answer(
-            alloc,
-            names.a,
-            5,
-            &[held(web, 5, 8, RUNNING), held(web, 5, 3, ENDED)],
-        )?,
-    );
+    let on_b = [held(web, 4, 1, RUNNING)];
+    let on_a = [held(web, 5, 8, RUNNING), held(web, 5, 3, ENDED)];
+    let told = [(names.b, 4, on_b.as_slice()), (names.a, 5, on_a.as_slice())];
     let (epoch, third, eighth) = (5, 3, 8);
     let found = [
         (
@@ -80,6 +68,6 @@ fn strays_stand_by_cell_and_number(rt: HostRuntime) -> Result<(), Fail> {
         ),
         (names.b, container(4)),
     ];
-    assert!(rt; stray(alloc, &[], told, &found)?);
+    assert!(rt; stray(alloc, &[], &told, &found)?);
     Ok(())
 }

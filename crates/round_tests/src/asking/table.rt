@@ -2,113 +2,160 @@
 use super::{
     asks, at, container, crash, desire, first, join, make, new_task, read_names, start, start_task,
 };
-use bbs_model::Op;
+use bbs_model::{Command, Op};
 use diego_names::Key;
+use std::alloc::Global;
+use std::process::Abort;
 use std::test::Fail;
 
-#[test]
-fn wanted_instances_are_made_and_others_removed(rt: HostRuntime) -> Result<(), Fail> {
-    let alloc = rt.alloc();
-    let process = read_names()?.web;
-    let key = first(process);
-    let makes = [0, 1, 2].map(|index| Op::Make {
-        key: Key { process, index },
-    });
-    assert!(rt; asks(alloc, &[desire(process, 3)], 1, &makes)?);
-    let made = [desire(process, 1), make(process)];
-    assert!(rt; asks(alloc, &made, 1, &[])?);
-    let unwanted = [made[0], made[1], at(0, Op::Undesire { process })];
-    let instance = None;
-    assert!(rt; asks(alloc, &unwanted, 1, &[Op::Remove { key, instance }])?);
+// What must be asked in each case, at its moment, once its commands were done.
+fn each_asks(
+    rt: &impl Abort,
+    alloc: Global,
+    cases: &[(&[Command], u32, &[Op])],
+) -> Result<(), Fail> {
+    for (done, now, asked) in cases {
+        assert!(rt;
+            asks(alloc, done, *now, asked)?,
+            "after {} commands, at {now}",
+            done.len()
+        );
+    }
     Ok(())
 }
 
 #[test]
-fn lost_rows_are_unclaimed_and_crashed_ones_restarted(rt: HostRuntime) -> Result<(), Fail> {
-    let alloc = rt.alloc();
+fn wanted_instances_are_made_and_others_removed(rt: HostRuntime) -> Result<(), Fail> {
+    let process = read_names()?.web;
+    let (key, instance) = (first(process), None);
+    let wanted = [desire(process, 3)];
+    let makes = [0, 1, 2].map(|index| Op::Make {
+        key: Key { process, index },
+    });
+    let made = [desire(process, 1), make(process)];
+    let unwanted = [
+        desire(process, 1),
+        make(process),
+        at(0, Op::Undesire { process }),
+    ];
+    let removes = [Op::Remove { key, instance }];
+    let cases = [
+        (wanted.as_slice(), 1, makes.as_slice()),
+        (made.as_slice(), 1, &[]),
+        (unwanted.as_slice(), 1, removes.as_slice()),
+    ];
+    each_asks(&rt, rt.alloc(), &cases)
+}
+
+#[test]
+fn rows_whose_cell_is_gone_are_unclaimed(rt: HostRuntime) -> Result<(), Fail> {
     let names = read_names()?;
     let (process, cell) = (names.web, names.a);
     let (key, instance) = (first(process), container(2));
-    let begun = [desire(process, 1), make(process), join(cell, 30)];
-    let run = start(process, 2, cell);
-    let running = [begun[0], begun[1], begun[2], run];
-    assert!(rt; asks(alloc, &running, 29, &[])?);
+    let running = [
+        desire(process, 1),
+        make(process),
+        join(cell, 30),
+        start(process, 2, cell),
+    ];
     let lost = [Op::Vanish { cell }, Op::Unclaim { key, instance }];
-    assert!(rt; asks(alloc, &running, 30, &lost)?);
-    let once = [begun[0], begun[1], join(cell, 90), run, crash(process, 2)];
-    let twice = [once[0], once[1], once[2], run, once[4], run, once[4]];
-    assert!(rt; asks(alloc, &twice, 1, &[])?);
-    let thrice = [
-        once[0], once[1], once[2], run, once[4], run, once[4], run, once[4],
+    let cases = [
+        (running.as_slice(), 30, lost.as_slice()),
+        (running.as_slice(), 29, &[]),
     ];
-    assert!(rt; asks(alloc, &thrice, 1, &[])?);
-    let often = [
-        once[0], once[1], once[2], run, once[4], run, once[4], run, once[4], run, once[4],
+    each_asks(&rt, rt.alloc(), &cases)
+}
+
+#[test]
+fn crashed_rows_are_restarted(rt: HostRuntime) -> Result<(), Fail> {
+    let names = read_names()?;
+    let (process, cell) = (names.web, names.a);
+    let (wish, row, stays) = (desire(process, 1), make(process), join(cell, 90));
+    let (run, fall) = (start(process, 2, cell), crash(process, 2));
+    let twice = [wish, row, stays, run, fall, run, fall];
+    let thrice = [wish, row, stays, run, fall, run, fall, run, fall];
+    let often = [wish, row, stays, run, fall, run, fall, run, fall, run, fall];
+    let key = first(process);
+    let restarts = [Op::Restart { key }];
+    let cases = [
+        (often.as_slice(), 30, restarts.as_slice()),
+        (often.as_slice(), 29, &[]),
+        (thrice.as_slice(), 1, &[]),
+        (twice.as_slice(), 1, &[]),
     ];
-    assert!(rt; asks(alloc, &often, 29, &[])?);
-    assert!(rt; asks(alloc, &often, 30, &[Op::Restart { key }])?);
-    Ok(())
+    each_asks(&rt, rt.alloc(), &cases)
 }
 
 #[test]
 fn evacuating_rows_stay_until_their_use_is_over(rt: HostRuntime) -> Result<(), Fail> {
-    let alloc = rt.alloc();
     let names = read_names()?;
     let process = names.web;
     let (key, instance) = (first(process), container(2));
-    let moved = [
-        desire(process, 1),
-        make(process),
-        join(names.a, 30),
-        join(names.b, 90),
-        start(process, 2, names.a),
-        at(0, Op::Evacuate { key, instance }),
-    ];
-    let dropped = Op::DropEvacuating { key, instance };
-    assert!(rt; asks(alloc, &moved, 29, &[])?);
-    let vanish = Op::Vanish { cell: names.a };
-    assert!(rt; asks(alloc, &moved, 30, &[vanish, dropped])?);
+    let (wish, row) = (desire(process, 1), make(process));
+    let (short, long) = (join(names.a, 30), join(names.b, 90));
+    let run = start(process, 2, names.a);
+    let leave = at(0, Op::Evacuate { key, instance });
     let replace = start(process, 3, names.b);
-    let replaced = [
-        moved[0], moved[1], moved[2], moved[3], moved[4], moved[5], replace,
-    ];
-    assert!(rt; asks(alloc, &replaced, 29, &[dropped])?);
     let forget = at(0, Op::Undesire { process });
-    let forgotten = [
-        moved[0], moved[1], moved[2], moved[3], moved[4], moved[5], forget,
+    let moved = [wish, row, short, long, run, leave];
+    let replaced = [wish, row, short, long, run, leave, replace];
+    let forgotten = [wish, row, short, long, run, leave, forget];
+    let dropping = Op::DropEvacuating { key, instance };
+    let lost = [Op::Vanish { cell: names.a }, dropping];
+    let instance = None;
+    let removed = [Op::Remove { key, instance }, dropping];
+    let dropped = [dropping];
+    let cases = [
+        (moved.as_slice(), 30, lost.as_slice()),
+        (moved.as_slice(), 29, &[]),
+        (replaced.as_slice(), 29, dropped.as_slice()),
+        (forgotten.as_slice(), 29, removed.as_slice()),
     ];
-    let removed = Op::Remove {
-        key,
-        instance: None,
-    };
-    assert!(rt; asks(alloc, &forgotten, 29, &[removed, dropped])?);
-    Ok(())
+    each_asks(&rt, rt.alloc(), &cases)
 }
 
 #[test]
-fn tasks_are_given_up_and_their_outcomes_told_again(rt: HostRuntime) -> Result<(), Fail> {
-    let alloc = rt.alloc();
+fn tasks_are_given_up(rt: HostRuntime) -> Result<(), Fail> {
     let names = read_names()?;
     let (name, cell) = (names.web, names.a);
-    let new = new_task(name);
-    assert!(rt; asks(alloc, &[new], 1799, &[])?);
-    assert!(rt; asks(alloc, &[new], 1800, &[Op::CancelTask { name }])?);
-    let begin = start_task(name, 1, cell);
-    let running = [new, join(cell, 30), begin];
-    assert!(rt; asks(alloc, &running, 29, &[])?);
+    let new = [new_task(name)];
+    let running = [new_task(name), join(cell, 30), start_task(name, 1, cell)];
+    let cancels = [Op::CancelTask { name }];
     let lost = [Op::Vanish { cell }, Op::CancelTask { name }];
-    assert!(rt; asks(alloc, &running, 30, &lost)?);
-    let end = Op::CompleteTask {
-        name,
-        instance: container(1),
-        failed: false,
-    };
-    let completed = [new, join(cell, 900), begin, at(0, end)];
-    assert!(rt; asks(alloc, &completed, 119, &[])?);
-    assert!(rt; asks(alloc, &completed, 120, &[Op::ExpireTask { name }])?);
+    let cases = [
+        (new.as_slice(), 1800, cancels.as_slice()),
+        (new.as_slice(), 1799, &[]),
+        (running.as_slice(), 30, lost.as_slice()),
+        (running.as_slice(), 29, &[]),
+    ];
+    each_asks(&rt, rt.alloc(), &cases)
+}
+
+#[test]
+fn outcomes_of_tasks_are_told_again(rt: HostRuntime) -> Result<(), Fail> {
+    let names = read_names()?;
+    let (name, cell) = (names.web, names.a);
+    let (instance, failed) = (container(1), false);
+    let (new, stays) = (new_task(name), join(cell, 900));
+    let begin = start_task(name, 1, cell);
+    let end = at(
+        0,
+        Op::CompleteTask {
+            name,
+            instance,
+            failed,
+        },
+    );
     let resolve = at(0, Op::ResolveTask { name });
-    let resolving = [completed[0], completed[1], begin, completed[3], resolve];
-    assert!(rt; asks(alloc, &resolving, 29, &[])?);
-    assert!(rt; asks(alloc, &resolving, 30, &[Op::KickTask { name }])?);
-    Ok(())
+    let completed = [new, stays, begin, end];
+    let resolving = [new, stays, begin, end, resolve];
+    let expires = [Op::ExpireTask { name }];
+    let kicks = [Op::KickTask { name }];
+    let cases = [
+        (completed.as_slice(), 120, expires.as_slice()),
+        (completed.as_slice(), 119, &[]),
+        (resolving.as_slice(), 30, kicks.as_slice()),
+        (resolving.as_slice(), 29, &[]),
+    ];
+    each_asks(&rt, rt.alloc(), &cases)
 }

@@ -1,5 +1,20 @@
-//! Jobs and cells for the tests.
-use super::*;
+//! Jobs and cells for the tests. A test holds cells as sites, which are copied; lists are made of them here.
+use auctioneer::Placement;
+use cell_records::{Amounts, Answer, Container, ContainerState, Job, JobName};
+use diego_names::{Instance, Key, List, Name, OutOfMemory};
+use std::alloc::Global;
+use std::test::Fail;
+
+/// A cell that answers, with one container at most.
+#[derive(Clone, Copy)]
+pub(super) struct Site {
+    pub cell: Name,
+    pub zone: Name,
+    pub tag: Option<Name>,
+    pub totals: Amounts,
+    pub free: Amounts,
+    pub holds: Option<Container>,
+}
 
 pub(super) const TOTALS: Amounts = Amounts {
     memory: 4096,
@@ -26,23 +41,56 @@ pub(super) fn task(name: &[u8], memory: u32, disk: u32) -> Result<Job, Fail> {
     })
 }
 
-pub(super) fn cell(
-    alloc: Global,
-    cell: &[u8],
-    zone: &[u8],
-    totals: Amounts,
-) -> Result<Answer, Fail> {
-    Ok(Answer {
+/// A cell without a tag and without containers.
+pub(super) fn cell(cell: &[u8], zone: &[u8], totals: Amounts) -> Result<Site, Fail> {
+    Ok(Site {
         cell: Name::read(cell)?,
         zone: Name::read(zone)?,
         tag: None,
-        epoch: 0,
-        evacuating: false,
         totals,
         free: totals,
-        last: 0,
-        containers: List::new(alloc),
+        holds: None,
     })
+}
+
+// An item in a list, if there is one.
+fn listed<X: Copy>(alloc: Global, item: Option<X>) -> Result<List<X>, OutOfMemory> {
+    let mut items = List::new(alloc);
+    match item {
+        None => {}
+        Some(item) => items.push(item)?,
+    }
+    Ok(items)
+}
+
+// What a cell answers.
+fn answer_of(alloc: Global, site: &Site) -> Result<Answer, OutOfMemory> {
+    let containers = listed(alloc, site.holds)?;
+    Ok(Answer {
+        cell: site.cell,
+        zone: site.zone,
+        tag: site.tag,
+        epoch: 0,
+        evacuating: false,
+        totals: site.totals,
+        free: site.free,
+        last: 0,
+        containers,
+    })
+}
+
+// Adds what a cell answers.
+fn add_answer(alloc: Global, answers: &mut List<Answer>, site: &Site) -> Result<(), OutOfMemory> {
+    answers.push(answer_of(alloc, site)?)
+}
+
+/// What the cells answer.
+pub(super) fn answers_of(alloc: Global, sites: &[Site]) -> Result<List<Answer>, OutOfMemory> {
+    let mut answers = List::new(alloc);
+    for site in sites {
+        add_answer(alloc, &mut answers, site)?;
+    }
+    Ok(answers)
 }
 
 pub(super) fn container(job: JobName, state: ContainerState) -> Container {

@@ -1,6 +1,12 @@
-use super::checks::auction_of;
-use super::making::*;
-use super::*;
+//! Auctions that look like chance, by the code and by the scan.
+use super::checks::placed_on;
+use super::making::{Site, cell, container};
+use auctioneer::Placement;
+use cell_records::{Amounts, ContainerState, Job, JobName};
+use diego_names::{Key, Name};
+use std::alloc::Global;
+use std::process::Abort;
+use std::test::Fail;
 
 // The next of a row of numbers that look like chance.
 fn next(seed: &mut u64) -> u32 {
@@ -54,43 +60,60 @@ fn state(seed: &mut u64) -> ContainerState {
     }
 }
 
+// Adds a cell, which may be full or of another size.
+fn add_site(sites: &mut Vec<Site>, seed: &mut u64, letter: u8) -> Result<(), Fail> {
+    let totals = Amounts {
+        memory: 4 + next(seed) % 6,
+        disk: 8,
+        containers: 1 + next(seed) % 4,
+    };
+    let mut made = cell(&[letter], b"z", totals)?;
+    made.zone = pick(seed, &[b"z1", b"z2", b"z3", b"z2"])?;
+    made.tag = tag(seed)?;
+    if next(seed) % 4 == 0 {
+        made.free.containers = 0;
+    }
+    let process = pick(seed, &[b"p", b"q", b"r", b"s"])?;
+    let job = JobName::Lrp(Key { process, index: 99 });
+    made.holds = Some(container(job, state(seed)));
+    Ok(sites.push(made)?)
+}
+
 // A few cells, some of them full or of another size.
-fn cells(alloc: Global, seed: &mut u64) -> Result<Vec<Answer>, Fail> {
-    let mut cells = Vec::new(alloc);
+fn sites(alloc: Global, seed: &mut u64) -> Result<Vec<Site>, Fail> {
+    let mut sites = Vec::new(alloc);
     for at in 0..9u32 {
         let letter = LETTERS[(15 - at % 9) as usize];
-        let totals = Amounts {
-            memory: 4 + next(seed) % 6,
-            disk: 8,
-            containers: 1 + next(seed) % 4,
-        };
-        let mut made = cell(alloc, &[letter], b"z", totals)?;
-        made.zone = pick(seed, &[b"z1", b"z2", b"z3", b"z2"])?;
-        made.tag = tag(seed)?;
-        if next(seed) % 4 == 0 {
-            made.free.containers = 0;
-        }
-        let process = pick(seed, &[b"p", b"q", b"r", b"s"])?;
-        let job = JobName::Lrp(Key { process, index: 99 });
-        made.containers.push(container(job, state(seed)))?;
-        cells.push(made)?;
+        add_site(&mut sites, seed, letter)?;
     }
-    Ok(cells)
+    Ok(sites)
+}
+
+// How many of the jobs have a place.
+fn places(rt: &impl Abort, alloc: Global, jobs: &[Job], sites: &[Site]) -> Result<u64, Fail> {
+    let placed = placed_on(rt, alloc, jobs, sites)?;
+    let mut places = 0u64;
+    for placement in placed.items() {
+        if let Placement::On { .. } = placement {
+            places = places.wrapping_add(1);
+        }
+    }
+    Ok(places)
+}
+
+// The same in the next auction of those that look like chance.
+fn next_places(rt: &impl Abort, alloc: Global, seed: &mut u64) -> Result<u64, Fail> {
+    let jobs = jobs(alloc, seed)?;
+    let sites = sites(alloc, seed)?;
+    places(rt, alloc, &jobs, &sites)
 }
 
 #[test]
 fn the_auction_agrees_with_the_scan(rt: HostRuntime) -> Result<(), Fail> {
-    let alloc = rt.alloc();
     let mut seed = 7;
     let mut placed = 0u64;
     for _ in 0..300u32 {
-        let jobs = jobs(alloc, &mut seed)?;
-        let cells = cells(alloc, &mut seed)?;
-        for placement in auction_of(&rt, alloc, &jobs, &cells)?.items() {
-            if let Placement::On { .. } = placement {
-                placed = placed.wrapping_add(1);
-            }
-        }
+        placed = placed.wrapping_add(next_places(&rt, rt.alloc(), &mut seed)?);
     }
     assert!(rt; placed > 1500 && placed < 4800);
     Ok(())

@@ -1,14 +1,15 @@
 //! The order of events: by table, by key, and the ORDINARY row before the EVACUATING one.
 use super::{
-    OK, TOTALS, actual_event, called, desired, instance, line, name, parts, phase, script, tells,
-    unclaimed, web,
+    Case, OK, TOTALS, actual_event, called, desired, instance, line, name, tells, unclaimed, web,
 };
-use crate::events_by_key;
 use bbs_model::{Change, Event, Op, Row};
 use cell_records::CellRow;
 use crash_backoff::Moment;
 use lrp_records::{Actual, LrpState, Presence};
-use scenario_lines::Act;
+use phase_text::events_by_key;
+use scenario_lines::{Act, Answered, Line};
+use std::alloc::Global;
+use std::process::Abort;
 use std::test::Fail;
 use task_records::{Task, TaskState};
 
@@ -35,9 +36,8 @@ fn evacuating(index: u32) -> Result<Actual, Fail> {
     })
 }
 
-#[test]
-fn an_evacuation_is_told_by_its_calls_and_then_by_its_rows(rt: HostRuntime) -> Result<(), Fail> {
-    let alloc = rt.alloc();
+// An evacuation of one instance, and its answers.
+fn evacuated() -> Result<([Line; 1], [Answered; 2]), Fail> {
     let evacuate = line(10, 1, Act::Evacuate);
     let drain = Op::Drain {
         cell: name("c1")?,
@@ -47,31 +47,65 @@ fn an_evacuation_is_told_by_its_calls_and_then_by_its_rows(rt: HostRuntime) -> R
         key: web(0)?,
         instance: instance(0, 1),
     };
+    let runs = [called(&evacuate, drain, OK), called(&evacuate, leave, OK)];
+    Ok(([evacuate], runs))
+}
+
+#[test]
+fn an_evacuation_is_told_by_its_calls_and_then_by_its_rows(rt: HostRuntime) -> Result<(), Fail> {
+    let none = [];
+    let (lines, runs) = evacuated()?;
     let emptied = Event {
         change: Change::Changed,
         row: Row::Cell(cell("c1")?),
     };
-    let runs = [called(&evacuate, drain, OK), called(&evacuate, leave, OK)];
-    tells(
-        &rt,
-        alloc,
-        &script(alloc, &[(true, "c1"), (false, "cli")])?,
-        &phase(alloc, &[evacuate], None)?,
-        &parts(alloc, &[&runs, &[]])?,
-        &None,
-        &[
-            emptied,
-            actual_event(Change::Created, evacuating(0)?),
-            actual_event(Change::Changed, unclaimed(0, 3)?),
-        ],
-        &[
-            r#"{"actor":"c1","answer":"ok","call":"drain","line":10,"subject":"c1"}"#,
-            r#"{"actor":"c1","answer":"ok","call":"evacuate","line":10,"subject":"web/0"}"#,
-            r#"{"event":"changed","row":{"cell":null,"count":0,"error":false,"index":0,"instance":null,"presence":"ordinary","process":"web","since":3,"state":"unclaimed"},"table":"actual"}"#,
-            r#"{"event":"created","row":{"cell":"c1","count":0,"error":false,"index":0,"instance":"0.1","presence":"evacuating","process":"web","since":2,"state":"running"},"table":"actual"}"#,
-            r#"{"event":"changed","row":{"cell":"c1","containers":10,"disk":4096,"epoch":0,"evacuating":true,"memory":1024,"tag":null,"until":600,"zone":"z1"},"table":"cell"}"#,
-        ],
-    )
+    let events = [
+        emptied,
+        actual_event(Change::Created, evacuating(0)?),
+        actual_event(Change::Changed, unclaimed(0, 3)?),
+    ];
+    let case = Case {
+        actors: &[(true, "c1"), (false, "cli")],
+        lines: &lines,
+        round: None,
+        parts: &[&runs, &none],
+        report: None,
+        events: &events,
+    };
+    let want = [
+        r#"{"actor":"c1","answer":"ok","call":"drain","line":10,"subject":"c1"}"#,
+        r#"{"actor":"c1","answer":"ok","call":"evacuate","line":10,"subject":"web/0"}"#,
+        r#"{"event":"changed","row":{"cell":null,"count":0,"error":false,"index":0,"instance":null,"presence":"ordinary","process":"web","since":3,"state":"unclaimed"},"table":"actual"}"#,
+        r#"{"event":"created","row":{"cell":"c1","count":0,"error":false,"index":0,"instance":"0.1","presence":"evacuating","process":"web","since":2,"state":"running"},"table":"actual"}"#,
+        r#"{"event":"changed","row":{"cell":"c1","containers":10,"disk":4096,"epoch":0,"evacuating":true,"memory":1024,"tag":null,"until":600,"zone":"z1"},"table":"cell"}"#,
+    ];
+    tells(&rt, rt.alloc(), &case, &want)
+}
+
+// Events of these rows, in another order.
+fn mixed(alloc: Global, sorted: &[Row; 9]) -> Result<Vec<Event>, Fail> {
+    let mut mixed = Vec::new(alloc);
+    for at in [8, 3, 5, 0, 7, 2, 6, 4, 1] {
+        let change = Change::Changed;
+        let row = sorted[at];
+        mixed.push(Event { change, row })?;
+    }
+    Ok(mixed)
+}
+
+// The order in which these events must stand.
+fn are_sorted_to(
+    rt: &impl Abort,
+    alloc: Global,
+    events: &[Event],
+    rows: &[Row],
+) -> Result<(), Fail> {
+    let events = events_by_key(alloc, events)?;
+    assert_eq!(rt; events.len(), rows.len());
+    for (event, row) in events.items().iter().zip(rows) {
+        assert!(rt; event.row == *row, "a row out of its place");
+    }
+    Ok(())
 }
 
 #[test]
@@ -96,16 +130,6 @@ fn events_stand_by_table_key_and_presence(rt: HostRuntime) -> Result<(), Fail> {
         Row::Cell(cell("a")?),
         Row::Cell(cell("b")?),
     ];
-    let mut mixed = Vec::new(rt.alloc());
-    for at in [8, 3, 5, 0, 7, 2, 6, 4, 1] {
-        let change = Change::Changed;
-        let row = sorted[at];
-        mixed.push(Event { change, row })?;
-    }
-    let events = events_by_key(rt.alloc(), mixed.as_slice())?;
-    assert_eq!(rt; events.len(), sorted.len());
-    for (event, row) in events.items().iter().zip(sorted.iter()) {
-        assert!(rt; event.row == *row, "a row out of its place");
-    }
-    Ok(())
+    let mixed = mixed(rt.alloc(), &sorted)?;
+    are_sorted_to(&rt, rt.alloc(), &mixed, &sorted)
 }

@@ -1,12 +1,12 @@
 //! Answers: each way in which a call ends, and lines that made none.
 use super::{desired, instance, key, name, reads};
-use crate::{ActWord, Asked, answer_text};
 use bbs_model::{BoardRefusal, CallFault, Op, Reply};
 use cell_records::JobName;
 use cell_rep::{CallEnd, RepRefusal};
 use container_store::StoreRefusal;
 use diego_names::{Instance, StateName};
 use lrp_records::LrpRefusal;
+use record_print::{ActWord, Asked, answer_text};
 use std::alloc::Global;
 use std::process::Abort;
 use std::test::Fail;
@@ -150,9 +150,7 @@ fn a_lost_call_or_reply_tells_nothing_of_the_board(rt: HostRuntime) -> Result<()
 }
 
 #[test]
-fn a_line_without_a_call_tells_its_word_and_its_job_or_its_cell(
-    rt: HostRuntime,
-) -> Result<(), Fail> {
+fn a_line_without_a_call_tells_its_word_and_its_job_or_cell(rt: HostRuntime) -> Result<(), Fail> {
     let web = Some(JobName::Lrp(key("web", 0)?));
     let job = Some(JobName::Task(name("job")?));
     for (word, of, end, want) in [

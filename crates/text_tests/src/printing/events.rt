@@ -1,9 +1,10 @@
+//! Events and rows of all four tables.
 use super::{TOTALS, desired, instance, key, name, reads};
-use crate::{event_text, row_text};
 use bbs_model::{Change, Event, Row};
 use cell_records::CellRow;
 use crash_backoff::Moment;
 use lrp_records::{Actual, Desired, LrpState, Presence};
+use record_print::{event_text, row_text};
 use std::alloc::Global;
 use std::process::Abort;
 use std::test::Fail;

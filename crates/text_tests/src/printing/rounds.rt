@@ -1,9 +1,9 @@
 //! Reports of rounds.
 use super::{instance, key, name, reads};
-use crate::{failed_round_text, report_text};
 use cell_records::JobName;
 use convergence::Report;
 use diego_names::{Instance, List, Name};
+use record_print::{failed_round_text, report_text};
 use std::alloc::Global;
 use std::process::Abort;
 use std::test::Fail;
@@ -93,6 +93,22 @@ fn jobs_without_a_cell_stand_in_the_order_of_the_auction(rt: HostRuntime) -> Res
     report_reads(&rt, rt.alloc(), &report, want)
 }
 
+// A round that lost so much, and beside which others did so much.
+fn beside_reads(
+    rt: &impl Abort,
+    alloc: Global,
+    lost: u64,
+    foreign: u64,
+    want: &str,
+) -> Result<(), Fail> {
+    let report = Report {
+        lost,
+        foreign,
+        ..report(alloc, 8, 0)
+    };
+    report_reads(rt, alloc, &report, want)
+}
+
 #[test]
 fn a_round_is_not_complete_beside_others_or_with_a_loss(rt: HostRuntime) -> Result<(), Fail> {
     for (lost, foreign, want) in [
@@ -107,12 +123,7 @@ fn a_round_is_not_complete_beside_others_or_with_a_loss(rt: HostRuntime) -> Resu
             r#"{"asked":2,"complete":false,"foreign":2,"line":8,"lost":0,"op":"round","own":0,"refused":0,"stopped":0,"unplaced":[]}"#,
         ),
     ] {
-        let report = Report {
-            lost,
-            foreign,
-            ..report(rt.alloc(), 8, 0)
-        };
-        report_reads(&rt, rt.alloc(), &report, want)?;
+        beside_reads(&rt, rt.alloc(), lost, foreign, want)?;
     }
     Ok(())
 }

@@ -1,11 +1,11 @@
 //! The words of all commands and the causes of all refusals, as docs/scenario.md lists them.
 use super::{TOTALS, desired, instance, key, name};
-use crate::{ActWord, act_word, call_word, rep_why_text, subject_text, why_text};
 use bbs_model::{BoardRefusal, Op};
 use cell_rep::RepRefusal;
 use container_store::StoreRefusal;
 use diego_names::StateName;
 use lrp_records::LrpRefusal;
+use record_print::{ActWord, act_word, call_word, rep_why_text, subject_text, why_text};
 use std::alloc::Global;
 use std::process::Abort;
 use std::test::Fail;
@@ -123,6 +123,12 @@ fn cells(rt: &impl Abort, alloc: Global) -> Result<(), Fail> {
     Ok(())
 }
 
+fn is_told(rt: &impl Abort, alloc: Global, why: &BoardRefusal, want: &str) -> Result<(), Fail> {
+    let text = why_text(alloc, why)?;
+    assert_eq!(rt; text.as_str(), want);
+    Ok(())
+}
+
 fn of_the_board(rt: &impl Abort, alloc: Global) -> Result<(), Fail> {
     let last = 18_446_744_073_709_551_615;
     for (why, want) in [
@@ -139,7 +145,7 @@ fn of_the_board(rt: &impl Abort, alloc: Global) -> Result<(), Fail> {
             "lease holds 18446744073709551615",
         ),
     ] {
-        assert_eq!(rt; why_text(alloc, &why)?.as_str(), want);
+        is_told(rt, alloc, &why, want)?;
     }
     Ok(())
 }
@@ -157,15 +163,13 @@ fn of_moves(rt: &impl Abort, alloc: Global) -> Result<(), Fail> {
         ),
         (LrpRefusal::GivenUp, "given up"),
     ] {
-        let text = why_text(alloc, &BoardRefusal::Lrp(why))?;
-        assert_eq!(rt; text.as_str(), want);
+        is_told(rt, alloc, &BoardRefusal::Lrp(why), want)?;
     }
     for (why, want) in [
         (TaskRefusal::WrongInstance { have }, "wrong instance 7.2"),
         (TaskRefusal::NotDue { at: 130 }, "not due 130"),
     ] {
-        let text = why_text(alloc, &BoardRefusal::Task(why))?;
-        assert_eq!(rt; text.as_str(), want);
+        is_told(rt, alloc, &BoardRefusal::Task(why), want)?;
     }
     Ok(())
 }
@@ -180,13 +184,10 @@ fn of_states(rt: &impl Abort, alloc: Global) -> Result<(), Fail> {
         (StateName::Completed, "wrong state completed"),
         (StateName::Resolving, "wrong state resolving"),
     ] {
-        let of_row = why_text(alloc, &BoardRefusal::Lrp(LrpRefusal::WrongState { state }))?;
-        assert_eq!(rt; of_row.as_str(), want);
-        let of_task = why_text(
-            alloc,
-            &BoardRefusal::Task(TaskRefusal::WrongState { state }),
-        )?;
-        assert_eq!(rt; of_task.as_str(), want);
+        let of_row = BoardRefusal::Lrp(LrpRefusal::WrongState { state });
+        is_told(rt, alloc, &of_row, want)?;
+        let of_task = BoardRefusal::Task(TaskRefusal::WrongState { state });
+        is_told(rt, alloc, &of_task, want)?;
     }
     Ok(())
 }

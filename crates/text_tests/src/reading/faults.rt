@@ -1,7 +1,7 @@
 //! The faults, and which of several counts.
 ghost use Rattle.std.specs.Prelude.{◌≤◌, length};
 
-use crate::*;
+use scenario_reader::{ScriptFault, read_script};
 use std::test::Fail;
 
 fn fault_of(rt: &HostRuntime, text: &[u8]) -> Option<ScriptFault>

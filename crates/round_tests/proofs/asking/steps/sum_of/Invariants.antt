@@ -1,5 +1,5 @@
 use Rattle.std.specs.Prelude.{◌≡◌, ◌+◌}
-use Rattle.convergence.proofs.steps.tests.sum_of.Given as goal
+use Rattle.round_tests.proofs.asking.steps.sum_of.Given as goal
 
 abbrev pub invariant-loop-item : goal.invariant-loop-item
 invariant-loop-item g l = l.steps ≡ l.fn.steps + l.item-index
