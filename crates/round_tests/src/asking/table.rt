@@ -3,7 +3,7 @@ use super::{
     asks, at, container, crash, desire, first, join, make, new_task, read_names, start, start_task,
 };
 use bbs_model::{Command, Op};
-use diego_names::Key;
+use diego_names::{Key, Name};
 use std::alloc::Global;
 use std::process::Abort;
 use std::test::Fail;
@@ -70,11 +70,23 @@ fn rows_whose_cell_is_gone_are_unclaimed(rt: HostRuntime) -> Result<(), Fail> {
 fn crashed_rows_are_restarted(rt: HostRuntime) -> Result<(), Fail> {
     let names = read_names()?;
     let (process, cell) = (names.web, names.a);
-    let (wish, row, stays) = (desire(process, 1), make(process), join(cell, 90));
-    let (run, fall) = (start(process, 2, cell), crash(process, 2));
-    let twice = [wish, row, stays, run, fall, run, fall];
-    let thrice = [wish, row, stays, run, fall, run, fall, run, fall];
-    let often = [wish, row, stays, run, fall, run, fall, run, fall, run, fall];
+    let once = [
+        desire(process, 1),
+        make(process),
+        join(cell, 90),
+        start(process, 2, cell),
+        crash(process, 2),
+    ];
+    let twice = [
+        once[0], once[1], once[2], once[3], once[4], once[3], once[4],
+    ];
+    let thrice = [
+        once[0], once[1], once[2], once[3], once[4], once[3], once[4], once[3], once[4],
+    ];
+    let often = [
+        once[0], once[1], once[2], once[3], once[4], once[3], once[4], once[3], once[4], once[3],
+        once[4],
+    ];
     let key = first(process);
     let restarts = [Op::Restart { key }];
     let cases = [
@@ -86,25 +98,47 @@ fn crashed_rows_are_restarted(rt: HostRuntime) -> Result<(), Fail> {
     each_asks(&rt, rt.alloc(), &cases)
 }
 
+// The old row of the first instance is dropped.
+fn drop_old(process: Name) -> Op {
+    let (key, instance) = (first(process), container(2));
+    Op::DropEvacuating { key, instance }
+}
+
 #[test]
 fn evacuating_rows_stay_until_their_use_is_over(rt: HostRuntime) -> Result<(), Fail> {
     let names = read_names()?;
-    let process = names.web;
+    let (process, a, b) = (names.web, names.a, names.b);
     let (key, instance) = (first(process), container(2));
-    let (wish, row) = (desire(process, 1), make(process));
-    let (short, long) = (join(names.a, 30), join(names.b, 90));
-    let run = start(process, 2, names.a);
-    let leave = at(0, Op::Evacuate { key, instance });
-    let replace = start(process, 3, names.b);
-    let forget = at(0, Op::Undesire { process });
-    let moved = [wish, row, short, long, run, leave];
-    let replaced = [wish, row, short, long, run, leave, replace];
-    let forgotten = [wish, row, short, long, run, leave, forget];
-    let dropping = Op::DropEvacuating { key, instance };
-    let lost = [Op::Vanish { cell: names.a }, dropping];
-    let instance = None;
-    let removed = [Op::Remove { key, instance }, dropping];
-    let dropped = [dropping];
+    let moved = [
+        desire(process, 1),
+        make(process),
+        join(a, 30),
+        join(b, 90),
+        start(process, 2, a),
+        at(0, Op::Evacuate { key, instance }),
+    ];
+    let replaced = [
+        moved[0],
+        moved[1],
+        moved[2],
+        moved[3],
+        moved[4],
+        moved[5],
+        start(process, 3, b),
+    ];
+    let forgotten = [
+        moved[0],
+        moved[1],
+        moved[2],
+        moved[3],
+        moved[4],
+        moved[5],
+        at(0, Op::Undesire { process }),
+    ];
+    let dropped = [drop_old(process)];
+    let lost = [Op::Vanish { cell: a }, dropped[0]];
+    let (key, instance) = (first(process), None);
+    let removed = [Op::Remove { key, instance }, dropped[0]];
     let cases = [
         (moved.as_slice(), 30, lost.as_slice()),
         (moved.as_slice(), 29, &[]),
@@ -136,8 +170,6 @@ fn outcomes_of_tasks_are_told_again(rt: HostRuntime) -> Result<(), Fail> {
     let names = read_names()?;
     let (name, cell) = (names.web, names.a);
     let (instance, failed) = (container(1), false);
-    let (new, stays) = (new_task(name), join(cell, 900));
-    let begin = start_task(name, 1, cell);
     let end = at(
         0,
         Op::CompleteTask {
@@ -146,9 +178,19 @@ fn outcomes_of_tasks_are_told_again(rt: HostRuntime) -> Result<(), Fail> {
             failed,
         },
     );
-    let resolve = at(0, Op::ResolveTask { name });
-    let completed = [new, stays, begin, end];
-    let resolving = [new, stays, begin, end, resolve];
+    let completed = [
+        new_task(name),
+        join(cell, 900),
+        start_task(name, 1, cell),
+        end,
+    ];
+    let resolving = [
+        completed[0],
+        completed[1],
+        completed[2],
+        completed[3],
+        at(0, Op::ResolveTask { name }),
+    ];
     let expires = [Op::ExpireTask { name }];
     let kicks = [Op::KickTask { name }];
     let cases = [
