@@ -1,6 +1,6 @@
 //! What the tests begin with: disks in memory, boards, rows and commands. What owns a board is written over any
 //! disk, and has no assertion behind it.
-use bbs_board::{Board, Closed, KeptIn, LoadFault, load, prepare};
+use bbs_board::{Board, Closed, KeptIn, load, prepare};
 use bbs_model::{Command, Op, Rows};
 use crash_backoff::Moment;
 use diego_names::Name;
@@ -25,10 +25,7 @@ pub fn copy_of(alloc: Global, disk: &MemoryDisk) -> Result<MemoryDisk, Fail> {
 pub fn loaded<D: Disk + Drop>(alloc: Global, disk: D) -> Result<Board<D>, Fail> {
     match load(alloc, disk) {
         Ok(board) => Ok(board),
-        Err((_, fault)) => {
-            let failed: Result<Board<D>, LoadFault> = Err(fault);
-            Ok(failed?)
-        }
+        Err((_, fault)) => Err(Fail::from(fault)),
     }
 }
 
@@ -63,7 +60,7 @@ pub struct Opened {
     pub rows: Rows,
 }
 
-fn opened<D: Disk>(alloc: Global, board: &Board<D>) -> Result<Opened, Fail> {
+fn looked_at<D: Disk>(alloc: Global, board: &Board<D>) -> Result<Opened, Fail> {
     let rows = board.rows(alloc)?;
     Ok(Opened {
         kept: board.kept_in(),
@@ -74,7 +71,7 @@ fn opened<D: Disk>(alloc: Global, board: &Board<D>) -> Result<Opened, Fail> {
 /// What the next load finds on a disk.
 pub fn found<D: Disk + Drop>(alloc: Global, disk: D) -> Result<Opened, Fail> {
     let board = loaded(alloc, disk)?;
-    opened(alloc, &board)
+    looked_at(alloc, &board)
 }
 
 /// The same of these areas.

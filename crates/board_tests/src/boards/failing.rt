@@ -46,21 +46,19 @@ fn failed() -> Result<Step, Fail> {
 #[test]
 fn a_call_whose_disk_fails_is_a_doubt_and_the_rows_stay(rt: HostRuntime) -> Result<(), Fail> {
     let alloc = rt.alloc();
-    let failed = failed()?;
+    let command = desire()?;
+    let items = [Item::Doubt(1, command), Item::Done(2, command)];
     // The same desire is legal still, and is the first transition.
     let again = Step {
         by: 2,
+        command,
         end: done(1, 0),
-        ..failed
     };
-    let items = [
-        Item::Doubt(1, failed.command),
-        Item::Done(2, failed.command),
-    ];
+    let steps = [failed()?, again];
     // The append takes four calls, and two more close its gate where one of the last two fails.
     for (call, mark, later) in [(8, 8, 12), (9, 9, 13), (10, 12, 16), (11, 13, 17)] {
         let disk = disk_of(alloc, &EMPTY, b"", &[call])?;
-        let (_disk, log, marks) = play(&rt, alloc, disk, &[failed, again])?;
+        let (_disk, log, marks) = play(&rt, alloc, disk, &steps)?;
         has_logged(&rt, &log, &items, &marks, &[mark, later]);
     }
     Ok(())
@@ -83,10 +81,11 @@ fn has_gate(
 
 // The desire, of which these device calls fail.
 fn gate_fails(rt: &impl Abort, alloc: Global, row: (&[u64], u64, u8)) -> Result<(), Fail> {
-    let failed = failed()?;
+    let steps = [failed()?];
+    let items = [Item::Doubt(1, desire()?)];
     let disk = disk_of(alloc, &EMPTY, b"", row.0)?;
-    let (disk, log, _marks) = play(rt, alloc, disk, &[failed])?;
-    are_items(rt, &log, &[Item::Doubt(1, failed.command)]);
+    let (disk, log, _marks) = play(rt, alloc, disk, &steps)?;
+    are_items(rt, &log, &items);
     has_gate(rt, alloc, &disk, row)
 }
 
