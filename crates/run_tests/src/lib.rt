@@ -1,9 +1,7 @@
 //! Tests of whole scenarios: what a run prints, how it ends, and what it leaves of the board; of the program's words
-//! and its endings, of a scenario on a board that was loaded, and of a phase on threads.
+//! and its endings, and of a scenario on a board that was loaded.
 #![tactic(auto)]
 
-#[cfg(test)]
-mod at_threads;
 #[cfg(test)]
 mod engine;
 #[cfg(test)]

@@ -13,7 +13,7 @@ use Rattle.actor_runs.specs.declared.actor_state.ActorState.TheVariants.{Client}
 use Rattle.phase_runs.specs.Actors.{CanAllDo}
 use Rattle.phase_runs.proofs.Public.{one_of}
 use Rattle.phase_threads.specs.Clients.{are_of_clients}
-use Rattle.run_tests.proofs.at_threads.running.run_two.Goals as goal
+use Rattle.phase_tests.proofs.tests.running.run_two.Goals as goal
 
 client_can : (a : Act) (name : List ℕ) → not (is_of_cell a) ≡ true → IsActOf a (Client name)
 client_can (act.Client op) name clients = tt
@@ -32,5 +32,6 @@ both_can lines n m clients (suc zero) a is l inside =
     subst (IsActOf l.act) (one_of (Some (Client m)) (Client m) a refl is) (client_can l.act m (of_client lines clients 2 l inside))
 both_can lines n m clients (suc (suc k)) a is l inside = cc (is)
 
-pub run_phase-requires-can : goal.run_phase-requires-can
-run_phase-requires-can c = both_can c.args.phase.now.lines c.args.client c.args.client c.requires
+pub run_phase-board-requires-clause-can : goal.run_phase-board-requires-clause-can
+run_phase-board-requires-clause-can g c κs within =
+    both_can c.args.phase.now.lines c.in_ok-name.name c.in_ok-name.name (sym c.are_of_clients.ensures ∙ c.if-not-are_of_clients.false)
