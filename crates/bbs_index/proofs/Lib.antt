@@ -1,7 +1,6 @@
 pub mod Tables
 pub mod Rows
 pub mod Counting
-pub mod Boards
 pub mod Numbers
 pub mod Numbering
 pub mod Ordering

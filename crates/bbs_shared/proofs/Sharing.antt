@@ -6,7 +6,7 @@ use Rattle.disk_trait.specs.Past.{Past}
 use Rattle.bbs_board.specs.View.{View}
 use Rattle.bbs_model.specs.Calls.{by_of}
 use Rattle.bbs_model.specs.declared.item.Item.{Item}
-use Rattle.sole_port.specs.Going.{BoardGoesOn}
+use Rattle.board_port.specs.Going.{BoardGoesOn}
 use Rattle.ticket_desk.specs.Passes.{AreDealt, IsClosed, IsNew}
 use Rattle.ticket_desk.specs.declared.pass.Pass.{Pass}
 use Rattle.bbs_shared.specs.Boards.{BoardStanding, HasGone, base_of, log_of, origin_of}

@@ -17,7 +17,7 @@ use Rattle.bbs_model.specs.declared.item.Item.{Item}
 use Rattle.bbs_model.specs.declared.reply.CallFault.{CallFault}
 use Rattle.bbs_model.specs.declared.reply.Reply.{Reply}
 use Rattle.bbs_model.specs.declared.rows.Rows.{Rows}
-use Rattle.sole_port.proofs.Public.{goes_as, goes_further, goes_nowhere, sole_went}
+use Rattle.board_port.proofs.Public.{goes_as, goes_further, goes_nowhere, sole_went}
 use Rattle.ticket_desk.specs.declared.view.View.{View as DeskView}
 use Rattle.ticket_desk.specs.Turns.{Turned}
 use Rattle.ticket_desk.specs.Views.{Begins}

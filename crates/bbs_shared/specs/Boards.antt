@@ -5,7 +5,7 @@ use Rattle.bbs_board.specs.View.{View}
 use Rattle.bbs_model.specs.Tables.{no_rows}
 use Rattle.bbs_model.specs.declared.item.Item.{Item}
 use Rattle.bbs_model.specs.declared.rows.Rows.{Rows}
-use Rattle.sole_port.specs.Going.{BoardGoesOn}
+use Rattle.board_port.specs.Going.{BoardGoesOn}
 use Rattle.bbs_shared.specs.declared.origin.Origin.{Origin}
 
 -- a board that is shared, and how it was when it was first shared

@@ -6,7 +6,7 @@ use Rattle.bbs_board.specs.View.{View}
 use Rattle.bbs_model.specs.Calls.{by_number}
 use Rattle.bbs_model.specs.PortView.{PortView}
 use Rattle.bbs_model.specs.declared.item.Item.{Item}
-use Rattle.sole_port.specs.Going.{BoardGoesOn}
+use Rattle.board_port.specs.Going.{BoardGoesOn}
 use Rattle.ticket_desk.specs.Passes.{AreAll}
 use Rattle.ticket_desk.specs.Views.{Begins, EachAt}
 use Rattle.ticket_desk.specs.declared.pass.Pass.{Pass}

@@ -4,19 +4,19 @@ use Rattle.std.specs.Io.KnownBytes.{Consumes, IsAtEnd}
 use Rattle.byte_ports.specs.Cause.{Rose}
 use Rattle.disk_trait.specs.Past.{Past}
 use Rattle.bbs_board.proofs.Public.{not_refused}
-use Rattle.program_edge.specs.Ending.{status_of}
-use Rattle.program_edge.specs.Ports.{Ports, IsTold}
-use Rattle.program_edge.specs.declared.ending.Ending.{Ending}
-use Rattle.program_edge.specs.declared.ending.Ending.TheVariants as ending
+use Rattle.program_ends.specs.Ending.{status_of}
+use Rattle.program_ends.specs.Ports.{Ports, IsTold}
+use Rattle.program_ends.specs.declared.ending.Ending.{Ending}
+use Rattle.program_ends.specs.declared.ending.Ending.TheVariants as ending
 use Rattle.program_run.specs.Reading.{ReadsWhole, TellsAs, TellsTooMuch}
 use Rattle.program_run.specs.Runs.{EndsLate, RunEnds, RunsScript}
 use Rattle.program_run.specs.declared.ended.Ended.{Ended}
 use Rattle.scenario_lines.specs.declared.script.Script.{Script}
 use Rattle.scenario_reader.specs.declared.fault.ScriptFault.{ScriptFault}
-use Rattle.still_words.specs.Still.{IsStopped, MeetsNoBoard, MeetsObstacle, PrepareEnds, UsageEnds}
-use Rattle.still_words.specs.declared.words.Asked.{Asked}
-use Rattle.still_words.specs.declared.words.Asked.TheVariants as asked
-use Rattle.still_words.proofs.Public as still
+use Rattle.program_tools.specs.Still.{IsStopped, MeetsNoBoard, MeetsObstacle, PrepareEnds, UsageEnds}
+use Rattle.program_tools.specs.declared.words.Asked.{Asked}
+use Rattle.program_tools.specs.declared.words.Asked.TheVariants as asked
+use Rattle.program_tools.proofs.Public as still
 use Rattle.diego_engine.specs.Top.{ProgramEnds, ReachesBoard}
 use Rattle.diego_engine.proofs.Recoveries.{opened}
 use Rattle.diego_engine.proofs.TopLaws.{as_told, not_both, not_too_long}

@@ -5,18 +5,18 @@ use Rattle.bbs_model.specs.Replay.{IsLawful}
 use Rattle.bbs_model.specs.Valid.{IsValid}
 use Rattle.bbs_model.specs.declared.item.Item.{Item}
 use Rattle.bbs_model.specs.declared.rows.Rows.{Rows}
-use Rattle.program_edge.specs.Ports.{Ports}
-use Rattle.program_edge.specs.declared.ending.Ending.{Ending}
-use Rattle.program_edge.specs.declared.ending.Ending.TheVariants as ending
+use Rattle.program_ends.specs.Ports.{Ports}
+use Rattle.program_ends.specs.declared.ending.Ending.{Ending}
+use Rattle.program_ends.specs.declared.ending.Ending.TheVariants as ending
 use Rattle.program_run.specs.Reading.{ReadsWhole}
 use Rattle.program_run.specs.Runs.{EndsLate, IsEmpty, RunEnds, ScriptEnds}
 use Rattle.program_run.specs.declared.ended.Ended.{Ended}
-use Rattle.run_laws.specs.Headline.{IsFaithful}
-use Rattle.run_laws.specs.Laws.{PlayedRunsAreFaithful}
+use Rattle.run_theorem.specs.Headline.{IsFaithful}
+use Rattle.run_theorem.specs.Laws.{PlayedRunsAreFaithful}
 use Rattle.scenario_lines.specs.declared.script.Script.{Script}
 use Rattle.scenario_reader.specs.Facts.{IsScript}
-use Rattle.still_words.specs.declared.words.Asked.{Asked}
-use Rattle.still_words.specs.declared.words.Asked.TheVariants as asked
+use Rattle.program_tools.specs.declared.words.Asked.{Asked}
+use Rattle.program_tools.specs.declared.words.Asked.TheVariants as asked
 use Rattle.diego_engine.specs.Headline.{DidRun, Headline, IsFaithfulTo, IsIdle}
 use Rattle.diego_engine.specs.Top.{ProgramEnds}
 use Rattle.diego_engine.proofs.Recoveries.{opened, recovery_from}

@@ -10,16 +10,16 @@ use Rattle.bbs_model.specs.declared.item.Item.{Item}
 use Rattle.bbs_board.specs.Doubts.{doubts_in, RoseForEach}
 use Rattle.bbs_board.specs.Opening.{IsBoard}
 use Rattle.diego_engine.specs.Headline.{BoardTakesLog}
-use Rattle.program_edge.specs.Opening.{EndsUnopened}
-use Rattle.program_edge.specs.Ports.{Ports, IsTold}
-use Rattle.program_edge.specs.declared.ending.Ending.{Ending}
-use Rattle.program_edge.specs.declared.ending.Ending.TheVariants as ending
+use Rattle.program_ends.specs.Opening.{EndsUnopened}
+use Rattle.program_ends.specs.Ports.{Ports, IsTold}
+use Rattle.program_ends.specs.declared.ending.Ending.{Ending}
+use Rattle.program_ends.specs.declared.ending.Ending.TheVariants as ending
 use Rattle.program_run.specs.Runs.{EndsIdle, EndsLate, EndsUnseen, IsEmpty, RunEnds, ScriptEnds}
 use Rattle.program_run.specs.declared.ended.Ended.{Ended}
 use Rattle.scenario_lines.specs.declared.script.Script.{Script}
-use Rattle.still_words.proofs.Public.{later_from}
-use Rattle.still_words.specs.declared.words.Asked.{Asked}
-use Rattle.still_words.specs.declared.words.Asked.TheVariants as asked
+use Rattle.program_tools.proofs.Public.{later_from}
+use Rattle.program_tools.specs.declared.words.Asked.{Asked}
+use Rattle.program_tools.specs.declared.words.Asked.TheVariants as asked
 use Rattle.diego_engine.specs.Top.{ProgramEnds}
 use Rattle.diego_engine.proofs.SinceEntry.{recovers_resting, recovers_on}
 

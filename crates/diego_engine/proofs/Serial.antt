@@ -9,15 +9,15 @@ use Rattle.bbs_board.specs.Written.{WritesOn}
 use Rattle.bbs_journal.specs.Stops.{OpensAs}
 use Rattle.bbs_model.specs.declared.item.Item.{Item}
 use Rattle.bbs_model.specs.declared.rows.Rows.{Rows}
-use Rattle.program_edge.specs.Ports.{Ports, PrintsTo}
-use Rattle.program_edge.specs.declared.ending.Ending.TheVariants as ending
+use Rattle.program_ends.specs.Ports.{Ports, PrintsTo}
+use Rattle.program_ends.specs.declared.ending.Ending.TheVariants as ending
 use Rattle.program_run.specs.Runs.{EndsLate, RunsScript}
 use Rattle.program_run.specs.declared.ended.Ended.{Ended}
 use Rattle.scenario_lines.specs.declared.script.Script.{Script}
 use Rattle.scenario_reader.specs.Facts.{IsScript}
-use Rattle.serial_runs.specs.Boards.{SoleBoard}
-use Rattle.serial_runs.specs.ScriptLaws.{IsRunAlone, RunsAreAlone}
-use Rattle.serial_runs.specs.Scripts.{IsSerialScript, board_at, script_alone, words_alone}
+use Rattle.run_function.specs.Boards.{SoleBoard}
+use Rattle.run_function.specs.ScriptLaws.{IsRunAlone, RunsAreAlone}
+use Rattle.run_function.specs.Scripts.{IsSerialScript, board_at, script_alone, words_alone}
 use Rattle.diego_engine.specs.Serial.{IsSerialRun, RunsSerially, opened_with}
 use Rattle.diego_engine.proofs.Recoveries.{opened}
 

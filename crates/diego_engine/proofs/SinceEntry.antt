@@ -17,7 +17,7 @@ use Rattle.bbs_board.specs.Kept.{IsFound, RiseBetween, Kept}
 use Rattle.bbs_board.specs.Opening.{IsBoard}
 use Rattle.bbs_board.proofs.Public.{one_board}
 use Rattle.diego_engine.specs.Headline.{HoldsOnly, TakesLog, BoardTakesLog}
-use Rattle.program_edge.specs.Ports.{IsTold}
+use Rattle.program_ends.specs.Ports.{IsTold}
 
 -- numbers that never fall lie above each smaller one
 rising_from : (less low high : ℕ) (marks : List ℕ) → less ≤ low → RiseBetween low marks high → RiseBetween less marks high

@@ -1,14 +1,14 @@
 -- Over a disk that tells its past at the end, the ways in which the program ends ask nothing of the end.
 use Rattle.std.proofs.Common.{ℕ, List, Option, Some, None, inl, inr}
 use Rattle.disk_trait.specs.Memory.{calls_of, faults_of}
-use Rattle.program_edge.specs.Ports.{Ports, IsTold}
-use Rattle.program_edge.specs.declared.ending.Ending.{Ending}
-use Rattle.program_edge.specs.declared.ending.Ending.TheVariants as ending
+use Rattle.program_ends.specs.Ports.{Ports, IsTold}
+use Rattle.program_ends.specs.declared.ending.Ending.{Ending}
+use Rattle.program_ends.specs.declared.ending.Ending.TheVariants as ending
 use Rattle.program_run.specs.Runs.{EndsLate, RunEnds, RunsScript, ScriptEnds}
 use Rattle.program_run.specs.declared.ended.Ended.{Ended}
 use Rattle.scenario_lines.specs.declared.script.Script.{Script}
-use Rattle.still_words.specs.declared.words.Asked.{Asked}
-use Rattle.still_words.specs.declared.words.Asked.TheVariants as asked
+use Rattle.program_tools.specs.declared.words.Asked.{Asked}
+use Rattle.program_tools.specs.declared.words.Asked.TheVariants as asked
 use Rattle.diego_engine.specs.InMemory.{EndsLateInMemory as SpokenLate, ScriptEndsInMemory as SpokenScript, RunsScriptInMemory as SpokenRun}
 use Rattle.diego_engine.specs.InMemory.{EndsInMemory as SpokenEnds, RunEndsInMemory as SpokenEnd, RunsWholeInMemory as SpokenWhole, memory_told}
 use Rattle.diego_engine.specs.Top.{ProgramEnds, RunsWhole}

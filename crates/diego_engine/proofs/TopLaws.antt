@@ -13,22 +13,22 @@ use Rattle.bbs_board.proofs.Public.{not_refused}
 use Rattle.bbs_journal.specs.Preparing.{FindsBytes}
 use Rattle.bbs_journal.specs.declared.load_fault.LoadFault.{LoadFault}
 use Rattle.bbs_journal.specs.declared.load_fault.LoadFault.TheVariants as fault
-use Rattle.program_edge.specs.Ending.{script_line, status_of}
-use Rattle.program_edge.specs.Opening.{is_before_board}
-use Rattle.program_edge.specs.Ports.{Ports, PrintsTo, IsTold}
-use Rattle.program_edge.specs.declared.ending.Ending.{Ending}
-use Rattle.program_edge.specs.declared.ending.Ending.TheVariants as ending
+use Rattle.program_ends.specs.Ending.{script_line, status_of}
+use Rattle.program_ends.specs.Opening.{is_before_board}
+use Rattle.program_ends.specs.Ports.{Ports, PrintsTo, IsTold}
+use Rattle.program_ends.specs.declared.ending.Ending.{Ending}
+use Rattle.program_ends.specs.declared.ending.Ending.TheVariants as ending
 use Rattle.program_run.specs.Reading.{ReadsWhole, TellsAs, limit}
 use Rattle.program_run.specs.Runs.{EndsLate, IsEmpty, RunEnds, RunsScript}
 use Rattle.program_run.specs.declared.ended.Ended.{Ended}
 use Rattle.scenario_lines.specs.declared.script.Script.{Script}
 use Rattle.scenario_reader.specs.Accepted.{script_of}
 use Rattle.scenario_reader.specs.declared.fault.ScriptFault.{ScriptFault}
-use Rattle.still_words.specs.Still.{StillEnds}
-use Rattle.still_words.specs.declared.words.Asked.{Asked}
-use Rattle.still_words.specs.declared.words.Asked.TheVariants as asked
-use Rattle.still_words.proofs.Public as still
-use Rattle.still_words.proofs.Public.{not_of_source}
+use Rattle.program_tools.specs.Still.{StillEnds}
+use Rattle.program_tools.specs.declared.words.Asked.{Asked}
+use Rattle.program_tools.specs.declared.words.Asked.TheVariants as asked
+use Rattle.program_tools.proofs.Public as still
+use Rattle.program_tools.proofs.Public.{not_of_source}
 use Rattle.diego_engine.specs.Top.{ProgramEnds, RunsWhole, Meets}
 
 module _ {D : Type 0} (told : D → Option Past) (faults moment : D → ℕ) (e : Ended) (left left' : Option (List ℕ)) (v w : Ports) where

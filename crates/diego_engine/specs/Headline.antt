@@ -11,11 +11,11 @@ use Rattle.bbs_board.specs.Doubts.{doubts_in, RoseForEach}
 use Rattle.bbs_board.specs.Kept.{Kept}
 use Rattle.bbs_board.specs.Opening.{IsBoard}
 use Rattle.convergence.specs.declared.report.Report.{Report}
-use Rattle.program_edge.specs.Ports.{IsTold}
-use Rattle.program_edge.specs.declared.ending.Ending.{Ending}
-use Rattle.program_edge.specs.declared.ending.Ending.TheVariants as ending
+use Rattle.program_ends.specs.Ports.{IsTold}
+use Rattle.program_ends.specs.declared.ending.Ending.{Ending}
+use Rattle.program_ends.specs.declared.ending.Ending.TheVariants as ending
 use Rattle.program_run.specs.Reading.{ReadsWhole}
-use Rattle.run_laws.specs.Headline.{IsFaithful}
+use Rattle.run_theorem.specs.Headline.{IsFaithful}
 use Rattle.scenario_lines.specs.declared.answered.Answered.{Answered}
 use Rattle.scenario_lines.specs.declared.script.Script.{Script}
 

@@ -10,19 +10,19 @@ use Rattle.bbs_model.specs.declared.rows.Rows.{Rows}
 use Rattle.bbs_board.specs.Opening.{IsBoard, IsRefused}
 use Rattle.bbs_journal.specs.declared.load_fault.LoadFault.{LoadFault}
 use Rattle.bbs_journal.specs.declared.load_fault.LoadFault.TheVariants as why
-use Rattle.program_edge.specs.Ending.{status_of}
-use Rattle.program_edge.specs.Opening.{EndsEarly, Opens}
-use Rattle.program_edge.specs.Ports.{Ports}
-use Rattle.program_edge.specs.declared.ending.Ending.{Ending}
-use Rattle.program_edge.specs.declared.ending.Ending.TheVariants as ending
-use Rattle.program_edge.specs.declared.top_end.TopEnd.{TopEnd}
+use Rattle.program_ends.specs.Ending.{status_of}
+use Rattle.program_ends.specs.Opening.{EndsEarly, Opens}
+use Rattle.program_ends.specs.Ports.{Ports}
+use Rattle.program_ends.specs.declared.ending.Ending.{Ending}
+use Rattle.program_ends.specs.declared.ending.Ending.TheVariants as ending
+use Rattle.program_ends.specs.declared.top_end.TopEnd.{TopEnd}
 use Rattle.program_run.specs.Reading.{ReadsWhole, limit}
 use Rattle.program_run.specs.Runs.{EndsIdle, EndsUnseen, IsEmpty, PlaysOn}
 use Rattle.program_run.specs.declared.ended.Ended.{Ended}
 use Rattle.scenario_lines.specs.declared.script.Script.{Script}
 use Rattle.scenario_reader.specs.Facts.{IsScript}
-use Rattle.still_words.specs.declared.words.Asked.{Asked}
-use Rattle.still_words.specs.declared.words.Asked.TheVariants as asked
+use Rattle.program_tools.specs.declared.words.Asked.{Asked}
+use Rattle.program_tools.specs.declared.words.Asked.TheVariants as asked
 use Rattle.diego_engine.specs.Top.{EndsWithoutRun, ports_now, run_of}
 
 -- what the disk tells, at every moment

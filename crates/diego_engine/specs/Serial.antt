@@ -7,14 +7,14 @@ use Rattle.disk_trait.specs.Steps.{Goes}
 use Rattle.bbs_board.specs.Opening.{IsBoard}
 use Rattle.bbs_board.specs.Written.{WritesOn}
 use Rattle.bbs_model.specs.declared.rows.Rows.{Rows}
-use Rattle.program_edge.specs.Ports.{IsTold, Ports, Prints}
-use Rattle.program_edge.specs.declared.ending.Ending.{Ending}
-use Rattle.program_edge.specs.declared.top_end.TopEnd.{TopEnd}
+use Rattle.program_ends.specs.Ports.{IsTold, Ports, Prints}
+use Rattle.program_ends.specs.declared.ending.Ending.{Ending}
+use Rattle.program_ends.specs.declared.top_end.TopEnd.{TopEnd}
 use Rattle.program_run.specs.Reading.{ReadsWhole}
 use Rattle.program_run.specs.declared.ended.Ended.{Ended}
 use Rattle.scenario_lines.specs.declared.script.Script.{Script}
-use Rattle.serial_runs.specs.Boards.{SoleBoard}
-use Rattle.serial_runs.specs.Scripts.{IsSerialScript, SoleCourse, script_alone, words_alone}
+use Rattle.run_function.specs.Boards.{SoleBoard}
+use Rattle.run_function.specs.Scripts.{IsSerialScript, SoleCourse, script_alone, words_alone}
 use Rattle.diego_engine.specs.Top.{run_of, ports_now}
 
 -- a board with these rows, on which nothing was done yet

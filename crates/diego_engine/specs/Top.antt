@@ -5,18 +5,18 @@ use Rattle.disk_trait.specs.Past.{Past, Image}
 use Rattle.disk_trait.specs.Shows.{Shows}
 use Rattle.bbs_model.specs.declared.rows.Rows.{Rows}
 use Rattle.bbs_board.specs.Opening.{IsBoard}
-use Rattle.program_edge.specs.Ending.{status_of}
-use Rattle.program_edge.specs.Ports.{IsTold, Ports, ports_of}
-use Rattle.program_edge.specs.declared.ending.Ending.{Ending}
-use Rattle.program_edge.specs.declared.ending.Ending.TheVariants as ending
-use Rattle.program_edge.specs.declared.top_end.TopEnd.{TopEnd}
+use Rattle.program_ends.specs.Ending.{status_of}
+use Rattle.program_ends.specs.Ports.{IsTold, Ports, ports_of}
+use Rattle.program_ends.specs.declared.ending.Ending.{Ending}
+use Rattle.program_ends.specs.declared.ending.Ending.TheVariants as ending
+use Rattle.program_ends.specs.declared.top_end.TopEnd.{TopEnd}
 use Rattle.program_run.specs.Reading.{ReadsWhole, TellsAs}
 use Rattle.program_run.specs.Runs.{IsEmpty, RunEnds, RunsScript}
 use Rattle.program_run.specs.declared.ended.Ended.{Ended}
 use Rattle.scenario_lines.specs.declared.script.Script.{Script}
-use Rattle.still_words.specs.Still.{StillEnds}
-use Rattle.still_words.specs.declared.words.Asked.{Asked}
-use Rattle.still_words.specs.declared.words.Asked.TheVariants as asked
+use Rattle.program_tools.specs.Still.{StillEnds}
+use Rattle.program_tools.specs.declared.words.Asked.{Asked}
+use Rattle.program_tools.specs.declared.words.Asked.TheVariants as asked
 
 -- words that ask for no run ended so: no call was made, and nothing was taken from the source
 pub record EndsWithoutRun (how : Ending) (what : Option Asked) (e : Ended) (left left' : Option (List ℕ)) (v w : Ports) : Type 0 where

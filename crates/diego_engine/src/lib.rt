@@ -5,5 +5,5 @@ mod in_memory;
 mod top;
 
 pub use in_memory::diego_top_in_memory;
-pub use program_edge::TopEnd;
+pub use program_ends::TopEnd;
 pub use top::diego_top;

@@ -9,13 +9,13 @@ ghost use Rattle.bbs_board.specs.Opening.{IsRefused};
 ghost use Rattle.disk_trait.specs.Shows.{Shows};
 ghost use Rattle.bbs_journal.specs.Preparing.{FindsBytes};
 ghost use Rattle.bbs_journal.specs.declared.load_fault.LoadFault.{LoadFault as Why};
-ghost use Rattle.program_edge.specs.Ending.{script_line, status_of};
-ghost use Rattle.program_edge.specs.Opening.{is_before_board};
-ghost use Rattle.program_edge.specs.Ports.{IsTold, PrintsTo};
-ghost use Rattle.program_edge.specs.declared.ending.Ending.{Ending as AnEnding};
-ghost use Rattle.still_words.specs.Still.{IsStopped, MeetsNoBoard, MeetsObstacle};
-ghost use Rattle.still_words.specs.Words.{asked_of};
-ghost use Rattle.still_words.specs.declared.words.Asked.TheVariants as wanted;
+ghost use Rattle.program_ends.specs.Ending.{script_line, status_of};
+ghost use Rattle.program_ends.specs.Opening.{is_before_board};
+ghost use Rattle.program_ends.specs.Ports.{IsTold, PrintsTo};
+ghost use Rattle.program_ends.specs.declared.ending.Ending.{Ending as AnEnding};
+ghost use Rattle.program_tools.specs.Still.{IsStopped, MeetsNoBoard, MeetsObstacle};
+ghost use Rattle.program_tools.specs.Words.{asked_of};
+ghost use Rattle.program_tools.specs.declared.words.Asked.TheVariants as wanted;
 ghost use Rattle.diego_engine.specs.Headline.{Headline};
 ghost use Rattle.diego_engine.specs.Serial.{RunsSeriallyAt};
 ghost use Rattle.diego_engine.specs.Top.{EndsAt, Meets, NoFault, ReachesBoard, RunsWholeAt, TellsWithoutFault};
@@ -25,14 +25,14 @@ ghost use Rattle.scenario_reader.specs.declared.fault.ScriptFault.{ScriptFault a
 
 use byte_ports::{Gate, Sink, Source};
 use disk_trait::Disk;
-use program_edge::{TopEnd, number_of};
+use program_ends::{TopEnd, number_of};
 use program_run::{Ended, run};
-use run_laws::played_runs_are_faithful;
-use serial_runs::runs_are_alone;
+use program_tools::{Asked, read_words, still_top};
+use run_function::runs_are_alone;
+use run_theorem::played_runs_are_faithful;
 use std::alloc::Global;
 use std::sync::Wait;
 use std::thread::Threads;
-use still_words::{Asked, read_words, still_top};
 
 fn asks_for_a_run(alloc: Global, words: &[String]) -> bool
     ensures { IsTrue result ↔ (asked_of (map (λ w. string_bytes w) words.now) ≡ Some wanted.Run) }

@@ -11,14 +11,14 @@ use Rattle.bbs_model.specs.declared.item.Item.{Item}
 use Rattle.crash_backoff.specs.declared.moment.Moment.{Moment}
 use Rattle.scenario_lines.specs.declared.answered.Answered.{Answered}
 use Rattle.scenario_lines.specs.declared.script.Line.{Line}
-use Rattle.actor_runs.specs.Runs.{IsOneActor}
-use Rattle.actor_runs.specs.Turns.{actor_standing, CanDo, IsCutShort, Takes, turns_in}
-use Rattle.actor_runs.specs.declared.actor_state.ActorState.{ActorState}
-use Rattle.actor_runs.proofs.Public.{one_same}
-use Rattle.sole_port.specs.Went.{seen_of, Went}
+use Rattle.phase_actors.specs.Runs.{IsOneActor}
+use Rattle.phase_actors.specs.Turns.{actor_standing, CanDo, IsCutShort, Takes, turns_in}
+use Rattle.phase_actors.specs.declared.actor_state.ActorState.{ActorState}
+use Rattle.phase_actors.proofs.Public.{one_same}
+use Rattle.board_port.specs.Went.{seen_of, Went}
 use Rattle.phase_runs.specs.Actors.{ActorsCut, AreByFirst, AreSameActors, CanAllDo, FirstRan, PartCut, PartRan}
 use Rattle.phase_runs.specs.Boards.{IsCalledByOne}
-use Rattle.sole_port.proofs.Public.{goes_as, goes_further, goes_nowhere}
+use Rattle.board_port.proofs.Public.{goes_as, goes_further, goes_nowhere}
 use Rattle.phase_runs.proofs.Parts.{by_both, not_begun, part_cut, part_ran, ran_on, ran_whole}
 use Rattle.phase_runs.proofs.Places.{at_last, at_set, before_last, beside_set, one_of}
 

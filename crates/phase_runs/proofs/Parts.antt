@@ -11,9 +11,9 @@ use Rattle.bbs_model.specs.declared.rows.Rows.{Rows}
 use Rattle.crash_backoff.specs.declared.moment.Moment.{Moment}
 use Rattle.scenario_lines.specs.declared.answered.Answered.{Answered}
 use Rattle.scenario_lines.specs.declared.script.Line.{Line}
-use Rattle.actor_runs.specs.Turns.{is_any_unfed, IsCutAt, IsCutShort, actor_standing, Takes, TakesTurns, turns_in, Turn}
-use Rattle.actor_runs.specs.declared.actor_state.ActorState.{ActorState}
-use Rattle.sole_port.specs.Went.{seen_of, Went}
+use Rattle.phase_actors.specs.Turns.{is_any_unfed, IsCutAt, IsCutShort, actor_standing, Takes, TakesTurns, turns_in, Turn}
+use Rattle.phase_actors.specs.declared.actor_state.ActorState.{ActorState}
+use Rattle.board_port.specs.Went.{seen_of, Went}
 use Rattle.phase_runs.specs.Actors.{PartCut, PartRan, SeesPhase}
 use Rattle.phase_runs.specs.Boards.{BoardGoesOn}
 

@@ -5,10 +5,10 @@ use Rattle.std.proofs.lemmas.List.{take-append-le}
 use Rattle.std.proofs.lemmas.Option.{slice_get-get_or, slice_get_within}
 use Rattle.cell_rep.specs.declared.rep.CellRep.{CellRep}
 use Rattle.converge_round.specs.Reps.{KeepReps}
-use Rattle.actor_runs.specs.Runs.{IsOneActor}
-use Rattle.actor_runs.specs.declared.actor_state.ActorState.{ActorState}
-use Rattle.actor_runs.specs.declared.actor_state.ActorState.TheVariants.{Client, Cell}
-use Rattle.actor_runs.proofs.Public.{one_same, one_then}
+use Rattle.phase_actors.specs.Runs.{IsOneActor}
+use Rattle.phase_actors.specs.declared.actor_state.ActorState.{ActorState}
+use Rattle.phase_actors.specs.declared.actor_state.ActorState.TheVariants.{Client, Cell}
+use Rattle.phase_actors.proofs.Public.{one_same, one_then}
 use Rattle.phase_runs.specs.Actors.{AreSameActors}
 use Rattle.phase_runs.specs.Reps.{bare, reps_of, with_reps}
 use Rattle.phase_runs.proofs.Places.{one_of}

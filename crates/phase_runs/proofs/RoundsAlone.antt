@@ -17,12 +17,12 @@ use Rattle.converge_round.specs.Items.{HasItems}
 use Rattle.converge_round.specs.Reps.{KeepReps}
 use Rattle.crash_backoff.specs.declared.moment.Moment.{Moment}
 use Rattle.scenario_lines.specs.declared.script.RoundLine.{RoundLine}
-use Rattle.actor_runs.specs.declared.actor_state.ActorState.{ActorState}
-use Rattle.sole_port.specs.Went.{seen_of}
+use Rattle.phase_actors.specs.declared.actor_state.ActorState.{ActorState}
+use Rattle.board_port.specs.Went.{seen_of}
 use Rattle.phase_runs.specs.Boards.{IsCalledByOne}
 use Rattle.phase_runs.specs.Phases.{CutAlone, IsToldBy, RoundAlone}
 use Rattle.phase_runs.specs.Reps.{reps_of, with_reps}
-use Rattle.sole_port.proofs.Public.{goes_as, goes_nowhere}
+use Rattle.board_port.proofs.Public.{goes_as, goes_nowhere}
 use Rattle.phase_runs.proofs.Parts.{own_sees}
 
 module _ {D : Type 0} (told : D → Option Past) (now : Moment) (v : View D) where

@@ -16,12 +16,12 @@ use Rattle.crash_backoff.specs.declared.moment.Moment.{Moment}
 use Rattle.scenario_lines.specs.declared.answered.Answered.{Answered}
 use Rattle.scenario_lines.specs.declared.script.Phase.{Phase}
 use Rattle.scenario_lines.specs.declared.script.RoundLine.{RoundLine}
-use Rattle.actor_runs.specs.declared.actor_state.ActorState.{ActorState}
+use Rattle.phase_actors.specs.declared.actor_state.ActorState.{ActorState}
 use Rattle.phase_runs.specs.Actors.{ActorsCut, ActorsRan, AreSameActors, PartCut, PartRan}
 use Rattle.phase_runs.specs.Boards.{BoardGoesOn}
 use Rattle.phase_runs.specs.Phases.{CutAlone, IsRoundCut, IsToldBy, PhaseCut, PhaseRan, RoundAlone, RoundRan}
 use Rattle.phase_runs.specs.Reps.{reps_of}
-use Rattle.sole_port.proofs.Public.{goes_further}
+use Rattle.board_port.proofs.Public.{goes_further}
 use Rattle.phase_runs.proofs.Parts.{by_both, ran_on, ran_whole, sees_behind}
 use Rattle.phase_runs.proofs.PutBack.{same_as, same_put, same_then}
 

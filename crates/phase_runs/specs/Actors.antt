@@ -10,9 +10,9 @@ use Rattle.bbs_model.specs.declared.rows.Rows.{Rows}
 use Rattle.crash_backoff.specs.declared.moment.Moment.{Moment}
 use Rattle.scenario_lines.specs.declared.answered.Answered.{Answered}
 use Rattle.scenario_lines.specs.declared.script.Line.{Line}
-use Rattle.actor_runs.specs.Runs.{IsOneActor}
-use Rattle.actor_runs.specs.Turns.{CanDo, is_any_unfed, IsCutShort, TakesTurns, turns_in}
-use Rattle.actor_runs.specs.declared.actor_state.ActorState.{ActorState}
+use Rattle.phase_actors.specs.Runs.{IsOneActor}
+use Rattle.phase_actors.specs.Turns.{CanDo, is_any_unfed, IsCutShort, TakesTurns, turns_in}
+use Rattle.phase_actors.specs.declared.actor_state.ActorState.{ActorState}
 use Rattle.phase_runs.specs.Boards.{BoardGoesOn}
 
 -- the second log goes on from the first

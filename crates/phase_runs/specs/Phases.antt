@@ -17,7 +17,7 @@ use Rattle.crash_backoff.specs.declared.moment.Moment.{Moment}
 use Rattle.scenario_lines.specs.declared.answered.Answered.{Answered}
 use Rattle.scenario_lines.specs.declared.script.Phase.{Phase}
 use Rattle.scenario_lines.specs.declared.script.RoundLine.{RoundLine}
-use Rattle.actor_runs.specs.declared.actor_state.ActorState.{ActorState}
+use Rattle.phase_actors.specs.declared.actor_state.ActorState.{ActorState}
 use Rattle.phase_runs.specs.Actors.{AreSameActors, PartCut, PartRan, SeesPhase}
 use Rattle.phase_runs.specs.Boards.{BoardGoesOn}
 use Rattle.phase_runs.specs.Reps.{reps_of, with_reps}

@@ -3,8 +3,8 @@ use Rattle.std.specs.Prelude.{◌≡◌, List, [], ◌∷◌, Option, Some, None
 use Rattle.std.specs.List.{filter_map}
 use Rattle.cell_rep.specs.Reps.{new_rep}
 use Rattle.cell_rep.specs.declared.rep.CellRep.{CellRep}
-use Rattle.actor_runs.specs.declared.actor_state.ActorState.{ActorState}
-use Rattle.actor_runs.specs.declared.actor_state.ActorState.TheVariants.{Client, Cell}
+use Rattle.phase_actors.specs.declared.actor_state.ActorState.{ActorState}
+use Rattle.phase_actors.specs.declared.actor_state.ActorState.TheVariants.{Client, Cell}
 
 -- a cell's rep
 abbrev pub rep_of : ActorState → Option CellRep

@@ -1,18 +1,18 @@
 //! One actor's lines on a board that nobody else calls meanwhile.
 ghost use Rattle.std.specs.Prelude.{◌≡◌, OnOk, OnErr};
-ghost use Rattle.actor_runs.specs.Runs.{IsOneActor};
-ghost use Rattle.actor_runs.specs.Turns.{actor_standing, turns_in, CanDo, IsCutShort, Takes};
-ghost use Rattle.sole_port.specs.Went.{seen_of};
+ghost use Rattle.phase_actors.specs.Runs.{IsOneActor};
+ghost use Rattle.phase_actors.specs.Turns.{actor_standing, turns_in, CanDo, IsCutShort, Takes};
+ghost use Rattle.board_port.specs.Went.{seen_of};
 ghost use Rattle.phase_runs.specs.Boards.{IsCalledByOne};
 
-use actor_runs::{ActorState, GatedPort};
 use bbs_board::Board;
+use board_port::SolePort;
 use byte_ports::Gate;
 use crash_backoff::Moment;
 use diego_names::OutOfMemory;
 use disk_trait::Disk;
+use phase_actors::{ActorState, GatedPort};
 use scenario_lines::{Answered, Line};
-use sole_port::SolePort;
 use std::alloc::Global;
 
 /// Does the lines of the actor with that number, whose answers come behind those that were there.

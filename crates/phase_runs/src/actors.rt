@@ -3,12 +3,12 @@ ghost use Rattle.std.specs.Prelude.{◌≡◌, ◌<◌, ◌^◌, length, IfOk, O
 ghost use Rattle.phase_runs.specs.Actors.{ActorsCut, ActorsRan, CanAllDo};
 
 use crate::acting::act_on;
-use actor_runs::ActorState;
 use bbs_board::Board;
 use byte_ports::Gate;
 use crash_backoff::Moment;
 use diego_names::{List, OutOfMemory};
 use disk_trait::Disk;
+use phase_actors::ActorState;
 use scenario_lines::{Answered, Line};
 use std::alloc::Global;
 

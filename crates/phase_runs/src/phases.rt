@@ -6,7 +6,6 @@ ghost use Rattle.phase_runs.specs.Phases.{CutAlone, PhaseCut, PhaseRan, RoundAlo
 use crate::actors::run_actors;
 use crate::reps::{put_reps, take_reps};
 use crate::rounds::round_on;
-use actor_runs::ActorState;
 use bbs_board::Board;
 use bbs_model::CallFault;
 use byte_ports::Gate;
@@ -14,6 +13,7 @@ use convergence::Report;
 use crash_backoff::Moment;
 use diego_names::{List, OutOfMemory};
 use disk_trait::Disk;
+use phase_actors::ActorState;
 use scenario_lines::{Answered, Phase, RoundLine};
 use std::alloc::Global;
 

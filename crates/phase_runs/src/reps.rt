@@ -4,9 +4,9 @@ ghost use Rattle.std.specs.Vec.Iter.{into_iter_items};
 ghost use Rattle.std.specs.Option.{option_to_list};
 ghost use Rattle.phase_runs.specs.Reps.{bare, rep_of, reps_of, with_reps, PutsNext};
 
-use actor_runs::ActorState;
 use cell_rep::CellRep;
 use diego_names::OutOfMemory;
+use phase_actors::ActorState;
 use std::alloc::Global;
 use std::{mem, vec};
 

@@ -3,22 +3,22 @@ ghost use Rattle.std.specs.Prelude.{◌≡◌, IfErr, IfOk};
 ghost use Rattle.converge_round.specs.Faults.{IsCausedBy};
 ghost use Rattle.converge_round.specs.Items.{HasItems};
 ghost use Rattle.converge_round.specs.Reps.{KeepReps};
-ghost use Rattle.sole_port.specs.Went.{seen_of};
+ghost use Rattle.board_port.specs.Went.{seen_of};
 ghost use Rattle.phase_runs.specs.Boards.{IsCalledByOne};
 ghost use Rattle.phase_runs.specs.Rounds.{RoundOf};
 
 use crate::round_wire::RoundWire;
-use actor_runs::GatedPort;
 use bbs_board::Board;
 use bbs_model::{CallFault, Port};
+use board_port::SolePort;
 use byte_ports::Gate;
 use cell_rep::CellRep;
 use convergence::Report;
 use crash_backoff::Moment;
 use disk_trait::Disk;
-use round_laws::converge;
+use phase_actors::GatedPort;
+use round_theorem::converge;
 use scenario_lines::RoundLine;
-use sole_port::SolePort;
 use std::alloc::Global;
 
 /// The number of the round's caller, which is no actor's.

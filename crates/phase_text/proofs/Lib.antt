@@ -3,4 +3,3 @@ mod Orders
 mod Finding
 mod Splitting
 mod Told
-mod Fitting

@@ -14,11 +14,11 @@ use Rattle.scenario_lines.specs.declared.act.Act.{Act}
 use Rattle.scenario_lines.specs.declared.act.Act.TheVariants as act
 use Rattle.scenario_lines.specs.declared.answered.Answered.{Answered}
 use Rattle.scenario_lines.specs.declared.script.Line.{Line}
-use Rattle.actor_runs.specs.Runs.{IsActOf, IsOneActor}
-use Rattle.actor_runs.specs.Turns.{actor_standing, lines_by, turns_in, turns_of, CanDo, IsCutAt, IsCutShort, Takes, TakesTurns, Turn}
-use Rattle.actor_runs.specs.declared.actor_state.ActorState.{ActorState}
-use Rattle.actor_runs.specs.declared.actor_state.ActorState.TheVariants.{Client, Cell}
-use Rattle.actor_runs.proofs.Public.{one_same}
+use Rattle.phase_actors.specs.Runs.{IsActOf, IsOneActor}
+use Rattle.phase_actors.specs.Turns.{actor_standing, lines_by, turns_in, turns_of, CanDo, IsCutAt, IsCutShort, Takes, TakesTurns, Turn}
+use Rattle.phase_actors.specs.declared.actor_state.ActorState.{ActorState}
+use Rattle.phase_actors.specs.declared.actor_state.ActorState.TheVariants.{Client, Cell}
+use Rattle.phase_actors.proofs.Public.{one_same}
 use Rattle.phase_runs.specs.Actors.{AreSameActors, CanAllDo}
 use Rattle.phase_runs.specs.Reps.{bare, reps_of, with_reps}
 use Rattle.phase_runs.proofs.Public.{one_of}

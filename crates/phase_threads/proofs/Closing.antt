@@ -23,8 +23,8 @@ use Rattle.scenario_lines.specs.declared.answered.Answered.{Answered}
 use Rattle.scenario_lines.specs.declared.script.Phase.{Phase}
 use Rattle.scenario_lines.specs.declared.script.RoundLine.{RoundLine}
 use Rattle.ticket_desk.specs.declared.pass.Pass.{Pass}
-use Rattle.actor_runs.specs.Turns.{is_any_unfed, TakesTurns, turns_in}
-use Rattle.actor_runs.specs.declared.actor_state.ActorState.{ActorState}
+use Rattle.phase_actors.specs.Turns.{is_any_unfed, TakesTurns, turns_in}
+use Rattle.phase_actors.specs.declared.actor_state.ActorState.{ActorState}
 use Rattle.phase_runs.specs.Actors.{AreSameActors, CanAllDo, PartCut, PartRan, SeesPhase}
 use Rattle.phase_runs.specs.Phases.{HasRound, IsRoundCut, IsToldBy, PhaseCut, PhaseRan, RoundCut, RoundRan}
 use Rattle.phase_runs.specs.Reps.{bare, reps_of, with_reps}

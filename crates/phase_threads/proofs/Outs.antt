@@ -16,9 +16,9 @@ use Rattle.scenario_lines.specs.declared.script.Line.{Line}
 use Rattle.ticket_desk.specs.Passes.{IsPass}
 use Rattle.ticket_desk.specs.declared.pass.Pass.{Pass}
 use Rattle.ticket_desk.proofs.Public.{pass_stays}
-use Rattle.actor_runs.specs.Runs.{IsOneActor}
-use Rattle.actor_runs.specs.Turns.{actor_standing, turns_in, CanDo, IsCutAt, IsCutShort, Takes, Turn}
-use Rattle.actor_runs.specs.declared.actor_state.ActorState.{ActorState}
+use Rattle.phase_actors.specs.Runs.{IsOneActor}
+use Rattle.phase_actors.specs.Turns.{actor_standing, turns_in, CanDo, IsCutAt, IsCutShort, Takes, Turn}
+use Rattle.phase_actors.specs.declared.actor_state.ActorState.{ActorState}
 use Rattle.phase_runs.specs.Actors.{AreSameActors, CanAllDo}
 use Rattle.phase_runs.proofs.Public.{one_of, same_as}
 use Rattle.phase_threads.specs.Acting.{ActsOut, HasActedOut, IsReady}

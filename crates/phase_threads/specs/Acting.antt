@@ -4,9 +4,9 @@ use Rattle.bbs_model.specs.PortView.{PortView}
 use Rattle.crash_backoff.specs.declared.moment.Moment.{Moment}
 use Rattle.scenario_lines.specs.declared.answered.Answered.{Answered}
 use Rattle.scenario_lines.specs.declared.script.Line.{Line}
-use Rattle.actor_runs.specs.Runs.{IsOneActor}
-use Rattle.actor_runs.specs.Turns.{actor_standing, turns_in, CanDo, IsCutShort, Takes}
-use Rattle.actor_runs.specs.declared.actor_state.ActorState.{ActorState}
+use Rattle.phase_actors.specs.Runs.{IsOneActor}
+use Rattle.phase_actors.specs.Turns.{actor_standing, turns_in, CanDo, IsCutShort, Takes}
+use Rattle.phase_actors.specs.declared.actor_state.ActorState.{ActorState}
 use Rattle.phase_threads.specs.declared.acting.Acting.{Acting}
 
 -- the actor with that number did all of its lines, with these answers, or memory ran out and it did the first of them

@@ -12,8 +12,8 @@ use Rattle.scenario_lines.specs.declared.answered.Answered.{Answered}
 use Rattle.scenario_lines.specs.declared.script.Line.{Line}
 use Rattle.ticket_desk.specs.Passes.{AreAll, IsPass}
 use Rattle.ticket_desk.specs.declared.pass.Pass.{Pass}
-use Rattle.actor_runs.specs.Turns.{actor_standing, turns_in, IsCutShort, Takes}
-use Rattle.actor_runs.specs.declared.actor_state.ActorState.{ActorState}
+use Rattle.phase_actors.specs.Turns.{actor_standing, turns_in, IsCutShort, Takes}
+use Rattle.phase_actors.specs.declared.actor_state.ActorState.{ActorState}
 use Rattle.phase_runs.specs.Actors.{AreSameActors}
 use Rattle.phase_threads.specs.Acting.{HasActedOut}
 use Rattle.phase_threads.specs.declared.acting.Acting.{Acting}

@@ -2,10 +2,10 @@
 ghost use Rattle.std.specs.Prelude.{◌≡◌};
 ghost use Rattle.phase_threads.specs.Acting.{ActsOut, IsReady};
 
-use actor_runs::{ActorState, GatedPort};
 use bbs_model::Port;
 use byte_ports::Gate;
 use crash_backoff::Moment;
+use phase_actors::{ActorState, GatedPort};
 use scenario_lines::{Answered, Line};
 use std::alloc::Global;
 

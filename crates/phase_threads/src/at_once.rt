@@ -4,11 +4,11 @@ ghost use Rattle.phase_threads.specs.Acting.{ActsOut, IsReady};
 ghost use Rattle.phase_threads.specs.declared.acting.Acting.{Acting};
 
 use crate::acting::{Acting, act_out};
-use actor_runs::GatedPort;
 use bbs_model::Port;
 use busy_threads::for_each_busy;
 use byte_ports::Gate;
 use crash_backoff::Moment;
+use phase_actors::GatedPort;
 use scenario_lines::Line;
 use std::alloc::Global;
 use std::thread::Threads;

@@ -3,11 +3,11 @@ ghost use Rattle.std.specs.Prelude.{◌≡◌, ◌+◌, ◌≤◌, [], length, v
 ghost use Rattle.phase_threads.specs.Sharing.{AreOwn, AtEach, IsSet};
 
 use crate::acting::Acting;
-use actor_runs::{ActorState, GatedPort};
 use bbs_shared::{BoardPass, SharedBoard, SharedPort};
 use byte_ports::Gate;
 use cell_rep::CellRep;
 use disk_trait::Disk;
+use phase_actors::{ActorState, GatedPort};
 use std::alloc::Global;
 use std::mem;
 use std::sync::Wait;

@@ -4,11 +4,11 @@ ghost use Rattle.std.specs.List.{list_any};
 
 use crate::acting::Acting;
 use crate::dealing::Way;
-use actor_runs::{ActorState, GatedPort};
 use bbs_shared::BoardPass;
 use byte_ports::Gate;
 use diego_names::List;
 use disk_trait::Disk;
+use phase_actors::{ActorState, GatedPort};
 use scenario_lines::Answered;
 use std::sync::Wait;
 

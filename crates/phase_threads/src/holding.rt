@@ -2,13 +2,13 @@
 ghost use Rattle.std.specs.Prelude.{◌≡◌};
 ghost use Rattle.phase_threads.specs.Holding.{IsEndOfRound, IsHeld};
 
-use actor_runs::GatedPort;
 use bbs_model::{CallFault, Port};
 use byte_ports::Gate;
 use cell_rep::CellRep;
 use convergence::Report;
 use crash_backoff::Moment;
 use diego_names::OutOfMemory;
+use phase_actors::GatedPort;
 use phase_runs::round_over;
 use scenario_lines::RoundLine;
 use std::alloc::Global;

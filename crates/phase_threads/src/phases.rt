@@ -6,12 +6,12 @@ ghost use Rattle.phase_threads.specs.Clients.{are_of_clients};
 
 use crate::actors::run_actors;
 use crate::with_round::{Together, run_with_round};
-use actor_runs::ActorState;
 use bbs_board::Board;
 use bbs_shared::SharedBoard;
 use byte_ports::Gate;
 use diego_names::OutOfMemory;
 use disk_trait::Disk;
+use phase_actors::ActorState;
 use phase_runs::{Ran, put_reps, take_reps};
 use scenario_lines::{Line, Phase, RoundLine};
 use std::alloc::Global;

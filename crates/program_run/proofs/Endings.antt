@@ -8,11 +8,11 @@ use Rattle.disk_trait.specs.Past.{Past}
 use Rattle.disk_trait.specs.Shows.{KeepsContent}
 use Rattle.disk_trait.specs.Steps.{Goes}
 use Rattle.bbs_model.specs.declared.rows.Rows.{Rows}
-use Rattle.program_edge.specs.Ending.{EndsAs, line_of, status_of}
-use Rattle.program_edge.specs.Opening.{EndsUnopened, Opens, is_before_board}
-use Rattle.program_edge.specs.Ports.{Ports, Prints}
-use Rattle.program_edge.specs.declared.ending.Ending.{Ending}
-use Rattle.program_edge.specs.declared.ending.Ending.TheVariants as ending
+use Rattle.program_ends.specs.Ending.{EndsAs, line_of, status_of}
+use Rattle.program_ends.specs.Opening.{EndsUnopened, Opens, is_before_board}
+use Rattle.program_ends.specs.Ports.{Ports, Prints}
+use Rattle.program_ends.specs.declared.ending.Ending.{Ending}
+use Rattle.program_ends.specs.declared.ending.Ending.TheVariants as ending
 use Rattle.scenario_lines.specs.declared.script.Script.{Script}
 use Rattle.scenario_reader.specs.declared.fault.ScriptFault.{ScriptFault}
 use Rattle.program_run.specs.Reading.{ReadsScript, ReadsWhole, is_read, limit}

@@ -7,13 +7,13 @@ use Rattle.convergence.specs.declared.report.Report.{Report}
 use Rattle.converge_round.specs.Each.{Each}
 use Rattle.phase_runs.specs.Boards.{BoardGoesOn}
 use Rattle.phase_runs.proofs.Public.{goes_further, goes_nowhere}
-use Rattle.program_edge.specs.declared.ending.Ending.{Ending}
-use Rattle.program_edge.specs.declared.ending.Ending.TheVariants as ending
+use Rattle.program_ends.specs.declared.ending.Ending.{Ending}
+use Rattle.program_ends.specs.declared.ending.Ending.TheVariants as ending
 use Rattle.scenario_lines.specs.declared.answered.Answered.{Answered}
 use Rattle.scenario_lines.specs.declared.script.Phase.{Phase}
 use Rattle.scenario_lines.specs.declared.script.Script.{Script}
-use Rattle.scenario_runs.specs.Courses.{beginning, PlaysPhase, RunCourse}
-use Rattle.scenario_runs.specs.Plays.{EndsAt, IsUntold, Plays, PlaysCut, PlaysPart}
+use Rattle.scenario_player.specs.Courses.{beginning, PlaysPhase, RunCourse}
+use Rattle.scenario_player.specs.Plays.{EndsAt, IsUntold, Plays, PlaysCut, PlaysPart}
 
 module _ {D : Type 0} (told : D → Option Past) (script : Script) where
   abbrev pub GoesFrom : View D → View D → Type 0

@@ -13,10 +13,10 @@ use Rattle.bbs_board.specs.Kept.{Kept}
 use Rattle.bbs_board.specs.View.{View, IsFresh, rows_of}
 use Rattle.bbs_board.specs.Written.{WritesOn}
 use Rattle.phase_runs.specs.Boards.{BoardGoesOn}
-use Rattle.program_edge.specs.Ports.{Ports}
-use Rattle.program_edge.specs.declared.ending.Ending.{Ending}
+use Rattle.program_ends.specs.Ports.{Ports}
+use Rattle.program_ends.specs.declared.ending.Ending.{Ending}
 use Rattle.scenario_lines.specs.declared.script.Script.{Script}
-use Rattle.scenario_runs.specs.Plays.{Plays}
+use Rattle.scenario_player.specs.Plays.{Plays}
 use Rattle.program_run.specs.Runs.{IsOn, PlaysOn}
 use Rattle.program_run.specs.declared.ended.Ended.{Ended}
 use Rattle.program_run.proofs.Goings.{plays_goes}

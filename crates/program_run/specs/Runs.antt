@@ -12,13 +12,13 @@ use Rattle.bbs_board.specs.Doubts.{doubts_in, RoseForEach}
 use Rattle.bbs_board.specs.Kept.{Kept}
 use Rattle.bbs_board.specs.View.{View, IsFresh}
 use Rattle.bbs_board.specs.Written.{WritesOn}
-use Rattle.program_edge.specs.Opening.{EndsUnopened, EndsUntouched, Opens}
-use Rattle.program_edge.specs.Ports.{Ports}
-use Rattle.program_edge.specs.declared.ending.Ending.{Ending}
-use Rattle.program_edge.specs.declared.ending.Ending.TheVariants as ending
+use Rattle.program_ends.specs.Opening.{EndsUnopened, EndsUntouched, Opens}
+use Rattle.program_ends.specs.Ports.{Ports}
+use Rattle.program_ends.specs.declared.ending.Ending.{Ending}
+use Rattle.program_ends.specs.declared.ending.Ending.TheVariants as ending
 use Rattle.scenario_lines.specs.declared.script.Script.{Script}
 use Rattle.scenario_reader.specs.Facts.{IsScript}
-use Rattle.scenario_runs.specs.Plays.{Plays}
+use Rattle.scenario_player.specs.Plays.{Plays}
 use Rattle.program_run.specs.Reading.{ReadsWhole, limit}
 use Rattle.program_run.specs.declared.ended.Ended.{Ended}
 

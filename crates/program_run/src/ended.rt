@@ -4,7 +4,7 @@ ghost use Rattle.program_run.specs.Runs.{IsEmpty};
 
 use bbs_model::Item;
 use convergence::Report;
-use program_edge::Ending;
+use program_ends::Ending;
 use scenario_lines::Answered;
 use std::alloc::Global;
 

@@ -5,7 +5,7 @@ ghost use Rattle.scenario_reader.specs.Facts.{IsScript};
 ghost use Rattle.program_run.specs.Reading.{ReadsScript, is_unread, script_ending};
 
 use byte_ports::{ReadFault, Source, read_whole};
-use program_edge::Ending;
+use program_ends::Ending;
 use scenario_lines::Script;
 use scenario_reader::{ScriptFault, read_script};
 use std::alloc::Global;

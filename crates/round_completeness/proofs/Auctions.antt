@@ -32,7 +32,7 @@ use Rattle.lrp_records.specs.declared.presence.Presence.{Presence}
 use Rattle.lrp_records.specs.declared.presence.Presence.TheVariants.{Ordinary, Evacuating}
 use Rattle.lrp_records.specs.declared.state.LrpState.{LrpState}
 use Rattle.lrp_records.specs.declared.state.LrpState.TheVariants as lrp
-use Rattle.round_laws.proofs.Public.{from_table, differ_pairs, one_of_name, instance_named}
+use Rattle.round_theorem.proofs.Public.{from_table, differ_pairs, one_of_name, instance_named}
 use Rattle.row_tables.proofs.Public.{find_row-Contains}
 use Rattle.task_records.specs.declared.state.TaskState.{TaskState}
 use Rattle.task_records.specs.declared.state.TaskState.TheVariants as task

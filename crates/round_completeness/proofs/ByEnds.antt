@@ -14,7 +14,7 @@ use Rattle.converge_round.specs.Reps.{names_of}
 use Rattle.converge_round.specs.Stops.{stops_at, so_far}
 use Rattle.converge_round.specs.Tallies.{no_calls}
 use Rattle.converge_round.specs.declared.tally.Tally.{Tally}
-use Rattle.round_laws.proofs.Public.{are-heard, heard_cell, heard_named, in_course, lost_each}
+use Rattle.round_theorem.proofs.Public.{are-heard, heard_cell, heard_named, in_course, lost_each}
 use Rattle.round_completeness.specs.Ends.{AreHeardByEnds, RoundsLoseByTheEnds}
 use Rattle.round_completeness.proofs.Ready.{are-ready}
 use Rattle.round_completeness.proofs.StartsTold.{serves-so}

@@ -20,8 +20,8 @@ use Rattle.converge_round.specs.Starts.{serving}
 use Rattle.converge_round.specs.declared.placing.Places.{Places}
 use Rattle.converge_round.proofs.Public.{name_there, rep_there}
 use Rattle.crash_backoff.specs.declared.moment.Moment.{Moment}
-use Rattle.round_laws.specs.Losses.{declined_at, declined_among}
-use Rattle.round_laws.proofs.Public.{Differ}
+use Rattle.round_theorem.specs.Losses.{declined_at, declined_among}
+use Rattle.round_theorem.proofs.Public.{Differ}
 use Rattle.round_completeness.specs.Rooms.{AllFindRoom}
 use Rattle.round_completeness.proofs.Stores.{IsFree, within_itself}
 use Rattle.round_completeness.proofs.StartsFit.{starts-fit}

@@ -26,7 +26,7 @@ use Rattle.converge_round.specs.Stops.{StopsIf, LetsGo, if_done, Stopped, StopsO
 use Rattle.converge_round.proofs.Public.{name_there}
 use Rattle.diego_names.specs.declared.instance.Instance.{Instance}
 use Rattle.lrp_records.specs.States.{is_same_instance}
-use Rattle.round_laws.proofs.Public.{cell_stays, names_after}
+use Rattle.round_theorem.proofs.Public.{cell_stays, names_after}
 use Rattle.round_completeness.specs.Left.{answer_with, less_one, less_all}
 use Rattle.round_completeness.proofs.CellsFit.{stood_before}
 

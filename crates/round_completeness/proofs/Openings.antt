@@ -17,7 +17,7 @@ use Rattle.converge_round.specs.Places.{is_being_emptied, OpensIf, OpensOne}
 use Rattle.converge_round.specs.Reps.{names_of, StandsFor}
 use Rattle.converge_round.specs.Stops.{stops_at, so_far}
 use Rattle.diego_names.specs.declared.instance.Instance.{Instance}
-use Rattle.round_laws.proofs.Public.{are-heard, heard_cell, heard_named}
+use Rattle.round_theorem.proofs.Public.{are-heard, heard_cell, heard_named}
 use Rattle.round_completeness.specs.Left.{less_all, left_open, RoundsAuctionWhatIsLeft}
 use Rattle.round_completeness.proofs.CellsFit.{heard_rep}
 use Rattle.round_completeness.proofs.Lessened.{Answers, IsSoundAs, are-lessened, cell_of_all, epoch_of_all, sound_all}

@@ -17,7 +17,7 @@ use Rattle.converge_round.specs.Stops.{stops_at, Stopped, StopsOne, so_far}
 use Rattle.converge_round.proofs.Public.{open_answers}
 use Rattle.crash_backoff.specs.declared.moment.Moment.{Moment}
 use Rattle.diego_names.specs.declared.instance.Instance.{Instance}
-use Rattle.round_laws.proofs.Public.{Differ, differ_pairs, heard_cell, heard_named, is-roomy, names_after}
+use Rattle.round_theorem.proofs.Public.{Differ, differ_pairs, heard_cell, heard_named, is-roomy, names_after}
 use Rattle.round_completeness.specs.Rooms.{AllFindRoom, RoundsDeclineNoStart}
 use Rattle.round_completeness.proofs.Auctions.{have-room}
 use Rattle.round_completeness.proofs.CellsFit.{HasAnswered, has-answered, serves-fit}

@@ -28,8 +28,8 @@ use Rattle.converge_round.specs.Sendings.{WireAt}
 use Rattle.converge_round.specs.Starts.{Serving, HasNoFault, TakesIf, StartsOne}
 use Rattle.crash_backoff.specs.declared.moment.Moment.{Moment}
 use Rattle.diego_names.specs.declared.instance.Instance.{Instance}
-use Rattle.round_laws.specs.Losses.{declined_end, declined_if, declined_on}
-use Rattle.round_laws.proofs.Public.{cell_stays}
+use Rattle.round_theorem.specs.Losses.{declined_end, declined_if, declined_on}
+use Rattle.round_theorem.proofs.Public.{cell_stays}
 use Rattle.round_completeness.specs.Rooms.{FindsRoom, AllFindRoom}
 use Rattle.round_completeness.proofs.Stores.{IsFree, weaker_free, room_made, held_free, gone_free}
 

@@ -28,8 +28,8 @@ use Rattle.converge_round.specs.Tallies.{lost_one}
 use Rattle.converge_round.specs.declared.placing.Places.{Places}
 use Rattle.converge_round.specs.declared.tally.Tally.{Tally}
 use Rattle.crash_backoff.specs.declared.moment.Moment.{Moment}
-use Rattle.round_laws.specs.Losses.{declined_end}
-use Rattle.round_laws.proofs.Public.{Differ, lost_noted, names_set}
+use Rattle.round_theorem.specs.Losses.{declined_end}
+use Rattle.round_theorem.proofs.Public.{Differ, lost_noted, names_set}
 use Rattle.round_completeness.specs.Ends.{gets_through, starts_lost}
 use Rattle.round_completeness.specs.Rooms.{FindsRoom, AllFindRoom}
 use Rattle.round_completeness.proofs.CellsFit.{HasAnswered, serve_fits}

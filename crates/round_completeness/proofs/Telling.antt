@@ -23,7 +23,7 @@ use Rattle.converge_round.specs.Reps.{names_of}
 use Rattle.converge_round.specs.Sendings.{WireAt, IsSent}
 use Rattle.converge_round.specs.Stops.{StopsIf, if_done, Stopped, StopsOne}
 use Rattle.diego_names.specs.declared.instance.Instance.{Instance}
-use Rattle.round_laws.proofs.Public.{names_after}
+use Rattle.round_theorem.proofs.Public.{names_after}
 use Rattle.round_completeness.specs.Ends.{gets_through, AreHeardByEnds, is_stopped}
 
 -- the wire tells these ends, whatever the number

@@ -21,8 +21,8 @@ use Rattle.converge_round.specs.Reps.{names_of}
 use Rattle.converge_round.specs.Rounds.{Standing, IsRound}
 use Rattle.converge_round.specs.declared.placing.Places.{Places}
 use Rattle.crash_backoff.specs.declared.moment.Moment.{Moment}
-use Rattle.round_laws.specs.Losses.{mute_if, mute_among, mute_of}
-use Rattle.round_laws.proofs.Public.{alone-refused, has-causes}
+use Rattle.round_theorem.specs.Losses.{mute_if, mute_among, mute_of}
+use Rattle.round_theorem.proofs.Public.{alone-refused, has-causes}
 use Rattle.round_completeness.specs.Completeness.{IsCountSame, TellsThrough, IsUndisturbed, RoundsThatNothingDisturbsAreComplete}
 use Rattle.round_completeness.specs.Ends.{gets_through, AreHeardByEnds, is_stopped, starts_lost}
 use Rattle.round_completeness.proofs.ByEnds.{by-ends}

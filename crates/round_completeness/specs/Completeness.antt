@@ -17,8 +17,8 @@ use Rattle.converge_round.specs.Reps.{names_of}
 use Rattle.converge_round.specs.Rounds.{Standing, IsRound}
 use Rattle.converge_round.specs.Sendings.{WireAt}
 use Rattle.crash_backoff.specs.declared.moment.Moment.{Moment}
-use Rattle.round_laws.specs.Complete.{IsComplete}
-use Rattle.round_laws.specs.Lacks.{IsLack}
+use Rattle.round_theorem.specs.Complete.{IsComplete}
+use Rattle.round_theorem.specs.Lacks.{IsLack}
 
 -- the wire's count of losses hasn't risen, and can still rise
 pub record IsCountSame (before after : WireAt) : Type 0 where

@@ -14,7 +14,7 @@ use Rattle.converge_round.specs.Places.{placements, jobs_on}
 use Rattle.converge_round.specs.Reps.{names_of}
 use Rattle.converge_round.specs.Rounds.{Standing, IsRound}
 use Rattle.crash_backoff.specs.declared.moment.Moment.{Moment}
-use Rattle.round_laws.specs.Losses.{declined_of}
+use Rattle.round_theorem.specs.Losses.{declined_of}
 
 -- the job finds room in what is free
 pub record FindsRoom (free : Amounts) (job : Job) : Type 0 where

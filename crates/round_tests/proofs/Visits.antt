@@ -16,7 +16,7 @@ use Rattle.bbs_model.specs.declared.rows.Rows.{Rows}
 use Rattle.bbs_model.proofs.Public.{called_alone}
 use Rattle.bbs_board.specs.Calls.{Grows}
 use Rattle.bbs_board.specs.View.{View, rows_of}
-use Rattle.sole_port.specs.Went.{seen_of}
+use Rattle.board_port.specs.Went.{seen_of}
 
 -- what the first caller adds is its own
 own_added : (end : Result Reply CallFault) (c : Command) → by_number 7 (added end 7 c) ≡ added end 7 c

@@ -5,17 +5,17 @@ mod faults;
 mod shown;
 
 ghost use Rattle.std.specs.Prelude.{◌≢◌, Some, map, string_bytes};
-ghost use Rattle.still_words.specs.Words.{asked_of};
-ghost use Rattle.still_words.specs.declared.words.Asked.TheVariants as wanted;
+ghost use Rattle.program_tools.specs.Words.{asked_of};
+ghost use Rattle.program_tools.specs.declared.words.Asked.TheVariants as wanted;
 
 use crate::given::{
     Given, Left, areas_disk, ends, holds, left_of, sink_of, source_of, tells_nothing, words_of,
 };
 use byte_ports::Sink;
 use disk_trait::Disk;
+use program_tools::{Asked, read_words, still_top};
 use std::alloc::Global;
 use std::process::Abort;
-use still_words::{Asked, read_words, still_top};
 
 // The words, which must not ask for a run.
 fn still_words_of(rt: &impl Abort, alloc: Global, texts: &[&str]) -> Vec<String>

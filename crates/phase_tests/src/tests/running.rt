@@ -2,12 +2,12 @@
 ghost use Rattle.std.specs.Prelude.{◌≡◌};
 ghost use Rattle.phase_threads.specs.Clients.{are_of_clients};
 
-use actor_runs::ActorState;
 use bbs_board::Board;
 use byte_ports::Gate;
 use convergence::Report;
 use diego_names::Name;
 use disk_trait::Disk;
+use phase_actors::ActorState;
 use phase_runs::Ran;
 use phase_threads::run_phase;
 use scenario_lines::Phase;

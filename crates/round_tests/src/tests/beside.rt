@@ -1,6 +1,6 @@
 //! A board that another caller calls once, in the midst of what its caller does.
 ghost use Rattle.bbs_model.specs.PortView.{Looks};
-ghost use Rattle.sole_port.specs.Went.{seen_of};
+ghost use Rattle.board_port.specs.Went.{seen_of};
 
 use super::boards::CALLER;
 use bbs_board::Board;
@@ -43,7 +43,7 @@ fn pay_visit_if<D: Disk>(board: &mut Board<D>, is_time: bool, visit: Command)
 }
 
 impl<'a, D: Disk> Port for BesidePort<'a, D> {
-    ghost use Rattle.sole_port.specs.Went.{seen_of};
+    ghost use Rattle.board_port.specs.Went.{seen_of};
 
     ghost view = { λ p. seen_of 7 p.board.now };
 

@@ -4,8 +4,8 @@ use super::playing::{Played, Told, play};
 use super::turns::Turn;
 use bbs_board::{Board, Closed, load};
 use bbs_model::{Command, Item};
+use board_port::SolePort;
 use disk_trait::{Disk, MemoryDisk};
-use sole_port::SolePort;
 use std::alloc::Global;
 use std::test::Fail;
 

@@ -7,10 +7,10 @@ use super::turns::{round_over, whole_round};
 use super::*;
 use bbs_board::Board;
 use bbs_model::{CallFault, Command, Item, Port};
+use board_port::SolePort;
 use cell_rep::CellRep;
 use disk_trait::Disk;
 use lrp_records::Desired;
-use sole_port::SolePort;
 
 // Nothing is lost.
 const THROUGH: (u64, Delivery) = (1, Delivery::Through);

@@ -1,6 +1,6 @@
 use Rattle.std.proofs.Common.{sym, ◌∙◌, ap, ℕ, inl, inr}
 use Rattle.std.specs.Prelude.{◌==◌}
-use Rattle.program_edge.specs.Opening.{is_before_board}
+use Rattle.program_ends.specs.Opening.{is_before_board}
 use Rattle.diego_engine.proofs.Exactly.{reached_from, stopped_from, no_board_from, too_much_from}
 use Rattle.diego_engine.proofs.Faithful.{headline_from}
 use Rattle.diego_engine.proofs.Recoveries.{doubts_from}

@@ -1,6 +1,6 @@
 use Rattle.std.proofs.Common.{◌≡◌, Some, map, string_bytes, rules}
-use Rattle.still_words.specs.Words.{asked_of}
-use Rattle.still_words.specs.declared.words.Asked.TheVariants.{Run}
+use Rattle.program_tools.specs.Words.{asked_of}
+use Rattle.program_tools.specs.declared.words.Asked.TheVariants.{Run}
 use Rattle.diego_engine.proofs.top.whole_top.Goals as goal
 
 pub returns-clause-ends : goal.returns-clause-ends

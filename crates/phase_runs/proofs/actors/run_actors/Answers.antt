@@ -1,7 +1,7 @@
 use Rattle.std.proofs.Common.{◌+◌, get_or, set, List, [], ◌∷◌, ◌++◌, ap, subst, sym, ◌∙◌}
 use Rattle.scenario_lines.specs.declared.answered.Answered.{Answered}
-use Rattle.actor_runs.specs.Turns.{actor_standing, Takes, turns_in}
-use Rattle.sole_port.specs.Went.{seen_of}
+use Rattle.phase_actors.specs.Turns.{actor_standing, Takes, turns_in}
+use Rattle.board_port.specs.Went.{seen_of}
 use Rattle.phase_runs.specs.Actors.{FirstRan}
 use Rattle.phase_runs.proofs.InTurn.{none_ran, one_can, one_ran, one_cut, ran_then_cut}
 use Rattle.phase_runs.proofs.actors.run_actors.Goals as goal

@@ -1,7 +1,7 @@
 use Rattle.std.proofs.Common.{List, Some, None, ◌∙◌, subst}
 use Rattle.cell_rep.specs.declared.rep.CellRep.{CellRep}
 use Rattle.converge_round.specs.Items.{HasItems}
-use Rattle.sole_port.specs.Went.{seen_of}
+use Rattle.board_port.specs.Went.{seen_of}
 use Rattle.phase_runs.specs.Reps.{reps_of}
 use Rattle.phase_runs.specs.Rounds.{RoundOf}
 use Rattle.phase_runs.proofs.PutBack.{put_after}

@@ -1,7 +1,7 @@
 use Rattle.std.proofs.Common.{◌++◌, List, take, get_or, ap, sym, ◌∙◌, arith}
 use Rattle.std.specs.Option.{option_to_list}
 use Rattle.cell_rep.specs.declared.rep.CellRep.{CellRep}
-use Rattle.actor_runs.specs.declared.actor_state.ActorState.{ActorState}
+use Rattle.phase_actors.specs.declared.actor_state.ActorState.{ActorState}
 use Rattle.phase_runs.specs.Reps.{rep_of, reps_of}
 use Rattle.phase_runs.proofs.Cells.{more_bare, more_reps, next_is}
 use Rattle.phase_runs.proofs.reps.take_reps.Goals as goal

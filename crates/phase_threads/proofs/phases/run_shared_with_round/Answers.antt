@@ -3,7 +3,7 @@ use Rattle.std.proofs.Common.{◌≡◌, List, Result, Ok, Err, IfOk, OnErr, len
 use Rattle.std.proofs.lemmas.List.{length-map}
 use Rattle.cell_rep.specs.declared.rep.CellRep.{CellRep}
 use Rattle.scenario_lines.specs.declared.script.Line.{Line}
-use Rattle.actor_runs.specs.declared.actor_state.ActorState.{ActorState}
+use Rattle.phase_actors.specs.declared.actor_state.ActorState.{ActorState}
 use Rattle.phase_runs.specs.Actors.{CanAllDo}
 use Rattle.phase_runs.specs.Phases.{PhaseCut, PhaseRan}
 use Rattle.phase_runs.specs.Reps.{bare}

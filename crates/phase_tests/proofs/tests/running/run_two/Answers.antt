@@ -7,9 +7,9 @@ use Rattle.scenario_lines.specs.Acts.{is_of_cell}
 use Rattle.scenario_lines.specs.declared.act.Act.{Act}
 use Rattle.scenario_lines.specs.declared.act.Act.TheVariants as act
 use Rattle.scenario_lines.specs.declared.script.Line.{Line}
-use Rattle.actor_runs.specs.Runs.{IsActOf}
-use Rattle.actor_runs.specs.Turns.{lines_by}
-use Rattle.actor_runs.specs.declared.actor_state.ActorState.TheVariants.{Client}
+use Rattle.phase_actors.specs.Runs.{IsActOf}
+use Rattle.phase_actors.specs.Turns.{lines_by}
+use Rattle.phase_actors.specs.declared.actor_state.ActorState.TheVariants.{Client}
 use Rattle.phase_runs.specs.Actors.{CanAllDo}
 use Rattle.phase_runs.proofs.Public.{one_of}
 use Rattle.phase_threads.specs.Clients.{are_of_clients}

@@ -1,4 +1,4 @@
-use Rattle.sole_port.specs.Went.{seen_of}
+use Rattle.board_port.specs.Went.{seen_of}
 use Rattle.round_tests.proofs.Visits.{own_called, looks_called}
 use Rattle.round_tests.proofs.tests.beside.BesidePortPort.call.Goals as goal
 

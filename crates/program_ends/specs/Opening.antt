@@ -1,0 +1,62 @@
+-- How the opening of the board ends, and what ends before it or without it.
+use Rattle.std.specs.Prelude.{◌≡◌, ℕ, ◌==◌, ◌||◌, Bool, true, false, Some}
+use Rattle.byte_ports.specs.Cause.{HasCause}
+use Rattle.disk_trait.specs.Past.{Past, Image}
+use Rattle.disk_trait.specs.Shows.{Shows, KeepsContent, Secures}
+use Rattle.disk_trait.specs.Steps.{Goes}
+use Rattle.bbs_journal.specs.declared.load_fault.LoadFault.{LoadFault}
+use Rattle.bbs_journal.specs.declared.load_fault.LoadFault.TheVariants as fault
+use Rattle.bbs_model.specs.declared.rows.Rows.{Rows}
+use Rattle.bbs_board.specs.Opening.{IsBoard, IsRefused}
+use Rattle.program_ends.specs.Ending.{line_of}
+use Rattle.program_ends.specs.Ports.{Ports, IsTold, Prints}
+use Rattle.program_ends.specs.declared.ending.Ending.{Ending}
+use Rattle.program_ends.specs.declared.ending.Ending.TheVariants as ending
+
+-- with this status the program ends before it looks at the disk
+abbrev pub is_before_board : ℕ → Bool
+is_before_board status = (status == 1) || ((status == 2) || ((status == 3) || (status == 8)))
+
+-- the program ended with this line, and the disk is untouched
+pub record EndsUntouched (how : Ending) (v w : Ports) : Type 0 where
+  pub told : w.told ≡ v.told
+  pub faults : w.disk_faults ≡ v.disk_faults
+  pub whole : Bool
+  pub prints : Prints whole (line_of how) v w
+
+-- the program ended with this line; the disk failed or not, and a read gives what it gave
+pub record EndsEarly (failed : Bool) (how : Ending) (v w : Ports) : Type 0 where
+  pub rests : Goes v.told w.told KeepsContent
+  pub cause : HasCause failed v.disk_faults w.disk_faults
+  pub whole : Bool
+  pub prints : Prints whole (line_of how) v w
+
+-- no board was loaded, for this fault, which the content of a disk explains that tells its past to the end
+pub record EndsRefused (why : LoadFault) (how : Ending) (v w : Ports) : Type 0 where
+  pub early : EndsEarly false how v w
+  pub refused : (image : Image) → Shows v.told image → IsTold w.told → IsRefused why image
+
+-- how the program ends that opened no board
+abbrev pub EndsUnopened : Ending → Ports → Ports → Type 0
+EndsUnopened ending.Unopened v w = EndsEarly true ending.Unopened v w
+EndsUnopened (ending.NotABoard area) v w = EndsRefused (fault.NotABoard area) (ending.NotABoard area) v w
+EndsUnopened (ending.Damaged area at) v w = EndsRefused (fault.Damaged area at) (ending.Damaged area at) v w
+EndsUnopened ending.OutOfMemory v w = EndsEarly false ending.OutOfMemory v w
+EndsUnopened other v w = ⊥
+
+-- how it ends whose load came to this fault
+abbrev pub ending_for : LoadFault → Ending
+ending_for fault.Disk = ending.Unopened
+ending_for (fault.NotABoard area) = ending.NotABoard area
+ending_for (fault.Damaged area at) = ending.Damaged area at
+ending_for fault.OutOfMemory = ending.OutOfMemory
+
+-- a board with these rows was loaded, which the disk shows; it shows what it showed, no stop leaves anything else,
+-- no fault was counted, and nothing was printed
+pub record Opens (rows : Rows) (v w : Ports) : Type 0 where
+  pub found : (image : Image) → Shows w.told image → IsBoard rows image
+  pub still : (image : Image) → Shows v.told image → IsTold w.told → Shows w.told image
+  pub timed : (q : Past) → w.told ≡ Some q → q.clock ≡ w.clock
+  pub secures : Goes v.told w.told Secures
+  pub same_sink : (w.held ≡ v.held) × (w.write_faults ≡ v.write_faults)
+  pub no_fault : w.disk_faults ≡ v.disk_faults

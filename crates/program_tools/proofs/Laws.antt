@@ -1,0 +1,266 @@
+-- What each status says, from how the words end that ask for no run.
+use Rattle.std.proofs.Common.{◌≡◌, ◌⊎◌, ◌∙◌, ◌≤◌, ℕ, true, [], Option, Some, None, Err, refl, sym, ap, subst, inl, inr, arith}
+use Rattle.byte_ports.specs.Cause.{Rose}
+use Rattle.disk_trait.proofs.Public.{goes_weaker}
+use Rattle.disk_trait.specs.Past.{Past, Image}
+use Rattle.disk_trait.specs.Shows.{Shows}
+use Rattle.disk_trait.specs.Steps.{Goes}
+use Rattle.disk_trait.specs.declared.area.Area.TheVariants.{A, B}
+use Rattle.bbs_board.specs.Opening.{IsBoard, IsRefused}
+use Rattle.bbs_board.proofs.Public.{not_refused}
+use Rattle.bbs_journal.specs.Preparing.{FindsBytes, Prepares, PreparesBy}
+use Rattle.bbs_journal.specs.declared.load_fault.LoadFault.{LoadFault}
+use Rattle.bbs_journal.specs.declared.load_fault.LoadFault.TheVariants as fault
+use Rattle.bbs_journal.specs.declared.preparing.PrepareFault.TheVariants.{NotEmpty}
+use Rattle.program_ends.specs.Ending.{status_of}
+use Rattle.program_ends.specs.Opening.{EndsUnopened, is_before_board}
+use Rattle.program_ends.specs.Ports.{Ports, IsTold}
+use Rattle.program_ends.specs.declared.ending.Ending.{Ending}
+use Rattle.program_ends.specs.declared.ending.Ending.TheVariants as ending
+use Rattle.bbs_model.specs.declared.rows.Rows.{Rows}
+use Rattle.program_tools.specs.Still.{StillEnds, RecordsEnds, CheckEnds, PrepareEnds, UsageEnds, MeetsBoard, MeetsBytes, MeetsNoBoard, MeetsObstacle, MeetsStill, IsStopped}
+use Rattle.program_tools.specs.declared.words.Asked.{Asked}
+use Rattle.program_tools.specs.declared.words.Asked.TheVariants as asked
+
+module _ (v w : Ports) where
+  -- ---- each word by itself: which endings it has
+
+  prepare_opens : (how : Ending) → is_before_board (status_of how) ≡ true → PrepareEnds how v w → ⊥
+  prepare_opens ending.Usage n h = absurd h
+  prepare_opens (ending.Script why) n h = absurd h
+  prepare_opens ending.Read n h = absurd h
+  prepare_opens ending.TooLong n h = absurd h
+  prepare_opens how n h = cc
+
+  records_open : (how : Ending) → is_before_board (status_of how) ≡ true → RecordsEnds how v w → ⊥
+  records_open ending.Usage n h = absurd h
+  records_open (ending.Script why) n h = absurd h
+  records_open ending.Read n h = absurd h
+  records_open ending.TooLong n h = absurd h
+  records_open how n h = cc
+
+  check_opens : (how : Ending) → is_before_board (status_of how) ≡ true → CheckEnds how v w → ⊥
+  check_opens ending.Usage n h = absurd h
+  check_opens (ending.Script why) n h = absurd h
+  check_opens ending.Read n h = absurd h
+  check_opens ending.TooLong n h = absurd h
+  check_opens how n h = cc
+
+  -- a word of the grammar looks at the disk
+  pub opens_from : (how : Ending) (what : Option Asked) → is_before_board (status_of how) ≡ true → StillEnds how what v w → what ≡ None
+  opens_from how None n h = refl
+  opens_from how (Some asked.Run) n h = absurd h
+  opens_from how (Some asked.Prepare) n h = absurd (prepare_opens how n h)
+  opens_from how (Some asked.Records) n h = absurd (records_open how n h)
+  opens_from how (Some asked.Check) n h = absurd (check_opens how n h)
+
+  -- what is said of one reading of the words is said of an equal one
+  pub asked_as : (how : Ending) (a b : Option Asked) → a ≡ b → StillEnds how a v w → StillEnds how b v w
+  asked_as how a b same ends = subst (λ (x : Option Asked). StillEnds how x v w) same ends
+
+  -- ---- what each status says
+
+  pub usage_from : (how : Ending) (what : Option Asked) → status_of how ≡ 1 → StillEnds how what v w → what ≡ None
+  usage_from how what n h = opens_from how what (ap is_before_board n) h
+
+  of_none : (how : Ending) → StillEnds how None v w → status_of how ≡ 1
+  of_none ending.Usage h = refl
+  of_none how h = absurd h
+
+  pub usage_to : (how : Ending) (what : Option Asked) → what ≡ None → StillEnds how what v w → status_of how ≡ 1
+  usage_to how (Some x) is h = cc
+  usage_to how None is h = of_none how h
+
+  -- a status from before the opening is that of words outside the grammar, so nothing was taken from the source
+  pub not_of_source : (how : Ending) (what : Option Asked) → is_before_board (status_of how) ≡ true → StillEnds how what v w → status_of how ≡ 1
+  not_of_source how what n h = usage_to how what (opens_from how what n h) h
+
+  pub unwritten_from : (how : Ending) (what : Option Asked) → status_of how ≡ 4 → StillEnds how what v w → Rose v.write_faults w.write_faults
+  unwritten_from ending.Unwritten (Some asked.Records) n (rows, s) = s.prints.cause.rose refl
+  unwritten_from ending.Unwritten (Some asked.Check) n (check, s) = s.prints.cause.rose refl
+  unwritten_from ending.Unwritten (Some asked.Prepare) n h = absurd h
+  unwritten_from ending.Unwritten (Some asked.Run) n h = absurd h
+  unwritten_from ending.Unwritten None n h = absurd h
+  unwritten_from how what n h = absurd (omega (arith, n))
+
+  pub unstored_from : (how : Ending) (what : Option Asked) → status_of how ≡ 5 → StillEnds how what v w → Rose v.disk_faults w.disk_faults
+  unstored_from ending.Unopened (Some asked.Records) n h = h.cause.rose refl
+  unstored_from ending.Unopened (Some asked.Check) n h = h.cause.rose refl
+  unstored_from ending.Unopened (Some asked.Prepare) n h = h.cause.rose refl
+  unstored_from ending.Unopened (Some asked.Run) n h = absurd h
+  unstored_from ending.Unopened None n h = absurd h
+  unstored_from ending.Doubt (Some asked.Records) n h = absurd h
+  unstored_from ending.Doubt (Some asked.Check) n h = absurd h
+  unstored_from ending.Doubt (Some asked.Prepare) n h = absurd h
+  unstored_from ending.Doubt (Some asked.Run) n h = absurd h
+  unstored_from ending.Doubt None n h = absurd h
+  unstored_from how what n h = absurd (omega (arith, n))
+
+  pub refused_from : (how : Ending) (what : Option Asked) → status_of how ≡ 6 → StillEnds how what v w
+      → (why : LoadFault) × (w.disk_faults ≡ v.disk_faults) × ((image : Image) → Shows v.told image → IsTold w.told → IsRefused why image)
+  refused_from (ending.NotABoard area) (Some asked.Records) n h = (fault.NotABoard area, h.early.cause.stood refl, h.refused)
+  refused_from (ending.NotABoard area) (Some asked.Check) n h = (fault.NotABoard area, h.early.cause.stood refl, h.refused)
+  refused_from (ending.NotABoard area) (Some asked.Prepare) n h = absurd h
+  refused_from (ending.NotABoard area) (Some asked.Run) n h = absurd h
+  refused_from (ending.NotABoard area) None n h = absurd h
+  refused_from (ending.Damaged area at) (Some asked.Records) n h = (fault.Damaged area at, h.early.cause.stood refl, h.refused)
+  refused_from (ending.Damaged area at) (Some asked.Check) n h = (fault.Damaged area at, h.early.cause.stood refl, h.refused)
+  refused_from (ending.Damaged area at) (Some asked.Prepare) n h = absurd h
+  refused_from (ending.Damaged area at) (Some asked.Run) n h = absurd h
+  refused_from (ending.Damaged area at) None n h = absurd h
+  refused_from how what n h = absurd (omega (arith, n))
+
+  pub exists_from : (how : Ending) (what : Option Asked) → status_of how ≡ 9 → StillEnds how what v w
+      → (what ≡ Some asked.Prepare) × (w.disk_faults ≡ v.disk_faults) × Goes v.told w.told FindsBytes
+  exists_from ending.Exists (Some asked.Prepare) n h =
+      (refl, h.cause.stood refl, goes_weaker v.told w.told (PreparesBy (Err NotEmpty)) FindsBytes (λ p q i j finds. finds) h.does)
+  exists_from ending.Exists (Some asked.Records) n h = absurd h
+  exists_from ending.Exists (Some asked.Check) n h = absurd h
+  exists_from ending.Exists (Some asked.Run) n h = absurd h
+  exists_from ending.Exists None n h = absurd h
+  exists_from how what n h = absurd (omega (arith, n))
+
+  untouched_none : (how : Ending) → StillEnds how None v w → (w.told ≡ v.told) × (w.disk_faults ≡ v.disk_faults)
+  untouched_none ending.Usage h = (h.told, h.faults)
+  untouched_none how h = absurd h
+
+  pub untouched_from : (how : Ending) (what : Option Asked) → is_before_board (status_of how) ≡ true → StillEnds how what v w
+      → (w.told ≡ v.told) × (w.disk_faults ≡ v.disk_faults)
+  untouched_from how None n h = untouched_none how h
+  untouched_from how (Some x) n h = cc (opens_from how (Some x) n h)
+
+  -- ---- the disk's count of faults never falls
+
+  unopened_later : (how : Ending) → EndsUnopened how v w → v.disk_faults ≤ w.disk_faults
+  unopened_later ending.Unopened h = h.cause.later
+  unopened_later (ending.NotABoard area) h = h.early.cause.later
+  unopened_later (ending.Damaged area at) h = h.early.cause.later
+  unopened_later ending.OutOfMemory h = h.cause.later
+  unopened_later how h = absurd h
+
+  records_later : (how : Ending) → RecordsEnds how v w → v.disk_faults ≤ w.disk_faults
+  records_later ending.Done (rows, s) = let stands = s.no_fault in omega (arith, stands)
+  records_later ending.Unwritten (rows, s) = let stands = s.no_fault in omega (arith, stands)
+  records_later how h = unopened_later how h
+
+  check_later : (how : Ending) → CheckEnds how v w → v.disk_faults ≤ w.disk_faults
+  check_later ending.Done (check, s) = let stands = s.no_fault in omega (arith, stands)
+  check_later ending.Unwritten (check, s) = let stands = s.no_fault in omega (arith, stands)
+  check_later how h = unopened_later how h
+
+  prepare_later : (how : Ending) → PrepareEnds how v w → v.disk_faults ≤ w.disk_faults
+  prepare_later ending.Done h = h.cause.later
+  prepare_later ending.Exists h = h.cause.later
+  prepare_later ending.Unopened h = h.cause.later
+  prepare_later how h = absurd h
+
+  usage_later : (how : Ending) → UsageEnds how v w → v.disk_faults ≤ w.disk_faults
+  usage_later ending.Usage h = let stands = h.faults in omega (arith, stands)
+  usage_later how h = absurd h
+
+  pub later_from : (how : Ending) (what : Option Asked) → StillEnds how what v w → v.disk_faults ≤ w.disk_faults
+  later_from how (Some asked.Run) h = absurd h
+  later_from how (Some asked.Prepare) h = prepare_later how h
+  later_from how (Some asked.Records) h = records_later how h
+  later_from how (Some asked.Check) h = check_later how h
+  later_from how None h = usage_later how h
+
+  -- ---- completeness
+
+  -- two empty areas have no bytes to be found
+  none_found : (told told' : Option Past) → Goes told told' FindsBytes → Shows told (λ area. []) → IsTold told' → ⊥
+  none_found None told' goes shows is = absurd shows
+  none_found (Some p) None goes shows is = absurd is
+  none_found (Some p) (Some q) goes shows is = elim goes.bytes [
+    | inl some ↦ some (shows A)
+    | inr some ↦ some (shows B)
+  ]
+
+  board_met : MeetsBoard v.told → IsTold w.told → (why : LoadFault) → ((image : Image) → Shows v.told image → IsTold w.told → IsRefused why image) → ⊥
+  board_met m told why refused = not_refused m.rows why m.image m.board (refused m.image m.shows told)
+
+  refusal_met : (how : Ending) (what : Option Asked) → status_of how ≡ 6 → StillEnds how what v w → MeetsStill what v.told → IsTold w.told → ⊥
+  refusal_met how None n h m told = m
+  refusal_met how (Some asked.Run) n h m told = m
+  refusal_met how (Some asked.Prepare) n h m told = no_refusal how n h
+    where
+      no_refusal : (x : Ending) → status_of x ≡ 6 → PrepareEnds x v w → ⊥
+      no_refusal (ending.NotABoard area) n h = h
+      no_refusal (ending.Damaged area at) n h = h
+      no_refusal x n h = absurd (omega (arith, n))
+  refusal_met how (Some asked.Records) n h m told = let (why, stood, refused) = refused_from how (Some asked.Records) n h in board_met m told why refused
+  refusal_met how (Some asked.Check) n h m told = let (why, stood, refused) = refused_from how (Some asked.Check) n h in board_met m told why refused
+
+  bytes_met : (what : Option Asked) → StillEnds ending.Exists what v w → MeetsStill what v.told → IsTold w.told → ⊥
+  bytes_met (Some asked.Prepare) h m told = let (is, stood, finds) = exists_from ending.Exists (Some asked.Prepare) refl h in none_found v.told w.told finds m told
+  bytes_met (Some asked.Records) h m told = h
+  bytes_met (Some asked.Check) h m told = h
+  bytes_met (Some asked.Run) h m told = h
+  bytes_met None h m told = h
+
+  grammar_met : (how : Ending) (what : Option Asked) → is_before_board (status_of how) ≡ true → StillEnds how what v w → MeetsStill what v.told → ⊥
+  grammar_met how None n h m = m
+  grammar_met how (Some x) n h m = cc (opens_from how (Some x) n h)
+
+  pub complete_from : (how : Ending) (what : Option Asked) → StillEnds how what v w → MeetsStill what v.told → IsTold w.told
+      → (Rose v.write_faults w.write_faults → ⊥) → (Rose v.disk_faults w.disk_faults → ⊥) → (status_of how ≡ 0) ⊎ (status_of how ≡ 7)
+  complete_from ending.Done what h m told sink disk = inl refl
+  complete_from ending.OutOfMemory what h m told sink disk = inr refl
+  complete_from ending.Unwritten what h m told sink disk = absurd (sink (unwritten_from ending.Unwritten what refl h))
+  complete_from ending.Unopened what h m told sink disk = absurd (disk (unstored_from ending.Unopened what refl h))
+  complete_from ending.Doubt what h m told sink disk = absurd (disk (unstored_from ending.Doubt what refl h))
+  complete_from (ending.NotABoard area) what h m told sink disk = absurd (refusal_met (ending.NotABoard area) what refl h m told)
+  complete_from (ending.Damaged area at) what h m told sink disk = absurd (refusal_met (ending.Damaged area at) what refl h m told)
+  complete_from ending.Exists what h m told sink disk = absurd (bytes_met what h m told)
+  complete_from ending.Usage what h m told sink disk = absurd (grammar_met ending.Usage what refl h m)
+  complete_from (ending.Script why) what h m told sink disk = absurd (grammar_met (ending.Script why) what refl h m)
+  complete_from ending.Read what h m told sink disk = absurd (grammar_met ending.Read what refl h m)
+  complete_from ending.TooLong what h m told sink disk = absurd (grammar_met ending.TooLong what refl h m)
+
+  -- ---- what stops a word
+
+  -- areas that were prepared had no bytes
+  none_prepared : (told told' : Option Past) → Goes told told' Prepares → MeetsBytes told → IsTold told' → ⊥
+  none_prepared None told' goes m is = absurd m.shows
+  none_prepared (Some p) None goes m is = absurd is
+  none_prepared (Some p) (Some q) goes m is = elim m.bytes [
+    | inl some ↦ some (sym (m.shows A) ∙ goes.a_was)
+    | inr some ↦ some (sym (m.shows B) ∙ goes.b_was)
+  ]
+
+  prepare_stopped : (how : Ending) → PrepareEnds how v w → MeetsBytes v.told → IsTold w.told → (Rose v.disk_faults w.disk_faults → ⊥) → status_of how ≡ 9
+  prepare_stopped ending.Exists h m told disk = refl
+  prepare_stopped ending.Done h m told disk = absurd (none_prepared v.told w.told h.does m told)
+  prepare_stopped ending.Unopened h m told disk = absurd (disk (h.cause.rose refl))
+  prepare_stopped how h m told disk = absurd h
+
+  no_board_met : (m : MeetsNoBoard v.told) → (rows : Rows) → IsBoard rows m.image → ⊥
+  no_board_met m rows board = not_refused rows m.why m.image board m.refused
+
+  unopened_stopped : (how : Ending) → EndsUnopened how v w → (Rose v.disk_faults w.disk_faults → ⊥) → (status_of how ≡ 6) ⊎ (status_of how ≡ 7)
+  unopened_stopped (ending.NotABoard area) h disk = inl refl
+  unopened_stopped (ending.Damaged area at) h disk = inl refl
+  unopened_stopped ending.OutOfMemory h disk = inr refl
+  unopened_stopped ending.Unopened h disk = absurd (disk (h.cause.rose refl))
+  unopened_stopped how h disk = absurd h
+
+  records_stopped : (how : Ending) → RecordsEnds how v w → MeetsNoBoard v.told → IsTold w.told → (Rose v.disk_faults w.disk_faults → ⊥) → (status_of how ≡ 6) ⊎ (status_of how ≡ 7)
+  records_stopped ending.Done (rows, s) m told disk = absurd (no_board_met m rows (s.found m.image m.shows told))
+  records_stopped ending.Unwritten (rows, s) m told disk = absurd (no_board_met m rows (s.found m.image m.shows told))
+  records_stopped how h m told disk = unopened_stopped how h disk
+
+  check_stopped : (how : Ending) → CheckEnds how v w → MeetsNoBoard v.told → IsTold w.told → (Rose v.disk_faults w.disk_faults → ⊥) → (status_of how ≡ 6) ⊎ (status_of how ≡ 7)
+  check_stopped ending.Done (check, s) m told disk = let c = s.found m.image m.shows told in absurd (no_board_met m c.rows c.board)
+  check_stopped ending.Unwritten (check, s) m told disk = let c = s.found m.image m.shows told in absurd (no_board_met m c.rows c.board)
+  check_stopped how h m told disk = unopened_stopped how h disk
+
+  pub stopped_from : (how : Ending) (what : Option Asked) (n : ℕ) → n ≡ status_of how → StillEnds how what v w → MeetsObstacle what v.told → IsTold w.told
+      → (Rose v.disk_faults w.disk_faults → ⊥) → IsStopped what n
+  stopped_from how what n is h m told disk = subst (λ (k : ℕ). IsStopped what k) (sym is) (by_word what h m)
+    where
+      by_word : (x : Option Asked) → StillEnds how x v w → MeetsObstacle x v.told → IsStopped x (status_of how)
+      by_word (Some asked.Run) h m = absurd m
+      by_word (Some asked.Prepare) h m = prepare_stopped how h m told disk
+      by_word (Some asked.Records) h m = records_stopped how h m told disk
+      by_word (Some asked.Check) h m = check_stopped how h m told disk
+      by_word None h m = absurd m

@@ -1,5 +1,0 @@
-use Rattle.round_laws.proofs.Accounted.{has-account}
-use Rattle.round_laws.proofs.laws.rounds_have_accounts.Goals as goal
-
-pub returns : goal.returns
-returns c = λ by now line s s' r h. has-account by now line s s' r h

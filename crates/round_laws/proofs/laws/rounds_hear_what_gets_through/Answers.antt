@@ -1,5 +1,0 @@
-use Rattle.round_laws.proofs.Lost.{hear-what-gets-through}
-use Rattle.round_laws.proofs.laws.rounds_hear_what_gets_through.Goals as goal
-
-pub returns : goal.returns
-returns c = hear-what-gets-through

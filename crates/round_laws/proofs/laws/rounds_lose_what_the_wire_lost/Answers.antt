@@ -1,5 +1,0 @@
-use Rattle.round_laws.proofs.Lost.{has-causes}
-use Rattle.round_laws.proofs.laws.rounds_lose_what_the_wire_lost.Goals as goal
-
-pub returns : goal.returns
-returns c = λ by now line s s' r h. has-causes by now line s s' r h

@@ -1,5 +1,0 @@
-use Rattle.run_laws.proofs.OwnAnswers.{answers_stand}
-use Rattle.run_laws.proofs.laws.answers_of_actors_stand.Goals as goal
-
-pub returns : goal.returns
-returns c = answers_stand

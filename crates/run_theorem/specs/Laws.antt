@@ -1,0 +1,62 @@
+-- The laws of runs.
+use Rattle.std.specs.Prelude.{◌≡◌, ◌≢◌, ℕ, suc, ◌<◌, ◌==◌, List, [], ◌∷◌, filter, Option, Some}
+use Rattle.std.specs.List.{Contains, slice_get}
+use Rattle.disk_trait.specs.Past.{Past}
+use Rattle.bbs_board.specs.View.{View}
+use Rattle.bbs_model.specs.Calls.{by_of}
+use Rattle.bbs_model.specs.Replay.{IsLawful}
+use Rattle.bbs_model.specs.Valid.{IsValid}
+use Rattle.bbs_model.specs.declared.item.Item.{Item}
+use Rattle.bbs_model.specs.declared.rows.Rows.{Rows}
+use Rattle.convergence.specs.declared.report.Report.{Report}
+use Rattle.program_ends.specs.declared.ending.Ending.{Ending}
+use Rattle.scenario_lines.specs.declared.answered.Answered.{Answered}
+use Rattle.scenario_lines.specs.declared.script.Phase.{Phase}
+use Rattle.scenario_lines.specs.declared.script.Script.{Script}
+use Rattle.scenario_reader.specs.Facts.{IsScript}
+use Rattle.phase_text.specs.Sorting.{by_line}
+use Rattle.scenario_player.specs.Plays.{Plays}
+use Rattle.run_theorem.specs.Answers.{answer_items, board_answer, place_named}
+use Rattle.run_theorem.specs.Headline.{IsFaithful}
+use Rattle.run_theorem.specs.Phases.{PhaseAgrees, Point}
+
+-- a scenario that was played on a board that had done nothing is faithful, whatever its end and its disk
+abbrev pub PlayedRunsAreFaithful : {D : Type 0} → (D → Option Past) → Type 0
+PlayedRunsAreFaithful {D = D} told =
+    (script : Script) (how : Ending) (answers : List Answered) (reports : List Report) (v w : View D)
+    (held held' : Option (List ℕ)) (faults faults' : ℕ) → IsScript script → v.log ≡ [] → IsValid v.base →
+    IsLawful v.base w.log → Plays told script how answers reports v w held held' faults faults' →
+    IsFaithful script how answers reports v.base w.log
+
+-- the board was opened with the rows that it was opened with
+abbrev pub PlayedRunsKeepBase : {D : Type 0} → (D → Option Past) → Type 0
+PlayedRunsKeepBase {D = D} told =
+    (script : Script) (how : Ending) (answers : List Answered) (reports : List Report) (v w : View D)
+    (held held' : Option (List ℕ)) (faults faults' : ℕ) →
+    Plays told script how answers reports v w held held' faults faults' → w.base ≡ v.base
+
+-- an answer among these that made the item, and names its place
+pub record IsAnswered (answers : List Answered) (place : ℕ) (i : Item) : Type 0 where
+  pub answer : Answered
+  pub among : Contains answers answer
+  pub item : answer_items answer ≡ i ∷ []
+  pub place_is : place_named 0 (board_answer answer.end) ≡ place
+
+-- each item of the phases that ended is that of an answer, unless it has the number of rounds
+abbrev pub ItemsAreAnswered : Type 0
+ItemsAreAnswered =
+    (script : Script) (how : Ending) (answers : List Answered) (reports : List Report) (base : Rows) (log : List Item)
+    (run : IsFaithful script how answers reports base log) (place : ℕ) (i : Item) → place < run.order.last.place →
+    slice_get log place ≡ Some i → by_of i ≢ 0 → IsAnswered answers place i
+
+-- the answers that bear a number
+abbrev pub answers_by : ℕ → List Answered → List Answered
+answers_by by answers = filter (λ a. a.actor == by) answers
+
+-- among the answers of a phase, which stand by line, those of each actor are its own, in their order
+abbrev pub ActorsAnswersStand : Type 0
+ActorsAnswersStand =
+    (script : Script) (phase : Phase) (base : Rows) (log : List Item) (s s' : Point)
+    (agrees : PhaseAgrees base log phase s s') → IsScript script → Contains script.phases phase →
+    (k : ℕ) (part : List Answered) → slice_get agrees.parts k ≡ Some part →
+    answers_by (suc k) (by_line agrees.parts) ≡ part

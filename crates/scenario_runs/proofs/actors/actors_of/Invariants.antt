@@ -1,6 +1,0 @@
-use Rattle.std.proofs.Common.{◌≡◌, take}
-use Rattle.scenario_runs.specs.Actors.{starting_actors}
-use Rattle.scenario_runs.proofs.actors.actors_of.Given as goal
-
-abbrev pub invariant-loop-actor : goal.invariant-loop-actor
-invariant-loop-actor l = l.states.items ≡ starting_actors (take l.actor-index l.actors)

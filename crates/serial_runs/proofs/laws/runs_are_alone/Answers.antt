@@ -1,5 +1,0 @@
-use Rattle.serial_runs.proofs.ScriptAlone.{whole_is_alone}
-use Rattle.serial_runs.proofs.laws.runs_are_alone.Goals as goal
-
-pub returns : goal.returns
-returns c = λ start. whole_is_alone c.D.Disk.told

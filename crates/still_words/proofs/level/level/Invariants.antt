@@ -1,8 +1,0 @@
-use Rattle.std.proofs.Common.{◌≡◌, take}
-use Rattle.std.specs.List.{fold}
-use Rattle.clap.specs.Words.{app_of}
-use Rattle.still_words.specs.Level.{bare_level, with_word}
-use Rattle.still_words.proofs.level.level.Given as goal
-
-abbrev pub invariant-loop-asked : goal.invariant-loop-asked
-invariant-loop-asked l = app_of l.level ≡ fold with_word bare_level (take l.asked-index l.asked-items)
