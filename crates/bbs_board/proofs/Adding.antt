@@ -59,9 +59,9 @@ module _ (base : Rows) (log : List Item) (by : ℕ) (c : Command) where
   }
 
 -- a doubt that no call of its own stands behind
-pub holds_doubted : (base : Rows) (log : List Item) (marks : List ℕ) (since : ℕ) (area : Area) (generation end frames : ℕ) (waiting : Waiting) (known : OtherGate) (p : Past) → Holds base log marks since area generation end frames waiting known p
-    → (by : ℕ) (c : Command) → Holds base (log ++ Doubt by c ∷ []) (marks ++ p.clock ∷ []) since area generation end frames waiting known p
-holds_doubted base log marks since area generation end frames waiting known p h by c =
+pub holds_doubted : (base : Rows) (log : List Item) (marks : List ℕ) (since : ℕ) (area : Area) (version generation end frames : ℕ) (waiting : Waiting) (known : OtherGate) (p : Past) → Holds base log marks since area version generation end frames waiting known p
+    → (by : ℕ) (c : Command) → Holds base (log ++ Doubt by c ∷ []) (marks ++ p.clock ∷ []) since area version generation end frames waiting known p
+holds_doubted base log marks since area version generation end frames waiting known p h by c =
     let same : replay_log base log ≡ replay_log base (log ++ Doubt by c ∷ []) = sym (replay_more base log (Doubt by c)) in
     record {
       gate = h.gate;
@@ -83,10 +83,10 @@ holds_doubted base log marks since area generation end frames waiting known p h 
 
 -- ---- an append where nothing waits
 
-module _ (base : Rows) (log : List Item) (marks : List ℕ) (since : ℕ) (area : Area) (generation end frames : ℕ) (known : OtherGate) (p q : Past) (h : Holds base log marks since area generation end frames Nothing known p) (lawful : IsLawful base log)
+module _ (base : Rows) (log : List Item) (marks : List ℕ) (since : ℕ) (area : Area) (version generation end frames : ℕ) (known : OtherGate) (p q : Past) (h : Holds base log marks since area version generation end frames Nothing known p) (lawful : IsLawful base log)
     (by : ℕ) (c : Command) (fits : FitsCommand c) (legal : IsLegal (replay_log base log) c) where
   abbrev front : List ℕ
-  front = h.gate ∷ heading generation h.head
+  front = h.gate ∷ heading version generation h.head
 
   module _ (runs : Runs area (BeforeOrAfter front h.payloads (spelled c)) p q) where
     there : now q (other area) ≡ now p (other area)
@@ -97,8 +97,8 @@ module _ (base : Rows) (log : List Item) (marks : List ℕ) (since : ℕ) (area 
         let both = runs_image (BeforeOrAfter front h.payloads (spelled c)) area p q image runs images in
         let beside = h.beside.leaves (image (other area)) both.1 in
         ⊎_elim
-        (λ is. found_more base log (item_of ok by c ∷ []) from image (found base log marks since area generation end frames Nothing known p h lawful image (inl is) beside from le below))
-        (λ more. found_new base log marks since area generation end frames Nothing known p h lawful by c fits legal ok image more (calm_yields h.next Nothing known generation (image (other area)) refl beside) from le)
+        (λ is. found_more base log (item_of ok by c ∷ []) from image (found base log marks since area version generation end frames Nothing known p h lawful image (inl is) beside from le below))
+        (λ more. found_new base log marks since area version generation end frames Nothing known p h lawful by c fits legal ok image more (calm_yields h.next Nothing known generation (image (other area)) refl beside) from le)
         both.0
 
     -- what a stop leaves after the acknowledgement
@@ -107,14 +107,14 @@ module _ (base : Rows) (log : List Item) (marks : List ℕ) (since : ℕ) (area 
         let here : images.moment ≡ q.clock = let from = images.from in let to = images.to in omega (arith, from, to) in
         let leaves : (a : Area) → Leaves (now q a) (image a) = λ a. subst (λ (m : ℕ). Leaves (q.held m a) (image a)) here (images.leaves a) in
         let beside = h.beside.leaves (image (other area)) (subst (λ (held : Held). Leaves held (image (other area))) there (leaves (other area))) in
-        found_done base log marks since area generation end frames Nothing known p h lawful by c fits legal image
+        found_done base log marks since area version generation end frames Nothing known p h lawful by c fits legal image
         (ready_area front (h.payloads ++ spelled c ∷ []) (end + 3 + length (spelled c)) (now q area) ready (image area) (leaves area))
         (calm_yields h.next Nothing known generation (image (other area)) refl beside)
 
     beside_still : Has (Beside h.next Nothing known generation) (now q (other area))
     beside_still = subst (Has (Beside h.next Nothing known generation)) (sym there) h.beside
 
-    left_standing : (after : Bool) → Appended false after front h.payloads (spelled c) end (now q area) → Holds base (log ++ Doubt by c ∷ []) (marks ++ q.clock ∷ []) since area generation end frames (frame_left after) known q
+    left_standing : (after : Bool) → Appended false after front h.payloads (spelled c) end (now q area) → Holds base (log ++ Doubt by c ∷ []) (marks ++ q.clock ∷ []) since area version generation end frames (frame_left after) known q
     left_standing false left = record {
       gate = h.gate;
       is_open = h.is_open;
@@ -150,7 +150,7 @@ module _ (base : Rows) (log : List Item) (marks : List ℕ) (since : ℕ) (area 
       kept = kept_more base log marks since p q h.kept runs.extends (Doubt by c) (window false) (λ caller command never. absurd (cc (never)));
     }
 
-    added_standing : Ready front (h.payloads ++ spelled c ∷ []) (end + 3 + length (spelled c)) (now q area) → Holds base (log ++ Done by c ∷ []) (marks ++ q.clock ∷ []) since area generation (end + 3 + length (spelled c)) (frames + 1) Nothing known q
+    added_standing : Ready front (h.payloads ++ spelled c ∷ []) (end + 3 + length (spelled c)) (now q area) → Holds base (log ++ Done by c ∷ []) (marks ++ q.clock ∷ []) since area version generation (end + 3 + length (spelled c)) (frames + 1) Nothing known q
     added_standing ready = record {
       gate = h.gate;
       is_open = h.is_open;
@@ -170,11 +170,11 @@ module _ (base : Rows) (log : List Item) (marks : List ℕ) (since : ℕ) (area 
     }
 
   pub holds_added : (ok after : Bool) → (ok ≡ true → after ≡ false) → AddsFrame area ok after (spelled c) end p q
-      → Extends p q × Holds base (log ++ item_of ok by c ∷ []) (marks ++ q.clock ∷ []) since area generation (end_of ok end (spelled c)) (frames_of ok frames) (frame_left after) known q
+      → Extends p q × Holds base (log ++ item_of ok by c ∷ []) (marks ++ q.clock ∷ []) since area version generation (end_of ok end (spelled c)) (frames_of ok frames) (frame_left after) known q
   holds_added ok after calm adds = by_answer ok after calm (adds front h.payloads (ready_where h.doubt front h.payloads end (now p area) h.waits_is h.stands))
     where
       by_answer : (ok after : Bool) → (ok ≡ true → after ≡ false) → Appends area ok after front h.payloads (spelled c) end p q
-          → Extends p q × Holds base (log ++ item_of ok by c ∷ []) (marks ++ q.clock ∷ []) since area generation (end_of ok end (spelled c)) (frames_of ok frames) (frame_left after) known q
+          → Extends p q × Holds base (log ++ item_of ok by c ∷ []) (marks ++ q.clock ∷ []) since area version generation (end_of ok end (spelled c)) (frames_of ok frames) (frame_left after) known q
       by_answer true true calm appends = absurd (let never = calm refl in cc)
       by_answer true false calm appends = (appends.runs.extends, added_standing appends.runs appends.leaves)
       by_answer false after calm appends = (appends.runs.extends, left_standing appends.runs after appends.leaves)

@@ -27,17 +27,18 @@ pub record AddsBehind (ok : Bool) (rows : Rows) (c : Command) (p q : Past) : Typ
 
 -- ---- readings
 
-abbrev reading_of : Area → ℕ → List ℕ → List (List ℕ) → Reading
-reading_of area generation head payloads = record { area = area; generation = generation; head = head; payloads = payloads }
+abbrev reading_of : Area → ℕ → ℕ → List ℕ → List (List ℕ) → Reading
+reading_of area version generation head payloads = record { area = area; version = version; generation = generation; head = head; payloads = payloads }
 
 -- an image is opened in one way
 pub same_reading : (image : Image) (r s : Reading) → OpensTo r image → OpensTo s image → r ≡ s
 same_reading image r s one two =
-    let same = opens_once image r.area s.area r.generation s.generation r.head s.head r.payloads s.payloads None None _ _ one two in
-    ap (λ (a : Area). reading_of a r.generation r.head r.payloads) same.area_is
-    ∙ ap (λ (g : ℕ). reading_of s.area g r.head r.payloads) same.generation_is
-    ∙ ap (λ (h : List ℕ). reading_of s.area s.generation h r.payloads) same.head_is
-    ∙ ap (λ (l : List (List ℕ)). reading_of s.area s.generation s.head l) same.payloads_are
+    let same = opens_once image r.area s.area r.version s.version r.generation s.generation r.head s.head r.payloads s.payloads None None _ _ one two in
+    ap (λ (a : Area). reading_of a r.version r.generation r.head r.payloads) same.area_is
+    ∙ ap (λ (v : ℕ). reading_of s.area v r.generation r.head r.payloads) same.version_is
+    ∙ ap (λ (g : ℕ). reading_of s.area s.version g r.head r.payloads) same.generation_is
+    ∙ ap (λ (h : List ℕ). reading_of s.area s.version s.generation h r.payloads) same.head_is
+    ∙ ap (λ (l : List (List ℕ)). reading_of s.area s.version s.generation s.head l) same.payloads_are
 
 not_full : (n : ℕ) → n < 4096 → nat_le 4096 n ≡ false
 not_full n short = grind (arith, nat_tests)

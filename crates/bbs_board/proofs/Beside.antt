@@ -5,6 +5,7 @@ use Rattle.bbs_journal.specs.Beside.{unframed, Beside}
 use Rattle.bbs_journal.specs.Grammar.{heading}
 use Rattle.bbs_journal.specs.Other.{Yields}
 use Rattle.bbs_journal.specs.View.{is_waiting}
+use Rattle.bbs_journal.specs.Header.{newest}
 use Rattle.bbs_journal.specs.declared.other_gate.OtherGate.{OtherGate}
 use Rattle.bbs_journal.specs.declared.other_gate.OtherGate.TheVariants.{Shut, Loose, Written}
 use Rattle.bbs_journal.specs.declared.waiting.Waiting.{Waiting}
@@ -47,10 +48,10 @@ calm_yields next Frame known generation bytes calm beside = absurd (cc)
 calm_yields next Header known generation bytes calm beside = absurd (cc)
 
 -- behind an open gate an area without frames takes some
-pub unframed_area : (byte generation : ℕ) (next bytes : List ℕ) → Begins (byte ∷ unframed generation next) bytes → IsArea (byte ∷ heading generation next) [] bytes
+pub unframed_area : (byte generation : ℕ) (next bytes : List ℕ) → Begins (byte ∷ unframed generation next) bytes → IsArea (byte ∷ heading newest generation next) [] bytes
 unframed_area byte generation next bytes b = record { frames = []; whole = refl; begins = record { rest = b.rest; parts = b.parts ∙ regroup b.rest } }
   where
-    regroup : (rest : List ℕ) → (byte ∷ unframed generation next) ++ rest ≡ ((byte ∷ heading generation next) ++ [] ++ 0 ∷ []) ++ rest
+    regroup : (rest : List ℕ) → (byte ∷ unframed generation next) ++ rest ≡ ((byte ∷ heading newest generation next) ++ [] ++ 0 ∷ []) ++ rest
     regroup rest = simp append_assoc
 
 -- ---- what waits

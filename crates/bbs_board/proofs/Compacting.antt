@@ -10,6 +10,7 @@ use Rattle.head_codec.specs.Head.{head_spelled, FitsHead}
 use Rattle.bbs_journal.specs.Calls.{Settles}
 use Rattle.bbs_journal.specs.Switching.{close_calls}
 use Rattle.bbs_journal.specs.View.{JournalView, is_waiting, frame_waits}
+use Rattle.bbs_journal.specs.Header.{newest}
 use Rattle.bbs_journal.specs.declared.other_gate.OtherGate.{OtherGate}
 use Rattle.bbs_journal.specs.declared.other_gate.OtherGate.TheVariants.{Shut, Loose, Written}
 use Rattle.bbs_journal.specs.declared.waiting.Waiting.{Waiting}
@@ -37,66 +38,66 @@ module _ {D : Type 0} (told : D → Option Past) (v0 v1 : JournalView D) (base :
   new = head_spelled (replay_log base log)
 
   abbrev Here : Past → Type 0
-  Here = Holds base log marks since v0.area v0.generation v0.end v0.frames Nothing v0.gate
+  Here = Holds base log marks since v0.area v0.version v0.generation v0.end v0.frames Nothing v0.gate
 
   here : ForSome (told v0.disk) Here
-  here = subst (λ (w : Waiting). ForSome (told v0.disk) (Holds base log marks since v0.area v0.generation v0.end v0.frames w v0.gate)) calm stands
+  here = subst (λ (w : Waiting). ForSome (told v0.disk) (Holds base log marks since v0.area v0.version v0.generation v0.end v0.frames w v0.gate)) calm stands
 
   lead_at : (p : Past) → Here p → LeadsOn v0.area v0.generation new (replay_log base log)
-  lead_at p h = leads base log marks since v0.area v0.generation v0.end v0.frames Nothing v0.gate p h some fits small
+  lead_at p h = leads base log marks since v0.area v0.version v0.generation v0.end v0.frames Nothing v0.gate p h some fits small
 
-  switches_at : (ok : Bool) (p q : Past) (h : Here p) → SwitchesAll ok v0.area v0.generation v1.waiting v1.gate new p q → Switches ok v0.area v0.generation h.head h.payloads v1.waiting v1.gate new p q
+  switches_at : (ok : Bool) (p q : Past) (h : Here p) → SwitchesAll ok v0.area v0.version v0.generation v1.waiting v1.gate new p q → Switches ok v0.area v0.version v0.generation h.head h.payloads v1.waiting v1.gate new p q
   switches_at ok p q h all =
       all h.gate h.head h.payloads v0.end h.is_open h.goes_with (lead_at p h).goes_with
-      (calm_ready base log marks since v0.area v0.generation v0.end v0.frames v0.gate p q h new (lead_at p h))
+      (calm_ready base log marks since v0.area v0.version v0.generation v0.end v0.frames v0.gate p q h new (lead_at p h))
 
-  switched_there : KnowsAfterSwitch true (length new) v0 v1 → Goes (told v0.disk) (told v1.disk) (SwitchesAll true v0.area v0.generation v1.waiting v1.gate new) → StandsWith told base log marks since v0 v1
+  switched_there : KnowsAfterSwitch true (length new) v0 v1 → Goes (told v0.disk) (told v1.disk) (SwitchesAll true v0.area v0.version v0.generation v1.waiting v1.gate new) → StandsWith told base log marks since v0 v1
   switched_there goes_on goes =
       let made = goes_on.made refl in
-      let both = by_step (told v0.disk) (told v1.disk) (SwitchesAll true v0.area v0.generation v1.waiting v1.gate new) Here (Holds base log marks since (other v0.area) (v0.generation + 1) (23 + length new) 0 Nothing Loose)
+      let both = by_step (told v0.disk) (told v1.disk) (SwitchesAll true v0.area v0.version v0.generation v1.waiting v1.gate new) Here (Holds base log marks since (other v0.area) newest (v0.generation + 1) (23 + length new) 0 Nothing Loose)
       (λ p q j all h.
       let s = switches_at true p q h all in
-      (s.extends, holds_there base log marks since v0.area v0.generation v0.end v0.frames v0.gate p q h new (lead_at p h) true v1.waiting v1.gate s refl))
+      (s.extends, holds_there base log marks since v0.area v0.version v0.generation v0.end v0.frames v0.gate p q h new (lead_at p h) true v1.waiting v1.gate s refl))
       goes here in
       record {
         extends = both.0;
-        stands = standing told base log marks since v1 (other v0.area) (v0.generation + 1) (23 + length new) 0 Nothing Loose
-            (ap (λ (v : JournalView D). v.area) made) (ap (λ (v : JournalView D). v.generation) made) (ap (λ (v : JournalView D). v.end) made) (ap (λ (v : JournalView D). v.frames) made)
+        stands = standing told base log marks since v1 (other v0.area) newest (v0.generation + 1) (23 + length new) 0 Nothing Loose
+            (ap (λ (v : JournalView D). v.area) made) (ap (λ (v : JournalView D). v.version) made) (ap (λ (v : JournalView D). v.generation) made) (ap (λ (v : JournalView D). v.end) made) (ap (λ (v : JournalView D). v.frames) made)
             (ap (λ (v : JournalView D). v.waiting) made) (ap (λ (v : JournalView D). v.gate) made) both.1;
       }
 
-  switched_here : KnowsAfterSwitch false (length new) v0 v1 → Goes (told v0.disk) (told v1.disk) (SwitchesAll false v0.area v0.generation v1.waiting v1.gate new) → StandsWith told base log marks since v0 v1
+  switched_here : KnowsAfterSwitch false (length new) v0 v1 → Goes (told v0.disk) (told v1.disk) (SwitchesAll false v0.area v0.version v0.generation v1.waiting v1.gate new) → StandsWith told base log marks since v0 v1
   switched_here goes_on goes =
       let failed = goes_on.failed refl in
-      let both = by_step (told v0.disk) (told v1.disk) (SwitchesAll false v0.area v0.generation v1.waiting v1.gate new) Here (Holds base log marks since v0.area v0.generation v0.end v0.frames v1.waiting v1.gate)
+      let both = by_step (told v0.disk) (told v1.disk) (SwitchesAll false v0.area v0.version v0.generation v1.waiting v1.gate new) Here (Holds base log marks since v0.area v0.version v0.generation v0.end v0.frames v1.waiting v1.gate)
       (λ p q j all h.
       let s = switches_at false p q h all in
-      (s.extends, holds_here base log marks since v0.area v0.generation v0.end v0.frames v0.gate p q h new (lead_at p h) false v1.waiting v1.gate s refl (header_calm v1.waiting failed.waiting)))
+      (s.extends, holds_here base log marks since v0.area v0.version v0.generation v0.end v0.frames v0.gate p q h new (lead_at p h) false v1.waiting v1.gate s refl (header_calm v1.waiting failed.waiting)))
       goes here in
       record {
         extends = both.0;
-        stands = standing told base log marks since v1 v0.area v0.generation v0.end v0.frames v1.waiting v1.gate failed.stays.area failed.stays.generation failed.end failed.frames refl refl both.1;
+        stands = standing told base log marks since v1 v0.area v0.version v0.generation v0.end v0.frames v1.waiting v1.gate failed.stays.area failed.stays.version failed.stays.generation failed.end failed.frames refl refl both.1;
       }
 
-  switched : (ok : Bool) → KnowsAfterSwitch ok (length new) v0 v1 → Goes (told v0.disk) (told v1.disk) (SwitchesAll ok v0.area v0.generation v1.waiting v1.gate new) → StandsWith told base log marks since v0 v1
+  switched : (ok : Bool) → KnowsAfterSwitch ok (length new) v0 v1 → Goes (told v0.disk) (told v1.disk) (SwitchesAll ok v0.area v0.version v0.generation v1.waiting v1.gate new) → StandsWith told base log marks since v0 v1
   switched true goes_on goes = switched_there goes_on goes
   switched false goes_on goes = switched_here goes_on goes
 
-  compacted_so : (ok : Bool) → Goes (told v0.disk) (told v1.disk) (SwitchesAll ok v0.area v0.generation v1.waiting v1.gate new) → Goes (told v0.disk) (told v1.disk) (Compacts ok (replay_log base log))
+  compacted_so : (ok : Bool) → Goes (told v0.disk) (told v1.disk) (SwitchesAll ok v0.area v0.version v0.generation v1.waiting v1.gate new) → Goes (told v0.disk) (told v1.disk) (Compacts ok (replay_log base log))
   compacted_so ok goes =
-      goes_weaker (told v0.disk) (told v1.disk) (SwitchesAll ok v0.area v0.generation v1.waiting v1.gate new) (Compacts ok (replay_log base log))
+      goes_weaker (told v0.disk) (told v1.disk) (SwitchesAll ok v0.area v0.version v0.generation v1.waiting v1.gate new) (Compacts ok (replay_log base log))
       (λ p q i j all.
       let h = here p i in
-      compacts_by base log marks since v0.area v0.generation v0.end v0.frames v0.gate p h q ok v1.waiting v1.gate some (lead_at p h) (switches_at ok p q h all)) goes
+      compacts_by base log marks since v0.area v0.version v0.generation v0.end v0.frames v0.gate p h q ok v1.waiting v1.gate some (lead_at p h) (switches_at ok p q h all)) goes
 
 module _ {D : Type 0} (told : D → Option Past) where
   -- a switch where nothing waits
   pub moves_switched : (v0 v1 : JournalView D) (ok : Bool) (head : List ℕ) → v0.waiting ≡ Nothing → length head < 2 ^ 32 → KnowsAfterSwitch ok (length head) v0 v1
-      → Goes (told v0.disk) (told v1.disk) (SwitchesAll ok v0.area v0.generation v1.waiting v1.gate head) → MovesOn told ok head v0 v1
+      → Goes (told v0.disk) (told v1.disk) (SwitchesAll ok v0.area v0.version v0.generation v1.waiting v1.gate head) → MovesOn told ok head v0 v1
   moves_switched v0 v1 ok head calm small goes_on goes base log marks since lawful stands some fits is =
       let few : length (head_spelled (replay_log base log)) < 2 ^ 32 = subst (λ (l : List ℕ). length l < 2 ^ 32) is small in
       let on : KnowsAfterSwitch ok (length (head_spelled (replay_log base log))) v0 v1 = subst (λ (l : List ℕ). KnowsAfterSwitch ok (length l) v0 v1) is goes_on in
-      let all = subst (λ (l : List ℕ). Goes (told v0.disk) (told v1.disk) (SwitchesAll ok v0.area v0.generation v1.waiting v1.gate l)) is goes in (
+      let all = subst (λ (l : List ℕ). Goes (told v0.disk) (told v1.disk) (SwitchesAll ok v0.area v0.version v0.generation v1.waiting v1.gate l)) is goes in (
         switched told v0 v1 base log marks since calm stands some fits few ok on all,
         λ idle. compacted_so told v0 v1 base log marks since calm stands some fits few ok all,
       )
@@ -174,8 +175,8 @@ checkpoints_both (Some p) None waits ok rows extends compacts = extends
 checkpoints_both (Some p) (Some q) waits ok rows extends compacts = record { extends = extends; compacts = compacts }
 
 module _ {D : Type 0} (told : D → Option Past) (j : JournalView D) (base : Rows) (log : List Item) (marks : List ℕ) (since : ℕ) (stands : StandsOn told base log marks since j) where
-  calmly : is_waiting j.waiting ≡ false → (p : Past) → told j.disk ≡ Some p → Holds base log marks since j.area j.generation j.end j.frames Nothing j.gate p
-  calmly calm p is = subst (λ (w : Waiting). Holds base log marks since j.area j.generation j.end j.frames w j.gate p) (calm_nothing j.waiting calm) (stands p is)
+  calmly : is_waiting j.waiting ≡ false → (p : Past) → told j.disk ≡ Some p → Holds base log marks since j.area j.version j.generation j.end j.frames Nothing j.gate p
+  calmly calm p is = subst (λ (w : Waiting). Holds base log marks since j.area j.version j.generation j.end j.frames w j.gate p) (calm_nothing j.waiting calm) (stands p is)
 
   same_extends : Goes (told j.disk) (told j.disk) Extends
   same_extends = goes_same (told j.disk) Extends (λ p is. extends_same p)
@@ -183,17 +184,17 @@ module _ {D : Type 0} (told : D → Option Past) (j : JournalView D) (base : Row
   -- it is given up before the first call
   pub checkpoint_starved : Goes (told j.disk) (told j.disk) (Checkpoints false (is_waiting j.waiting) (replay_log base log))
   checkpoint_starved = checkpoints_both (told j.disk) (told j.disk) (is_waiting j.waiting) false (replay_log base log) same_extends
-      (λ calm. goes_same (told j.disk) (Compacts false (replay_log base log)) (λ p is. compacts_not base log marks since j.area j.generation j.end j.frames j.gate p (calmly calm p is)))
+      (λ calm. goes_same (told j.disk) (Compacts false (replay_log base log)) (λ p is. compacts_not base log marks since j.area j.version j.generation j.end j.frames j.gate p (calmly calm p is)))
 
   -- the area has no frames
   pub checkpoint_none : j.frames ≡ 0 → Goes (told j.disk) (told j.disk) (Checkpoints true (is_waiting j.waiting) (replay_log base log))
   checkpoint_none none = checkpoints_both (told j.disk) (told j.disk) (is_waiting j.waiting) true (replay_log base log) same_extends
-      (λ calm. goes_same (told j.disk) (Compacts true (replay_log base log)) (λ p is. compacts_none base log marks since j.area j.generation j.end j.frames j.gate p (calmly calm p is) none))
+      (λ calm. goes_same (told j.disk) (Compacts true (replay_log base log)) (λ p is. compacts_none base log marks since j.area j.version j.generation j.end j.frames j.gate p (calmly calm p is) none))
 
   -- no disk that tells its past has the last generation
   pub checkpoint_never : j.generation ≡ 2 ^ 64 - 1 → IsValid (replay_log base log) → Goes (told j.disk) (told j.disk) (Checkpoints true (is_waiting j.waiting) (replay_log base log))
   checkpoint_never last valid = goes_same (told j.disk) (Checkpoints true (is_waiting j.waiting) (replay_log base log))
-      (λ p is. absurd (let few = not_above base log marks since j.area j.generation j.end j.frames j.waiting j.gate p (stands p is) in omega (arith, few, last, valid.next)))
+      (λ p is. absurd (let few = not_above base log marks since j.area j.version j.generation j.end j.frames j.waiting j.gate p (stands p is) in omega (arith, few, (stands p is).goes_with.version_is, last, valid.next)))
 
   -- it was tried
   pub checkpoint_tried : (later : JournalView D) (ok : Bool) (head : List ℕ) → IsLawful base log → 0 < j.frames → FitsHead (replay_log base log) → head ≡ head_spelled (replay_log base log) → MovesOn told ok head j later

@@ -56,18 +56,18 @@ due_same v w frames generation = ap (λ (n : ℕ). nat_le 4096 n && nat_lt w.gen
 
 -- ---- a board over a disk that tells its past
 
-module _ (base : Rows) (log : List Item) (marks : List ℕ) (since : ℕ) (area : Area) (generation end frames : ℕ) (waiting : Waiting) (known : OtherGate) (p : Past) (h : Holds base log marks since area generation end frames waiting known p) where
+module _ (base : Rows) (log : List Item) (marks : List ℕ) (since : ℕ) (area : Area) (version generation end frames : ℕ) (waiting : Waiting) (known : OtherGate) (p : Past) (h : Holds base log marks since area version generation end frames waiting known p) where
   -- it hasn't come to the last generation
   pub low_generation : IsValid (replay_log base log) → generation < 2 ^ 64 - 1
   low_generation valid =
-      let few = not_above base log marks since area generation end frames waiting known p h in
-      omega (arith, few, valid.next)
+      let few = not_above base log marks since area version generation end frames waiting known p h in
+      omega (arith, few, h.goes_with.version_is, valid.next)
 
-  pub still_nothing : is_waiting waiting ≡ false → Holds base log marks since area generation end frames Nothing known p
-  still_nothing calm = subst (λ (w : Waiting). Holds base log marks since area generation end frames w known p) (calm_nothing waiting calm) h
+  pub still_nothing : is_waiting waiting ≡ false → Holds base log marks since area version generation end frames Nothing known p
+  still_nothing calm = subst (λ (w : Waiting). Holds base log marks since area version generation end frames w known p) (calm_nothing waiting calm) h
 
   calm_count : is_waiting waiting ≡ false → (r : Reading) → ReadsAs r p → length r.payloads ≡ frames
-  calm_count calm r reads = reads_count base log marks since area generation end frames known p (still_nothing calm) r reads
+  calm_count calm r reads = reads_count base log marks since area version generation end frames known p (still_nothing calm) r reads
 
   pub reads_short : is_waiting waiting ≡ false → frames < 4096 → (r : Reading) → ReadsAs r p → length r.payloads < 4096
   reads_short calm short r reads = omega (arith, calm_count calm r reads, short)
@@ -87,11 +87,11 @@ module _ {D : Type 0} (told : D → Option Past) (head payload : List ℕ) (mark
         goes_weaker (told v0.disk) (told v1.disk) (AddsFrame v0.area ok (is_waiting v1.waiting) (spelled c) v0.end) (Stores ok (replay_log base log) c)
         (λ p q i j adds.
         let h = stands p i in
-        let still = still_nothing base log marks since v0.area v0.generation v0.end v0.frames v0.waiting v0.gate p h calm in
-        let low = low_generation base log marks since v0.area v0.generation v0.end v0.frames v0.waiting v0.gate p h valid in
+        let still = still_nothing base log marks since v0.area v0.version v0.generation v0.end v0.frames v0.waiting v0.gate p h calm in
+        let low = low_generation base log marks since v0.area v0.version v0.generation v0.end v0.frames v0.waiting v0.gate p h valid in
         stores_short ok (replay_log base log) c p q
-        (adds_behind base log marks since v0.area v0.generation v0.end v0.frames v0.gate p still c fits legal q ok (is_waiting v1.waiting) adds)
-        (reads_short base log marks since v0.area v0.generation v0.end v0.frames v0.waiting v0.gate p h calm (not_due v0 due low)))
+        (adds_behind base log marks since v0.area v0.version v0.generation v0.end v0.frames v0.gate p still c fits legal q ok (is_waiting v1.waiting) adds)
+        (reads_short base log marks since v0.area v0.version v0.generation v0.end v0.frames v0.waiting v0.gate p h calm (not_due v0 due low)))
         (subst (λ (l : List ℕ). Goes (told v0.disk) (told v1.disk) (AddsFrame v0.area ok (is_waiting v1.waiting) l v0.end)) is (appends calm)),
   )
 
@@ -112,10 +112,10 @@ module _ {D : Type 0} (told : D → Option Past) (head payload : List ℕ) (mark
         λ calm.
             goes_then (told v0.disk) (told v1.disk) (told v2.disk) (λ p q. Extends p q × Compacts true (replay_log base log) p q) (AddsFrame v1.area ok (is_waiting v2.waiting) (spelled c) v1.end) (Stores ok (replay_log base log) c)
             (λ p q r i j k both adds.
-            let still = still_nothing base log marks since v1.area v1.generation v1.end v1.frames v1.waiting v1.gate q (moved.0.stands q j) calm1 in
+            let still = still_nothing base log marks since v1.area v1.version v1.generation v1.end v1.frames v1.waiting v1.gate q (moved.0.stands q j) calm1 in
             stores_moved ok (replay_log base log) c p q r both.0 both.1
-            (adds_behind base log marks since v1.area v1.generation v1.end v1.frames v1.gate q still c fits legal r ok (is_waiting v2.waiting) adds)
-            (reads_long base log marks since v0.area v0.generation v0.end v0.frames v0.waiting v0.gate p (stands p i) calm long))
+            (adds_behind base log marks since v1.area v1.version v1.generation v1.end v1.frames v1.gate q still c fits legal r ok (is_waiting v2.waiting) adds)
+            (reads_long base log marks since v0.area v0.version v0.generation v0.end v0.frames v0.waiting v0.gate p (stands p i) calm long))
             (goes_both (told v0.disk) (told v1.disk) Extends (Compacts true (replay_log base log)) moved.0.extends (moved.1 calm))
             (subst (λ (l : List ℕ). Goes (told v1.disk) (told v2.disk) (AddsFrame v1.area ok (is_waiting v2.waiting) l v1.end)) is (appends calm1)),
       )
@@ -130,14 +130,14 @@ module _ {D : Type 0} (told : D → Option Past) (head payload : List ℕ) (mark
         record {
           extends = moved.0.extends;
           stands = λ q j.
-              subst (λ (m : ℕ). Holds base (log ++ Doubt by c ∷ []) (marks ++ m ∷ []) since v1.area v1.generation v1.end v1.frames v1.waiting v1.gate q) (timed q j)
-              (holds_doubted base log marks since v1.area v1.generation v1.end v1.frames v1.waiting v1.gate q (moved.0.stands q j) by c);
+              subst (λ (m : ℕ). Holds base (log ++ Doubt by c ∷ []) (marks ++ m ∷ []) since v1.area v1.version v1.generation v1.end v1.frames v1.waiting v1.gate q) (timed q j)
+              (holds_doubted base log marks since v1.area v1.version v1.generation v1.end v1.frames v1.waiting v1.gate q (moved.0.stands q j) by c);
         },
         λ calm.
             goes_weaker (told v0.disk) (told v1.disk) (λ p q. Extends p q × Compacts false (replay_log base log) p q) (Stores false (replay_log base log) c)
             (λ p q i j both.
             stores_unmoved (replay_log base log) c p q both.0 both.1
-            (reads_long base log marks since v0.area v0.generation v0.end v0.frames v0.waiting v0.gate p (stands p i) calm long))
+            (reads_long base log marks since v0.area v0.version v0.generation v0.end v0.frames v0.waiting v0.gate p (stands p i) calm long))
             (goes_both (told v0.disk) (told v1.disk) Extends (Compacts false (replay_log base log)) moved.0.extends (moved.1 calm)),
       )
 

@@ -100,10 +100,10 @@ module _ {D : Type 0} (told : D → Option Past) (base : Rows) (log : List Item)
   pub stays_short : (most : ℕ) → 4096 ≤ most → ((p : Past) → told journal.disk ≡ Some p → journal.frames ≤ most) → ForSome (told journal.disk) (StaysShort most journal.frames)
   stays_short most enough few p is =
       let h = stands p is in
-      let low = low_generation base log marks since journal.area journal.generation journal.end journal.frames journal.waiting journal.gate p h valid in
+      let low = low_generation base log marks since journal.area journal.version journal.generation journal.end journal.frames journal.waiting journal.gate p h valid in
       record {
         few = few p is;
-        opened = has_at_most base log marks since journal.area journal.generation journal.end journal.frames journal.waiting journal.gate p h most (few p is)
+        opened = has_at_most base log marks since journal.area journal.version journal.generation journal.end journal.frames journal.waiting journal.gate p h most (few p is)
             (λ frame. let short = not_due journal (crowded frame) low in omega (arith, short, enough));
       }
 
@@ -124,7 +124,7 @@ stored_short {D} told fault_count rows base log marks events since faults journa
     stays_short told base longer (marks ++ mark ∷ []) since later (valid_more ok valid) stored.0.stands (has.crowded sound.crowded) (most_after ok journal.frames) (enough ok)
     (λ q is.
     let back = goes_back (told journal.disk) (told later.disk) Extends stored.0.extends q is in
-    few ok has.frames (λ done. has.short done (low_generation base log marks since journal.area journal.generation journal.end journal.frames journal.waiting journal.gate back.0 (sound.holds back.0 back.1) valid)))
+    few ok has.frames (λ done. has.short done (low_generation base log marks since journal.area journal.version journal.generation journal.end journal.frames journal.waiting journal.gate back.0 (sound.holds back.0 back.1) valid)))
   where
     enough : (done : Bool) → 4096 ≤ most_after done journal.frames
     enough true = omega arith

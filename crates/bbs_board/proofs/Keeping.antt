@@ -12,6 +12,7 @@ use Rattle.bbs_journal.specs.Beside.{Beside}
 use Rattle.bbs_journal.specs.Grammar.{heading}
 use Rattle.bbs_journal.specs.Other.{IsLoose, Yields}
 use Rattle.bbs_journal.specs.View.{frame_waits}
+use Rattle.bbs_journal.specs.Header.{newest}
 use Rattle.bbs_journal.specs.declared.other_gate.OtherGate.{OtherGate}
 use Rattle.bbs_journal.specs.declared.other_gate.OtherGate.TheVariants.{Loose}
 use Rattle.bbs_journal.specs.declared.waiting.Waiting.{Waiting}
@@ -41,9 +42,9 @@ found_more base log more from image found = record {
 
 -- ---- what a stop leaves
 
-module _ (base : Rows) (log : List Item) (marks : List ℕ) (since : ℕ) (area : Area) (generation end frames : ℕ) (waiting : Waiting) (known : OtherGate) (p : Past) (h : Holds base log marks since area generation end frames waiting known p) (lawful : IsLawful base log) where
+module _ (base : Rows) (log : List Item) (marks : List ℕ) (since : ℕ) (area : Area) (version generation end frames : ℕ) (waiting : Waiting) (known : OtherGate) (p : Past) (h : Holds base log marks since area version generation end frames waiting known p) (lawful : IsLawful base log) where
   abbrev front : List ℕ
-  front = h.gate ∷ heading generation h.head
+  front = h.gate ∷ heading version generation h.head
 
   abbrev rows : Rows
   rows = replay_log base log
@@ -52,11 +53,12 @@ module _ (base : Rows) (log : List Item) (marks : List ℕ) (since : ℕ) (area 
   pub opens : (payloads : List (List ℕ)) (image : Image) (found : Rows) → IsArea front payloads (image area) → Yields known generation (image (other area)) → board_of area h.head payloads None ≡ Ok found → IsBoard found image
   opens payloads image found is yields found_is = record {
     area = area;
+    version = version;
     generation = generation;
     head = h.head;
     payloads = payloads;
     end = _;
-    opening = area_opens image area h.gate generation h.head payloads known h.is_open h.goes_with yields is;
+    opening = area_opens image area h.gate version generation h.head payloads known h.is_open h.goes_with yields is;
     rows_are = found_is;
   }
 
@@ -64,15 +66,16 @@ module _ (base : Rows) (log : List Item) (marks : List ℕ) (since : ℕ) (area 
   opens_next : (payloads : List (List ℕ)) (image : Image) → IsArea front payloads (image area) → IsOpenNext waiting known h.next generation (image (other area)) → IsBoard rows image
   opens_next payloads image is next =
       let lead = h.leads_on next.size next.waits next.written in
-      let older : IsLoose (generation + 1) (image area) = older_front h.gate generation h.head (is.frames ++ 0 ∷ []) (image area) h.goes_with.below
+      let older : IsLoose (generation + 1) (image area) = older_front h.gate version generation h.head (is.frames ++ 0 ∷ []) (image area) h.goes_with.version_is h.goes_with.below
       (record { rest = is.begins.rest; parts = is.begins.parts ∙ ap (λ (l : List ℕ). l ++ is.begins.rest) (append_assoc front is.frames (0 ∷ [])) }) in
       record {
         area = other area;
+        version = newest;
         generation = generation + 1;
         head = h.next;
         payloads = [];
         end = _;
-        opening = area_opens image (other area) next.byte (generation + 1) h.next [] Loose next.is_open lead.goes_with
+        opening = area_opens image (other area) next.byte newest (generation + 1) h.next [] Loose next.is_open lead.goes_with
             (subst (λ (x : Area). IsLoose (generation + 1) (image x)) (sym (other_other area)) older)
             (unframed_area next.byte (generation + 1) h.next (image (other area)) next.begins);
         rows_are = lead.rows_are;

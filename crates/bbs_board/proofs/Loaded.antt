@@ -1,9 +1,7 @@
 -- What was loaded is a board, and stands as one.
-use Rattle.std.proofs.Common.{◌≡◌, inl, inr, ℕ, Bool, ◌+◌, ◌≤◌, List, [], ◌∷◌, ◌++◌, length, Option, Some, None, Result, Ok, Err, refl, sym, subst, ◌∙◌, arith, length-append}
-use Rattle.std.specs.Int.{w32, w64}
+use Rattle.std.proofs.Common.{◌≡◌, inl, inr, ℕ, Bool, ◌+◌, ◌≤◌, List, [], ◌∷◌, ◌++◌, length, Option, Some, None, Result, Ok, Err, refl, sym, subst, ◌∙◌, arith}
 use Rattle.std.specs.Option.{ForSome}
-use Rattle.wire_fields.specs.Field.{field_number}
-use Rattle.wire_fields.proofs.Public.{length-field_number, bind_ok}
+use Rattle.wire_fields.proofs.Public.{bind_ok}
 use Rattle.disk_trait.specs.Held.{Has, Leaves}
 use Rattle.disk_trait.specs.Past.{Past, Image, Images, ImagesSince, now, other, content}
 use Rattle.disk_trait.specs.Steps.{Goes}
@@ -11,7 +9,6 @@ use Rattle.disk_trait.proofs.Public.{settled_has, goes_back}
 use Rattle.disk_trait.specs.declared.area.Area.{Area}
 use Rattle.bbs_journal.specs.Areas.{Ready}
 use Rattle.bbs_journal.specs.Grammar.{heading}
-use Rattle.bbs_journal.specs.Header.{mark}
 use Rattle.bbs_journal.specs.Opening.{IsOpening}
 use Rattle.bbs_journal.specs.Other.{Yields}
 use Rattle.bbs_journal.specs.Reading.{bytes_of}
@@ -20,7 +17,7 @@ use Rattle.bbs_journal.specs.declared.other_gate.OtherGate.{OtherGate}
 use Rattle.bbs_journal.specs.declared.waiting.Waiting.TheVariants.{Nothing}
 use Rattle.disk_trait.specs.Shows.{Shows, Secures}
 use Rattle.bbs_journal.specs.declared.load_fault.LoadFault.{LoadFault}
-use Rattle.bbs_journal.proofs.Public.{accepted, opens_once, recovered, ready}
+use Rattle.bbs_journal.proofs.Public.{accepted, length-heading, opens_once, recovered, ready}
 use Rattle.bbs_model.specs.declared.rows.Rows.{Rows}
 use Rattle.bbs_board.specs.Opening.{rows_in, followed, board_of, IsBoard, IsRefused}
 use Rattle.bbs_board.specs.Kept.{IsFound, Kept}
@@ -42,25 +39,20 @@ counted area head payloads rows is =
     let next = next-followed area first.0 rows (23 + length head) payloads first.2 in
     omega (arith, next)
 
-pub loaded_board : (c : Image) (area : Area) (generation : ℕ) (head : List ℕ) (payloads : List (List ℕ)) (broken : Option ℕ) (end : ℕ) (rows : Rows)
-    → IsOpening c area generation head payloads broken end → board_of area head payloads broken ≡ Ok rows → IsBoard rows c
-loaded_board c area generation head payloads broken end rows opening is =
+pub loaded_board : (c : Image) (area : Area) (version generation : ℕ) (head : List ℕ) (payloads : List (List ℕ)) (broken : Option ℕ) (end : ℕ) (rows : Rows)
+    → IsOpening c area version generation head payloads broken end → board_of area head payloads broken ≡ Ok rows → IsBoard rows c
+loaded_board c area version generation head payloads broken end rows opening is =
     let none : broken ≡ None = unbroken area head payloads broken rows is in
     record {
       area = area;
+      version = version;
       generation = generation;
       head = head;
       payloads = payloads;
       end = end;
-      opening = subst (λ (b : Option ℕ). IsOpening c area generation head payloads b end) none opening;
+      opening = subst (λ (b : Option ℕ). IsOpening c area version generation head payloads b end) none opening;
       rows_are = subst (λ (b : Option ℕ). board_of area head payloads b ≡ Ok rows) none is;
     }
-
-length-heading : (generation : ℕ) (head : List ℕ) → length (heading generation head) ≡ 22 + length head
-length-heading generation head =
-    let number = field_number w64 generation in
-    let size = field_number w32 (length head) in
-    omega (arith, length-append mark (number ++ (size ++ head)), length-append number (size ++ head), length-append size head, length-field_number w64 generation, length-field_number w32 (length head))
 
 -- a board that was just loaded is kept
 module _ (base : Rows) (since : ℕ) (q : Past) (since_is : q.clock ≡ since) (loaded : (image : Image) → Images q image → IsBoard base image) where
@@ -82,19 +74,19 @@ module _ (base : Rows) (since : ℕ) (q : Past) (since_is : q.clock ≡ since) (
   }
 
 -- what was loaded stands on the disk, whatever a stop leaves
-pub loaded_holds : (t0 t1 : Option Past) (area : Area) (generation : ℕ) (head : List ℕ) (payloads : List (List ℕ)) (broken : Option ℕ) (end : ℕ) (rows : Rows) (since : ℕ) → Goes t0 t1 Secures
+pub loaded_holds : (t0 t1 : Option Past) (area : Area) (version generation : ℕ) (head : List ℕ) (payloads : List (List ℕ)) (broken : Option ℕ) (end : ℕ) (rows : Rows) (since : ℕ) → Goes t0 t1 Secures
     → ((q : Past) → t1 ≡ Some q → q.clock ≡ since)
-    → ((c : Image) → Shows t1 c → IsOpening c area generation head payloads broken end) → end ≡ 23 + length head + bytes_of payloads → board_of area head payloads broken ≡ Ok rows
-    → (frames : ℕ) (unsound : Bool) (known : OtherGate) → ForSome t1 (IsKept area generation end frames Nothing unsound known) → ForSome t1 (Holds rows [] [] since area generation end (length payloads) Nothing known)
-loaded_holds t0 t1 area generation head payloads broken end rows since goes timed found place is frames unsound known stood q told =
+    → ((c : Image) → Shows t1 c → IsOpening c area version generation head payloads broken end) → end ≡ 23 + length head + bytes_of payloads → board_of area head payloads broken ≡ Ok rows
+    → (frames : ℕ) (unsound : Bool) (known : OtherGate) → ForSome t1 (IsKept area version generation end frames Nothing unsound known) → ForSome t1 (Holds rows [] [] since area version generation end (length payloads) Nothing known)
+loaded_holds t0 t1 area version generation head payloads broken end rows since goes timed found place is frames unsound known stood q told =
     let back = goes_back t0 t1 Secures goes q told in
     let shows : Shows t1 (content q) = subst (λ (t : Option Past). Shows t (content q)) (sym told) (λ a. refl) in
     let none : broken ≡ None = unbroken area head payloads broken rows is in
-    let opening : IsOpening (content q) area generation head payloads None end =
-    subst (λ (b : Option ℕ). IsOpening (content q) area generation head payloads b end) none (found (content q) shows) in
-    let r = recovered (content q) area generation head payloads end (q.possible q.clock area).bytes opening in
-    let front : List ℕ = r.gate ∷ heading generation head in
-    let there : length front + bytes_of payloads ≡ end = omega (arith, place, length-heading generation head) in
+    let opening : IsOpening (content q) area version generation head payloads None end =
+    subst (λ (b : Option ℕ). IsOpening (content q) area version generation head payloads b end) none (found (content q) shows) in
+    let r = recovered (content q) area version generation head payloads end (q.possible q.clock area).bytes opening in
+    let front : List ℕ = r.gate ∷ heading version generation head in
+    let there : length front + bytes_of payloads ≡ end = omega (arith, place, length-heading version generation head) in
     let stands : Ready front payloads end (now q area) = subst (λ (n : ℕ). Ready front payloads n (now q area)) there (ready front payloads (now q area) r.area_is (back.2.settled area)) in
     let beside : Has (Yields r.beside generation) (now q (other area)) = settled_has (Yields r.beside generation) (now q (other area)) (back.2.settled (other area)) r.yields in
     let rows_are : board_of area head payloads None ≡ Ok rows = subst (λ (b : Option ℕ). board_of area head payloads b ≡ Ok rows) none is in
@@ -115,11 +107,12 @@ loaded_holds t0 t1 area generation head payloads broken end rows since goes time
       rows_are = rows_are;
       kept = kept_now rows since q (timed q told) (λ image leaves. record {
         area = area;
+        version = version;
         generation = generation;
         head = head;
         payloads = payloads;
         end = _;
-        opening = accepted image area generation head payloads (record {
+        opening = accepted image area version generation head payloads (record {
           gate = r.gate;
           is_open = r.is_open;
           goes_with = r.goes_with;
@@ -142,14 +135,14 @@ same_rows a b r first second = cc
 pub not_refused : (rows : Rows) (fault : LoadFault) (c : Image) → IsBoard rows c → IsRefused fault c → ⊥
 not_refused rows fault c board (inl refused) = cc (board.opening.head_is, refused)
 not_refused rows fault c board (inr damaged) =
-    let same = opens_once c board.area damaged.area board.generation damaged.generation board.head damaged.head board.payloads damaged.payloads None damaged.broken board.end damaged.end board.opening damaged.opening in
+    let same = opens_once c board.area damaged.area board.version damaged.version board.generation damaged.generation board.head damaged.head board.payloads damaged.payloads None damaged.broken board.end damaged.end board.opening damaged.opening in
     let there : board_of board.area board.head board.payloads None ≡ board_of damaged.area damaged.head damaged.payloads damaged.broken =
     λ i. board_of (same.area_is i) (same.head_is i) (same.payloads_are i) (same.broken_is i) in
     both_ways rows fault _ board.rows_are (there ∙ damaged.fault_is)
 
 pub one_board : (a b : Rows) (c : Image) → IsBoard a c → IsBoard b c → a ≡ b
 one_board a b c first second =
-    let same = opens_once c first.area second.area first.generation second.generation first.head second.head first.payloads second.payloads None None first.end second.end first.opening second.opening in
+    let same = opens_once c first.area second.area first.version second.version first.generation second.generation first.head second.head first.payloads second.payloads None None first.end second.end first.opening second.opening in
     let there : board_of first.area first.head first.payloads None ≡ board_of second.area second.head second.payloads None =
     λ i. board_of (same.area_is i) (same.head_is i) (same.payloads_are i) None in
     same_rows a b _ first.rows_are (there ∙ second.rows_are)

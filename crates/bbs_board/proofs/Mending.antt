@@ -39,10 +39,10 @@ gate_of_frame true known = refl
 gate_of_frame false known = refl
 
 module _ {D : Type 0} (told : D → Option Past) where
-  pub standing : (base : Rows) (log : List Item) (marks : List ℕ) (since : ℕ) (v : JournalView D) (area : Area) (generation end frames : ℕ) (waiting : Waiting) (known : OtherGate)
-      → v.area ≡ area → v.generation ≡ generation → v.end ≡ end → v.frames ≡ frames → v.waiting ≡ waiting → v.gate ≡ known
-      → ForSome (told v.disk) (Holds base log marks since area generation end frames waiting known) → StandsOn told base log marks since v
-  standing base log marks since v area generation end frames waiting known a g e f w s holds = rw (a, g, e, f, w, s) holds
+  pub standing : (base : Rows) (log : List Item) (marks : List ℕ) (since : ℕ) (v : JournalView D) (area : Area) (version generation end frames : ℕ) (waiting : Waiting) (known : OtherGate)
+      → v.area ≡ area → v.version ≡ version → v.generation ≡ generation → v.end ≡ end → v.frames ≡ frames → v.waiting ≡ waiting → v.gate ≡ known
+      → ForSome (told v.disk) (Holds base log marks since area version generation end frames waiting known) → StandsOn told base log marks since v
+  standing base log marks since v area version generation end frames waiting known a n g e f w s holds = rw (a, n, g, e, f, w, s) holds
 
   -- ---- a mend
 
@@ -58,13 +58,13 @@ module _ {D : Type 0} (told : D → Option Past) where
     mended_frame : v0.waiting ≡ Frame → Goes (told v0.disk) (told v1.disk) (Closes v0.area ok v0.end) → StandsWith told base log marks since v0 v1
     mended_frame is closes =
         let both = by_step (told v0.disk) (told v1.disk) (Closes v0.area ok v0.end)
-        (Holds base log marks since v0.area v0.generation v0.end v0.frames Frame v0.gate)
-        (Holds base log marks since v0.area v0.generation v0.end v0.frames (left_waiting ok Frame) v0.gate)
-        (λ p q j c h. holds_frame base log marks since v0.area v0.generation v0.end v0.frames v0.gate p q h lawful ok c) closes
-        (subst (λ (w : Waiting). ForSome (told v0.disk) (Holds base log marks since v0.area v0.generation v0.end v0.frames w v0.gate)) is stands) in
+        (Holds base log marks since v0.area v0.version v0.generation v0.end v0.frames Frame v0.gate)
+        (Holds base log marks since v0.area v0.version v0.generation v0.end v0.frames (left_waiting ok Frame) v0.gate)
+        (λ p q j c h. holds_frame base log marks since v0.area v0.version v0.generation v0.end v0.frames v0.gate p q h lawful ok c) closes
+        (subst (λ (w : Waiting). ForSome (told v0.disk) (Holds base log marks since v0.area v0.version v0.generation v0.end v0.frames w v0.gate)) is stands) in
         record {
           extends = both.0;
-          stands = standing base log marks since v1 v0.area v0.generation v0.end v0.frames (left_waiting ok Frame) v0.gate settles.stays.area settles.stays.generation settles.end settles.frames
+          stands = standing base log marks since v1 v0.area v0.version v0.generation v0.end v0.frames (left_waiting ok Frame) v0.gate settles.stays.area settles.stays.version settles.stays.generation settles.end settles.frames
               (settles.waiting ∙ ap (left_waiting ok) is)
               (settles.gate ∙ ap (λ (w : Waiting). if ok then gate_mended w v0.gate else v0.gate) is ∙ gate_of_frame ok v0.gate) both.1;
         }
@@ -72,13 +72,13 @@ module _ {D : Type 0} (told : D → Option Past) where
     mended_header : v0.waiting ≡ Header → Goes (told v0.disk) (told v1.disk) (ClosesHeader v0.area v0.gate v0.generation ok) → StandsWith told base log marks since v0 v1
     mended_header is closes =
         let both = by_step (told v0.disk) (told v1.disk) (ClosesHeader v0.area v0.gate v0.generation ok)
-        (Holds base log marks since v0.area v0.generation v0.end v0.frames Header v0.gate)
-        (Holds base log marks since v0.area v0.generation v0.end v0.frames (left_waiting ok Header) (left_known ok v0.gate))
-        (λ p q j c h. holds_header base log marks since v0.area v0.generation v0.end v0.frames v0.gate p q h lawful ok c) closes
-        (subst (λ (w : Waiting). ForSome (told v0.disk) (Holds base log marks since v0.area v0.generation v0.end v0.frames w v0.gate)) is stands) in
+        (Holds base log marks since v0.area v0.version v0.generation v0.end v0.frames Header v0.gate)
+        (Holds base log marks since v0.area v0.version v0.generation v0.end v0.frames (left_waiting ok Header) (left_known ok v0.gate))
+        (λ p q j c h. holds_header base log marks since v0.area v0.version v0.generation v0.end v0.frames v0.gate p q h lawful ok c) closes
+        (subst (λ (w : Waiting). ForSome (told v0.disk) (Holds base log marks since v0.area v0.version v0.generation v0.end v0.frames w v0.gate)) is stands) in
         record {
           extends = both.0;
-          stands = standing base log marks since v1 v0.area v0.generation v0.end v0.frames (left_waiting ok Header) (left_known ok v0.gate) settles.stays.area settles.stays.generation settles.end settles.frames
+          stands = standing base log marks since v1 v0.area v0.version v0.generation v0.end v0.frames (left_waiting ok Header) (left_known ok v0.gate) settles.stays.area settles.stays.version settles.stays.generation settles.end settles.frames
               (settles.waiting ∙ ap (left_waiting ok) is)
               (settles.gate ∙ ap (λ (w : Waiting). if ok then gate_mended w v0.gate else v0.gate) is) both.1;
         }
@@ -101,8 +101,8 @@ module _ {D : Type 0} (told : D → Option Past) where
       record {
         extends = s.extends;
         stands = λ q j.
-            subst (λ (m : ℕ). Holds base (log ++ Doubt by c ∷ []) (marks ++ m ∷ []) since v1.area v1.generation v1.end v1.frames v1.waiting v1.gate q) (timed q j)
-            (holds_doubted base log marks since v1.area v1.generation v1.end v1.frames v1.waiting v1.gate q (s.stands q j) by c);
+            subst (λ (m : ℕ). Holds base (log ++ Doubt by c ∷ []) (marks ++ m ∷ []) since v1.area v1.version v1.generation v1.end v1.frames v1.waiting v1.gate q) (timed q j)
+            (holds_doubted base log marks since v1.area v1.version v1.generation v1.end v1.frames v1.waiting v1.gate q (s.stands q j) by c);
       }
 
   -- an append where nothing waits
@@ -112,18 +112,18 @@ module _ {D : Type 0} (told : D → Option Past) where
       let longer : List Item = log ++ item_of ok by c ∷ [] in
       let after : Bool = is_waiting v1.waiting in
       let both = by_step (told v0.disk) (told v1.disk) (AddsFrame v0.area ok after payload v0.end)
-      (Holds base log marks since v0.area v0.generation v0.end v0.frames Nothing v0.gate)
-      (Holds base longer (marks ++ mark ∷ []) since v0.area v0.generation (end_of ok v0.end (spelled c)) (frames_of ok v0.frames) (frame_left after) v0.gate)
+      (Holds base log marks since v0.area v0.version v0.generation v0.end v0.frames Nothing v0.gate)
+      (Holds base longer (marks ++ mark ∷ []) since v0.area v0.version v0.generation (end_of ok v0.end (spelled c)) (frames_of ok v0.frames) (frame_left after) v0.gate)
       (λ p q j a h.
-      let step = holds_added base log marks since v0.area v0.generation v0.end v0.frames v0.gate p q h lawful by c fits legal ok after (λ t. ap is_waiting (grows.waits t))
+      let step = holds_added base log marks since v0.area v0.version v0.generation v0.end v0.frames v0.gate p q h lawful by c fits legal ok after (λ t. ap is_waiting (grows.waits t))
       (subst (λ (l : List ℕ). AddsFrame v0.area ok after l v0.end p q) is a) in
-      (step.0, subst (λ (m : ℕ). Holds base longer (marks ++ m ∷ []) since v0.area v0.generation (end_of ok v0.end (spelled c)) (frames_of ok v0.frames) (frame_left after) v0.gate q) (timed q j) step.1))
+      (step.0, subst (λ (m : ℕ). Holds base longer (marks ++ m ∷ []) since v0.area v0.version v0.generation (end_of ok v0.end (spelled c)) (frames_of ok v0.frames) (frame_left after) v0.gate q) (timed q j) step.1))
       adds
-      (subst (λ (w : Waiting). ForSome (told v0.disk) (Holds base log marks since v0.area v0.generation v0.end v0.frames w v0.gate)) calm stands) in
+      (subst (λ (w : Waiting). ForSome (told v0.disk) (Holds base log marks since v0.area v0.version v0.generation v0.end v0.frames w v0.gate)) calm stands) in
       record {
         extends = both.0;
-        stands = standing base longer (marks ++ mark ∷ []) since v1 v0.area v0.generation (end_of ok v0.end (spelled c)) (frames_of ok v0.frames) (frame_left after) v0.gate
-            grows.stays.area grows.stays.generation (grows.end ∙ ap (end_of ok v0.end) is) grows.frames grows.frame grows.gate both.1;
+        stands = standing base longer (marks ++ mark ∷ []) since v1 v0.area v0.version v0.generation (end_of ok v0.end (spelled c)) (frames_of ok v0.frames) (frame_left after) v0.gate
+            grows.stays.area grows.stays.version grows.stays.generation (grows.end ∙ ap (end_of ok v0.end) is) grows.frames grows.frame grows.gate both.1;
       }
 
   -- behind a mend
@@ -186,7 +186,7 @@ gate_settled false w gate later own is = is
 -- what a journal knows of an append that failed, after a mend of its gate
 pub grows_closed : {D : Type 0} (v1 v2 v3 : JournalView D) (len : ℕ) (ok : Bool) → GrowsBy false len v1 v2 → Settles ok v2 v3 → GrowsBy false len v1 v3
 grows_closed v1 v2 v3 len ok grows settles = record {
-  stays = record { area = settles.stays.area ∙ grows.stays.area; generation = settles.stays.generation ∙ grows.stays.generation; broken = settles.stays.broken ∙ grows.stays.broken };
+  stays = record { area = settles.stays.area ∙ grows.stays.area; version = settles.stays.version ∙ grows.stays.version; generation = settles.stays.generation ∙ grows.stays.generation; broken = settles.stays.broken ∙ grows.stays.broken };
   gate = gate_settled ok v2.waiting v2.gate v3.gate grows.frame settles.gate ∙ grows.gate;
   end = settles.end ∙ grows.end;
   frames = settles.frames ∙ grows.frames;
@@ -210,7 +210,7 @@ module _ {D : Type 0} (v0 v1 v2 : JournalView D) (len : ℕ) where
 
   pub has_put : (ok : Bool) → Settles true v0 v1 → GrowsBy ok len v1 v2 → HasPut ok v0 v2
   has_put ok mended grows = record {
-    stays = record { area = grows.stays.area ∙ mended.stays.area; generation = grows.stays.generation ∙ mended.stays.generation; broken = grows.stays.broken ∙ mended.stays.broken };
+    stays = record { area = grows.stays.area ∙ mended.stays.area; version = grows.stays.version ∙ mended.stays.version; generation = grows.stays.generation ∙ mended.stays.generation; broken = grows.stays.broken ∙ mended.stays.broken };
     frames = grows.frames ∙ ap (frames_of ok) mended.frames;
     waits = grows.waits;
   }

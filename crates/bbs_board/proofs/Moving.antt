@@ -13,6 +13,7 @@ use Rattle.bbs_journal.specs.Beside.{Beside}
 use Rattle.bbs_journal.specs.Grammar.{heading}
 use Rattle.bbs_journal.specs.Stops.{OpensAs}
 use Rattle.bbs_journal.specs.View.{frame_waits}
+use Rattle.bbs_journal.specs.Header.{newest}
 use Rattle.bbs_journal.specs.declared.other_gate.OtherGate.{OtherGate}
 use Rattle.bbs_journal.specs.declared.other_gate.OtherGate.TheVariants.{Loose}
 use Rattle.bbs_journal.specs.declared.waiting.Waiting.{Waiting}
@@ -39,12 +40,12 @@ in_area_ok area (Err fault) rows is = cc
 
 -- ---- the head of the rows is that of a next area
 
-module _ (base : Rows) (log : List Item) (marks : List ℕ) (since : ℕ) (area : Area) (generation end frames : ℕ) (waiting : Waiting) (known : OtherGate) (p : Past) (h : Holds base log marks since area generation end frames waiting known p) where
+module _ (base : Rows) (log : List Item) (marks : List ℕ) (since : ℕ) (area : Area) (version generation end frames : ℕ) (waiting : Waiting) (known : OtherGate) (p : Past) (h : Holds base log marks since area version generation end frames waiting known p) where
   abbrev rows : Rows
   rows = replay_log base log
 
   -- each generation goes with a transition at least
-  pub not_above : generation + length h.payloads ≤ rows.next + 1
+  pub not_above : generation + length h.payloads ≤ rows.next + version
   not_above =
       let start = bind_ok (rows_in area h.head) (λ start. followed area None start (23 + length h.head) h.payloads) rows h.rows_are in
       let begins = head_next h.head start.0 (in_area_ok area (head_reading h.head) start.0 start.1) in
@@ -57,40 +58,42 @@ module _ (base : Rows) (log : List Item) (marks : List ℕ) (since : ℕ) (area 
       let again = head_again rows fits in
       let begins = head_next (head_spelled rows) rows again in
       let count = h.count in
+      let first = h.goes_with.version_is in
       record {
         goes_with = record {
+          version_is = refl;
           above = omega arith;
-          below = omega (arith, not_above, fits.valid.next, count, some);
+          below = omega (arith, not_above, first, fits.valid.next, count, some);
           fits = small;
-          not_ahead = λ long. omega (arith, not_above, begins.1, count, some);
+          not_ahead = λ long. omega (arith, not_above, first, begins.1, count, some);
         };
         rows_are = ap (λ (r : Result Rows CodecFault). in_area (other area) r >>= λ start. followed (other area) None start (23 + length (head_spelled rows)) []) again;
       }
 
 -- ---- a switch to it
 
-module _ (base : Rows) (log : List Item) (marks : List ℕ) (since : ℕ) (area : Area) (generation end frames : ℕ) (known : OtherGate) (p q : Past) (h : Holds base log marks since area generation end frames Nothing known p)
+module _ (base : Rows) (log : List Item) (marks : List ℕ) (since : ℕ) (area : Area) (version generation end frames : ℕ) (known : OtherGate) (p q : Past) (h : Holds base log marks since area version generation end frames Nothing known p)
     (new : List ℕ) (lead : LeadsOn area generation new (replay_log base log)) where
-  pub calm_ready : Ready (h.gate ∷ heading generation h.head) h.payloads end (now p area)
-  calm_ready = ready_where h.doubt (h.gate ∷ heading generation h.head) h.payloads end (now p area) h.waits_is h.stands
+  pub calm_ready : Ready (h.gate ∷ heading version generation h.head) h.payloads end (now p area)
+  calm_ready = ready_where h.doubt (h.gate ∷ heading version generation h.head) h.payloads end (now p area) h.waits_is h.stands
 
-  switch_found : (from : ℕ) → from ≤ length log → (image : Image) → OpensAs image area generation h.head h.payloads ⊎ OpensAs image (other area) (generation + 1) new [] → IsFound base log from image
+  switch_found : (from : ℕ) → from ≤ length log → (image : Image) → OpensAs image area version generation h.head h.payloads ⊎ OpensAs image (other area) newest (generation + 1) new [] → IsFound base log from image
   switch_found from le image (inl old) = record {
     rows = replay_log base log;
-    board = record { area = area; generation = generation; head = h.head; payloads = h.payloads; end = _; opening = old; rows_are = h.rows_are };
+    board = record { area = area; version = version; generation = generation; head = h.head; payloads = h.payloads; end = _; opening = old; rows_are = h.rows_are };
     reached = reached_end base log from le;
   }
   switch_found from le image (inr opened) = record {
     rows = replay_log base log;
-    board = record { area = other area; generation = generation + 1; head = new; payloads = []; end = _; opening = opened; rows_are = lead.rows_are };
+    board = record { area = other area; version = newest; generation = generation + 1; head = new; payloads = []; end = _; opening = opened; rows_are = lead.rows_are };
     reached = reached_end base log from le;
   }
 
-  module _ (ok : Bool) (waiting : Waiting) (left : OtherGate) (s : Switches ok area generation h.head h.payloads waiting left new p q) where
+  module _ (ok : Bool) (waiting : Waiting) (left : OtherGate) (s : Switches ok area version generation h.head h.payloads waiting left new p q) where
     switch_kept : Kept base log marks since q
     switch_kept = kept_on base log marks since p q h.kept s.extends (λ image images from le below. switch_found from le image (s.each image images))
 
-    pub holds_there : ok ≡ true → Holds base log marks since (other area) (generation + 1) (23 + length new) 0 Nothing Loose q
+    pub holds_there : ok ≡ true → Holds base log marks since (other area) newest (generation + 1) (23 + length new) 0 Nothing Loose q
     holds_there is =
         let made = s.made is in
         record {
@@ -111,7 +114,7 @@ module _ (base : Rows) (log : List Item) (marks : List ℕ) (since : ℕ) (area 
           kept = switch_kept;
         }
 
-    pub holds_here : ok ≡ false → frame_waits waiting ≡ false → Holds base log marks since area generation end frames waiting left q
+    pub holds_here : ok ≡ false → frame_waits waiting ≡ false → Holds base log marks since area version generation end frames waiting left q
     holds_here is calm =
         let failed = s.failed is in
         record {
@@ -124,7 +127,7 @@ module _ (base : Rows) (log : List Item) (marks : List ℕ) (since : ℕ) (area 
           goes_with = h.goes_with;
           waits_is = calm;
           may_show = λ payload never. absurd (cc (never));
-          stands = subst (Ready (h.gate ∷ heading generation h.head) h.payloads end) (sym failed.still) calm_ready;
+          stands = subst (Ready (h.gate ∷ heading version generation h.head) h.payloads end) (sym failed.still) calm_ready;
           next = new;
           beside = failed.beside;
           leads_on = λ size waits written. lead;
@@ -135,7 +138,7 @@ module _ (base : Rows) (log : List Item) (marks : List ℕ) (since : ℕ) (area 
 -- ---- what a stop leaves, to the byte
 
 instead_is : (rows : Rows) (r : Reading) (payloads : List (List ℕ)) → 0 < length payloads
-    → headed_instead rows r payloads ≡ record { area = other r.area; generation = r.generation + 1; head = head_spelled rows; payloads = [] }
+    → headed_instead rows r payloads ≡ record { area = other r.area; version = newest; generation = r.generation + 1; head = head_spelled rows; payloads = [] }
 instead_is rows r [] some = absurd (omega (arith, some))
 instead_is rows r (payload ∷ payloads) some = refl
 
@@ -143,12 +146,12 @@ none_instead : (rows : Rows) (r : Reading) (payloads : List (List ℕ)) → leng
 none_instead rows r [] none = refl
 none_instead rows r (payload ∷ payloads) none = absurd (omega (arith, none))
 
-module _ (base : Rows) (log : List Item) (marks : List ℕ) (since : ℕ) (area : Area) (generation end frames : ℕ) (known : OtherGate) (p : Past) (h : Holds base log marks since area generation end frames Nothing known p) where
+module _ (base : Rows) (log : List Item) (marks : List ℕ) (since : ℕ) (area : Area) (version generation end frames : ℕ) (known : OtherGate) (p : Past) (h : Holds base log marks since area version generation end frames Nothing known p) where
   abbrev reading : Reading
-  reading = record { area = area; generation = generation; head = h.head; payloads = h.payloads }
+  reading = record { area = area; version = version; generation = generation; head = h.head; payloads = h.payloads }
 
   reads_now : (image : Image) → Images p image → OpensTo reading image
-  reads_now = holds_images base log marks since area generation end frames known p h
+  reads_now = holds_images base log marks since area version generation end frames known p h
 
   still_reads : (image : Image) → ImagesSince p p.clock image → OpensTo reading image
   still_reads image images =
@@ -183,7 +186,7 @@ module _ (base : Rows) (log : List Item) (marks : List ℕ) (since : ℕ) (area 
 
   -- and one that was tried
   pub compacts_by : (q : Past) (ok : Bool) (waiting : Waiting) (left : OtherGate) → 0 < frames → LeadsOn area generation (head_spelled (replay_log base log)) (replay_log base log)
-      → Switches ok area generation h.head h.payloads waiting left (head_spelled (replay_log base log)) p q → Compacts ok (replay_log base log) p q
+      → Switches ok area version generation h.head h.payloads waiting left (head_spelled (replay_log base log)) p q → Compacts ok (replay_log base log) p q
   compacts_by q ok waiting left some lead s =
       let count = h.count in
       let same = instead_is (replay_log base log) reading h.payloads (omega (arith, count, some)) in

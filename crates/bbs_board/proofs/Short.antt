@@ -9,6 +9,7 @@ use Rattle.bbs_journal.specs.Beside.{Beside}
 use Rattle.bbs_journal.specs.Grammar.{heading}
 use Rattle.bbs_journal.specs.Stops.{OpensAs}
 use Rattle.bbs_journal.specs.View.{frame_waits}
+use Rattle.bbs_journal.specs.Header.{newest}
 use Rattle.bbs_journal.specs.declared.other_gate.OtherGate.{OtherGate}
 use Rattle.bbs_journal.specs.declared.waiting.Waiting.{Waiting}
 use Rattle.bbs_journal.specs.declared.waiting.Waiting.TheVariants.{Header}
@@ -35,27 +36,27 @@ stands_area head payloads (Some one) end held waits bytes leaves =
 
 -- ---- so each image has no more payloads than that
 
-module _ (base : Rows) (log : List Item) (marks : List ℕ) (since : ℕ) (area : Area) (generation end frames : ℕ) (waiting : Waiting) (known : OtherGate) (p : Past) (h : Holds base log marks since area generation end frames waiting known p)
+module _ (base : Rows) (log : List Item) (marks : List ℕ) (since : ℕ) (area : Area) (version generation end frames : ℕ) (waiting : Waiting) (known : OtherGate) (p : Past) (h : Holds base log marks since area version generation end frames waiting known p)
     (most : ℕ) (enough : frames ≤ most) (crowded : frame_waits waiting ≡ true → frames < most) where
   abbrev Front : List ℕ
-  Front = h.gate ∷ heading generation h.head
+  Front = h.gate ∷ heading version generation h.head
 
-  opened_so : (image : Image) (r : Reading) (payloads : List (List ℕ)) → OpensTo r image → OpensAs image area generation h.head payloads → length payloads ≤ most → length r.payloads ≤ most
+  opened_so : (image : Image) (r : Reading) (payloads : List (List ℕ)) → OpensTo r image → OpensAs image area version generation h.head payloads → length payloads ≤ most → length r.payloads ≤ most
   opened_so image r payloads opens really few =
-      let same = same_reading image r (record { area = area; generation = generation; head = h.head; payloads = payloads }) opens really in
+      let same = same_reading image r (record { area = area; version = version; generation = generation; head = h.head; payloads = payloads }) opens really in
       omega (arith, few, ap (λ (x : Reading). length x.payloads) same)
 
   -- the area behind an open gate has none
   newer_so : (image : Image) (r : Reading) → OpensTo r image → IsArea Front h.payloads (image area) → IsOpenNext waiting known h.next generation (image (other area)) → length r.payloads ≤ most
   newer_so image r opens is next =
       let lead = h.leads_on next.size next.waits next.written in
-      let really = opens_newer area generation h.gate h.head h.payloads known h.next h.is_open h.goes_with lead.goes_with waiting image is next in
-      let same = same_reading image r (record { area = other area; generation = generation + 1; head = h.next; payloads = [] }) opens really in
+      let really = opens_newer area version generation h.gate h.head h.payloads known h.next h.is_open h.goes_with lead.goes_with waiting image is next in
+      let same = same_reading image r (record { area = other area; version = newest; generation = generation + 1; head = h.next; payloads = [] }) opens really in
       omega (arith, ap (λ (x : Reading). length x.payloads) same)
 
   own_so : (image : Image) (r : Reading) → OpensTo r image → IsArea Front h.payloads (image area) → Beside h.next waiting known generation (image (other area)) → length r.payloads ≤ most
   own_so image r opens is beside = ⊎_elim
-      (λ yields. opened_so image r h.payloads opens (area_opens image area h.gate generation h.head h.payloads known h.is_open h.goes_with yields is) (let count = h.count in omega (arith, count, enough)))
+      (λ yields. opened_so image r h.payloads opens (area_opens image area h.gate version generation h.head h.payloads known h.is_open h.goes_with yields is) (let count = h.count in omega (arith, count, enough)))
       (λ next. newer_so image r opens is next)
       (besides h.next waiting known generation (image (other area)) beside)
 
@@ -65,7 +66,7 @@ module _ (base : Rows) (log : List Item) (marks : List ℕ) (since : ℕ) (area 
       let below = crowded frame in
       ⊎_elim
       (λ yields.
-      opened_so image r (h.payloads ++ one ∷ []) opens (area_opens image area h.gate generation h.head (h.payloads ++ one ∷ []) known h.is_open h.goes_with yields is)
+      opened_so image r (h.payloads ++ one ∷ []) opens (area_opens image area h.gate version generation h.head (h.payloads ++ one ∷ []) known h.is_open h.goes_with yields is)
       (let count = h.count in omega (arith, count, below, length-append h.payloads (one ∷ []))))
       (λ next. absurd (let header : waiting ≡ Header = next.waits in cc))
       (besides h.next waiting known generation (image (other area)) beside)

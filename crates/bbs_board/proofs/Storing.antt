@@ -38,9 +38,9 @@ use Rattle.bbs_board.proofs.Beside.{calm_nothing, calm_yields}
 use Rattle.bbs_board.proofs.Steps.{ready_where}
 use Rattle.bbs_board.proofs.Frames.{command_more}
 
-module _ (base : Rows) (log : List Item) (marks : List ℕ) (since : ℕ) (area : Area) (generation end frames : ℕ) (known : OtherGate) (p : Past) (h : Holds base log marks since area generation end frames Nothing known p) where
+module _ (base : Rows) (log : List Item) (marks : List ℕ) (since : ℕ) (area : Area) (version generation end frames : ℕ) (known : OtherGate) (p : Past) (h : Holds base log marks since area version generation end frames Nothing known p) where
   abbrev front : List ℕ
-  front = h.gate ∷ heading generation h.head
+  front = h.gate ∷ heading version generation h.head
 
   ready : Ready front h.payloads end (now p area)
   ready = ready_where h.doubt front h.payloads end (now p area) h.waits_is h.stands
@@ -49,12 +49,12 @@ module _ (base : Rows) (log : List Item) (marks : List ℕ) (since : ℕ) (area 
   gives_way = has_weaker (Beside h.next Nothing known generation) (Yields known generation) (now p (other area)) (λ bytes beside. calm_yields h.next Nothing known generation bytes refl beside) h.beside
 
   abbrev reading : Reading
-  reading = record { area = area; generation = generation; head = h.head; payloads = h.payloads }
+  reading = record { area = area; version = version; generation = generation; head = h.head; payloads = h.payloads }
 
   -- what a stop leaves of a board that stands is opened as its head and payloads
-  pub holds_images : (image : Image) → Images p image → OpensAs image area generation h.head h.payloads
+  pub holds_images : (image : Image) → Images p image → OpensAs image area version generation h.head h.payloads
   holds_images image leaves =
-      accepted image area generation h.head h.payloads (record {
+      accepted image area version generation h.head h.payloads (record {
         gate = h.gate;
         is_open = h.is_open;
         goes_with = h.goes_with;
@@ -76,9 +76,9 @@ module _ (base : Rows) (log : List Item) (marks : List ℕ) (since : ℕ) (area 
           reads = holds_images (content p) (p.possible p.clock);
           leads = h.rows_are;
           after = after_is;
-          each = λ image since. stops_opened p q area h.gate generation h.head h.payloads (spelled c) known ok after end h.is_open h.goes_with gives_way appends image since;
+          each = λ image since. stops_opened p q area h.gate version generation h.head h.payloads (spelled c) known ok after end h.is_open h.goes_with gives_way appends image since;
           done = λ is image leaves.
-              acknowledged_opened p q area h.gate generation h.head h.payloads (spelled c) known after end h.is_open h.goes_with gives_way
+              acknowledged_opened p q area h.gate version generation h.head h.payloads (spelled c) known after end h.is_open h.goes_with gives_way
               (subst (λ (b : Bool). Appends area b after front h.payloads (spelled c) end p q) is appends) image leaves;
         }
 
@@ -117,24 +117,25 @@ passes_both (Some p) None waits ok rows c extends stores = extends
 passes_both (Some p) (Some q) waits ok rows c extends stores = record { extends = extends; stores = stores }
 
 -- where nothing is done, nothing changes
-pub passes_nothing : (told : Option Past) (base : Rows) (log : List Item) (marks : List ℕ) (since : ℕ) (area : Area) (generation end frames : ℕ) (waiting : Waiting) (known : OtherGate)
-    → ForSome told (Holds base log marks since area generation end frames waiting known) → (c : Command) → Goes told told (Passes (is_waiting waiting) verdict.Ok false (replay_log base log) c)
-passes_nothing told base log marks since area generation end frames waiting known holds c =
+pub passes_nothing : (told : Option Past) (base : Rows) (log : List Item) (marks : List ℕ) (since : ℕ) (area : Area) (version generation end frames : ℕ) (waiting : Waiting) (known : OtherGate)
+    → ForSome told (Holds base log marks since area version generation end frames waiting known) → (c : Command) → Goes told told (Passes (is_waiting waiting) verdict.Ok false (replay_log base log) c)
+passes_nothing told base log marks since area version generation end frames waiting known holds c =
     passes_both told told (is_waiting waiting) false (replay_log base log) c (goes_same told Extends (λ p is. extends_same p))
     (λ calm.
     goes_same told (Stores false (replay_log base log) c)
     (λ p is.
-    stores_none base log marks since area generation end frames known p (subst (λ (w : Waiting). Holds base log marks since area generation end frames w known p) (calm_nothing waiting calm) (holds p is)) c))
+    stores_none base log marks since area version generation end frames known p (subst (λ (w : Waiting). Holds base log marks since area version generation end frames w known p) (calm_nothing waiting calm) (holds p is)) c))
 
 -- where nothing waits it is known where the board is kept
-pub kept_where : (told : Option Past) (base : Rows) (log : List Item) (marks : List ℕ) (since : ℕ) (area : Area) (generation end frames : ℕ) (waiting : Waiting) (known : OtherGate) → ForSome told (Holds base log marks since area generation end frames waiting known) → is_waiting waiting ≡ false
+pub kept_where : (told : Option Past) (base : Rows) (log : List Item) (marks : List ℕ) (since : ℕ) (area : Area) (version generation end frames : ℕ) (waiting : Waiting) (known : OtherGate) → ForSome told (Holds base log marks since area version generation end frames waiting known) → is_waiting waiting ≡ false
     → (place : KeptIn) → place.area ≡ area → place.generation ≡ generation → place.frames ≡ frames → ForSome told (IsKeptIn place)
-kept_where told base log marks since area generation end frames waiting known holds calm place area_is generation_is frames_is p is =
-    let h : Holds base log marks since area generation end frames Nothing known p = subst (λ (w : Waiting). Holds base log marks since area generation end frames w known p) (calm_nothing waiting calm) (holds p is) in
+kept_where told base log marks since area version generation end frames waiting known holds calm place area_is generation_is frames_is p is =
+    let h : Holds base log marks since area version generation end frames Nothing known p = subst (λ (w : Waiting). Holds base log marks since area version generation end frames w known p) (calm_nothing waiting calm) (holds p is) in
     record {
       head = h.head;
       payloads = h.payloads;
-      opens = rw (area_is, generation_is) (holds_images base log marks since area generation end frames known p h (content p) (p.possible p.clock));
+      version = version;
+      opens = rw (area_is, generation_is) (holds_images base log marks since area version generation end frames known p h (content p) (p.possible p.clock));
       count = frames_is ∙ h.count;
     }
 
@@ -147,7 +148,7 @@ stops_leave_boards stored rows c p q s = record {
 }
   where
     board_is : (r : Reading) (found : Rows) (image : Image) → LeadsTo r found → OpensTo r image → IsBoard found image
-    board_is r found image leads opening = record { area = r.area; generation = r.generation; head = r.head; payloads = r.payloads; end = _; opening = opening; rows_are = leads }
+    board_is r found image leads opening = record { area = r.area; version = r.version; generation = r.generation; head = r.head; payloads = r.payloads; end = _; opening = opening; rows_are = leads }
 
     on_the_way : (image : Image) → IsOnTheWay rows c s.before image → IsBoard rows image ⊎ IsBoard (rows_after rows c) image
     on_the_way image (inl before) = inl (board_is s.before rows image s.leads before)

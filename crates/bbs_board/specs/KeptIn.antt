@@ -5,11 +5,12 @@ use Rattle.bbs_journal.specs.Stops.{OpensAs}
 use Rattle.bbs_board.specs.Written.{Reading, OpensTo}
 use Rattle.bbs_board.specs.declared.kept_in.KeptIn.{KeptIn}
 
--- what the disk reads is opened in that area, with that generation and so many frames
+-- what the disk reads is opened in that area, in some version, with that generation and so many frames
 pub record IsKeptIn (place : KeptIn) (p : Past) : Type 0 where
+  pub version : ℕ
   pub head : List ℕ
   pub payloads : List (List ℕ)
-  pub opens : OpensAs (content p) place.area place.generation head payloads
+  pub opens : OpensAs (content p) place.area version place.generation head payloads
   pub count : place.frames ≡ length payloads
 
 -- whatever a stop now leaves is opened with so many payloads at most

@@ -80,22 +80,24 @@ board_of area head payloads broken =
 -- the image is a board with these rows
 pub record IsBoard (rows : Rows) (c : Image) : Type 0 where
   pub area : Area
+  pub version : ℕ
   pub generation : ℕ
   pub head : List ℕ
   pub payloads : List (List ℕ)
   pub end : ℕ
-  pub opening : IsOpening c area generation head payloads None end
+  pub opening : IsOpening c area version generation head payloads None end
   pub rows_are : board_of area head payloads None ≡ Ok rows
 
 -- the image has whole headers and a head, and this is the first defect from there on
 pub record IsDamaged (fault : LoadFault) (c : Image) : Type 0 where
   pub area : Area
+  pub version : ℕ
   pub generation : ℕ
   pub head : List ℕ
   pub payloads : List (List ℕ)
   pub broken : Option ℕ
   pub end : ℕ
-  pub opening : IsOpening c area generation head payloads broken end
+  pub opening : IsOpening c area version generation head payloads broken end
   pub fault_is : board_of area head payloads broken ≡ Err fault
 
 -- the image is no board, and this is its first defect

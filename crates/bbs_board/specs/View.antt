@@ -8,6 +8,7 @@ use Rattle.disk_trait.specs.declared.area.Area.{Area}
 use Rattle.bbs_codec.specs.Command.{spelled, FitsCommand}
 use Rattle.bbs_journal.specs.Areas.{Stands}
 use Rattle.bbs_journal.specs.Grammar.{heading, GoesWith}
+use Rattle.bbs_journal.specs.Header.{newest}
 use Rattle.bbs_journal.specs.Beside.{Beside}
 use Rattle.bbs_journal.specs.View.{JournalView, frame_waits}
 use Rattle.bbs_journal.specs.declared.other_gate.OtherGate.{OtherGate}
@@ -69,25 +70,25 @@ pub record MayShow (base : Rows) (log : List Item) (payload : List ℕ) : Type 0
   pub payload_is : payload ≡ spelled command
   pub fits : FitsCommand command
 
--- the next head leads to these rows, in the other area and with the next generation
+-- the next head leads to these rows, in the other area and with the newest version and the next generation
 pub record LeadsOn (area : Area) (generation : ℕ) (next : List ℕ) (rows : Rows) : Type 0 where
-  pub goes_with : GoesWith (generation + 1) next
+  pub goes_with : GoesWith newest (generation + 1) next
   pub rows_are : board_of (other area) next [] None ≡ Ok rows
 
 -- whatever a stop leaves, the area holds a head and so many payloads that leave the board's rows, and perhaps a
 -- doubt; the other area gives way to it, or may be open with a head that leaves these rows too; and the board is kept
 pub record Holds (base : Rows) (log : List Item) (marks : List ℕ) (since : ℕ) (area : Area)
-    (generation end frames : ℕ) (waiting : Waiting) (known : OtherGate) (p : Past) : Type 0 where
+    (version generation end frames : ℕ) (waiting : Waiting) (known : OtherGate) (p : Past) : Type 0 where
   pub gate : ℕ
   pub is_open : 0 < gate
   pub head : List ℕ
   pub payloads : List (List ℕ)
   pub count : frames ≡ length payloads
   pub doubt : Option (List ℕ)
-  pub goes_with : GoesWith generation head
+  pub goes_with : GoesWith version generation head
   pub waits_is : frame_waits waiting ≡ is_some doubt
   pub may_show : (payload : List ℕ) → doubt ≡ Some payload → MayShow base log payload
-  pub stands : Stands (gate ∷ heading generation head) payloads doubt end (now p area)
+  pub stands : Stands (gate ∷ heading version generation head) payloads doubt end (now p area)
   pub next : List ℕ
   pub beside : Has (Beside next waiting known generation) (now p (other area))
   pub leads_on : (size : ℕ) → waiting ≡ Header → known ≡ Written size → LeadsOn area generation next (replay_log base log)
@@ -97,7 +98,7 @@ pub record Holds (base : Rows) (log : List Item) (marks : List ℕ) (since : ℕ
 -- where the disk of a journal tells its past, the board stands there
 abbrev pub StandsOn : {D : Type 0} → (D → Option Past) → Rows → List Item → List ℕ → ℕ → JournalView D → Type 0
 StandsOn told base log marks since j =
-    ForSome (told j.disk) (Holds base log marks since j.area j.generation j.end j.frames j.waiting j.gate)
+    ForSome (told j.disk) (Holds base log marks since j.area j.version j.generation j.end j.frames j.waiting j.gate)
 
 -- a checkpoint is due before the next frame: there are 4,096 or more, and there is a next generation
 abbrev pub wants_checkpoint : {D : Type 0} → JournalView D → Bool

@@ -5,6 +5,7 @@ use Rattle.disk_trait.specs.Past.{Past, Image, content, other}
 use Rattle.disk_trait.specs.declared.area.Area.{Area}
 use Rattle.bbs_codec.specs.Command.{spelled}
 use Rattle.head_codec.specs.Head.{head_spelled}
+use Rattle.bbs_journal.specs.Header.{newest}
 use Rattle.bbs_journal.specs.Stops.{OpensAs}
 use Rattle.bbs_model.specs.Step.{rows_after}
 use Rattle.bbs_model.specs.declared.command.Command.{Command}
@@ -16,27 +17,28 @@ use Rattle.bbs_board.specs.Opening.{board_of}
 -- what an area holds, as whoever opens it reads it
 pub record Reading : Type 0 where
   pub area : Area
+  pub version : ℕ
   pub generation : ℕ
   pub head : List ℕ
   pub payloads : List (List ℕ)
 
 -- the image is opened so
 abbrev pub OpensTo : Reading → Image → Type 0
-OpensTo r image = OpensAs image r.area r.generation r.head r.payloads
+OpensTo r image = OpensAs image r.area r.version r.generation r.head r.payloads
 
 -- what the disk reads now is opened so, without a defect
 abbrev pub ReadsAs : Reading → Past → Type 0
-ReadsAs r p = OpensAs (content p) r.area r.generation r.head r.payloads
+ReadsAs r p = OpensAs (content p) r.area r.version r.generation r.head r.payloads
 
 -- what is read leads to these rows
 abbrev pub LeadsTo : Reading → Rows → Type 0
 LeadsTo r rows = board_of r.area r.head r.payloads None ≡ Ok rows
 
--- the other area with the next generation and the head of these rows, where there are frames to make away with
+-- the other area with the newest version, the next generation and the head of these rows, where there are frames to make away with
 abbrev pub headed_instead : Rows → Reading → List (List ℕ) → Reading
 headed_instead rows r [] = r
 headed_instead rows r (payload ∷ payloads) =
-    record { area = other r.area; generation = r.generation + 1; head = head_spelled rows; payloads = [] }
+    record { area = other r.area; version = newest; generation = r.generation + 1; head = head_spelled rows; payloads = [] }
 
 -- what is read after a checkpoint of these rows
 abbrev pub compacted : Rows → Reading → Reading

@@ -12,7 +12,7 @@ use Rattle.disk_trait.specs.Past.{Image, other}
 use Rattle.disk_trait.specs.declared.area.Area.{Area}
 use Rattle.disk_trait.specs.declared.area.Area.TheVariants.{A, B}
 use Rattle.bbs_journal.specs.Frames.{frame_spelled, Whole}
-use Rattle.bbs_journal.specs.Header.{mark, front, header_of, behind_gate}
+use Rattle.bbs_journal.specs.Header.{IsVersion, mark, front, header_of, behind_gate}
 use Rattle.bbs_journal.specs.Other.{Yields}
 use Rattle.bbs_journal.specs.Opening.{active_of, newer, size_of, size_in, is_ahead, AreFrames}
 use Rattle.bbs_journal.specs.Reading.{bytes_of}
@@ -24,13 +24,14 @@ use Rattle.bbs_journal.specs.declared.load_fault.LoadFault.{LoadFault}
 use Rattle.bbs_journal.specs.declared.load_fault.LoadFault.TheVariants.{Damaged}
 use Rattle.bbs_journal.specs.declared.other_gate.OtherGate.{OtherGate}
 use Rattle.bbs_journal.specs.declared.other_gate.OtherGate.TheVariants.{Shut, Loose, Written}
-use Rattle.bbs_journal.proofs.Opening.{GivesWay, open_gate, headed_ok}
+use Rattle.bbs_journal.proofs.Opening.{GivesWay, opened, open_gate, headed_ok}
+use Rattle.bbs_journal.proofs.Version.{length-mark, take_mark, mark_read}
 
 abbrev pub ok_of : ℕ → Result ℕ LoadFault
 ok_of n = Ok n
 
-abbrev pub active_ok : Area → ℕ → Result Active LoadFault
-active_ok area generation = Ok (record { area = area; generation = generation })
+abbrev pub active_ok : Active → Result Active LoadFault
+active_ok active = Ok active
 
 -- ---- frames
 
@@ -52,18 +53,6 @@ whole_frames (payload ∷ payloads) frames rest end at is (behind, frame, whole)
 
 -- ---- the header of the area that is read
 
-open_if : (a b c : Bool) (n m : ℕ) → a ≡ false → b ≡ true → c ≡ false → (if a then Closed Loose else (if not b then Foreign else (if c then Cut m else Open n))) ≡ Open n
-open_if true b c n m first second third = absurd (cc)
-open_if false true true n m first second third = absurd (cc)
-open_if false true false n m first second third = refl
-open_if false false c n m first second third = absurd (cc)
-
--- behind an open gate, magic and version
-marked : (rest : List ℕ) (generation : ℕ) → 8 ≤ length rest → from_be_bytes w64 (take 8 rest) ≡ generation → behind_gate (mark ++ rest) ≡ Open generation
-unfolding behind_gate
-marked rest generation long number =
-    open_if _ _ _ _ _ (grind (arith, nat_tests)) refl (grind (arith, nat_tests)) ∙ ap Open number
-
 number_8 : (generation : ℕ) (rest : List ℕ) → generation < 2 ^ 64 → from_be_bytes w64 (take 8 (field_number w64 generation ++ rest)) ≡ generation
 unfolding field_number
 number_8 generation rest small =
@@ -74,22 +63,23 @@ unfolding field_number
 number_4 size rest small = ap (from_be_bytes w32) (take_at (field_number w32 size) rest 4 (length-field_number w32 size)) ∙ from_be_bytes-to_be_bytes_4 size small
 
 -- whatever follows the generation
-header_read : (generation : ℕ) (tail : List ℕ) → generation < 2 ^ 64 → behind_gate (take 30 (mark ++ (field_number w64 generation ++ tail))) ≡ Open generation
-header_read generation tail below =
+header_read : (version generation : ℕ) (tail : List ℕ) → IsVersion version → generation < 2 ^ 64 → behind_gate (take 30 (mark version ++ (field_number w64 generation ++ tail))) ≡ Open version generation
+header_read version generation tail is below =
     let bytes : List ℕ = field_number w64 generation ++ tail in
     let long : 8 ≤ length bytes = omega (arith, length-append (field_number w64 generation) tail, length-field_number w64 generation) in
-    marked (take 20 bytes) generation (omega (arith, length-take 20 bytes, long)) (ap (from_be_bytes w64) (take-take 8 20 bytes (omega arith)) ∙ number_8 generation tail below)
+    ap behind_gate (take_mark version 20 bytes)
+    ∙ mark_read version generation (take 20 bytes) is (omega (arith, length-take 20 bytes, long)) (ap (from_be_bytes w64) (take-take 8 20 bytes (omega arith)) ∙ number_8 generation tail below)
 
-pub heading_read : (generation : ℕ) (head rest more : List ℕ) → generation < 2 ^ 64 → behind_gate (take 30 ((heading generation head ++ rest) ++ more)) ≡ Open generation
-heading_read generation head rest more below =
-    ap (λ (l : List ℕ). behind_gate (take 30 l)) regroup ∙ header_read generation (field_number w32 (length head) ++ (head ++ (rest ++ more))) below
+pub heading_read : (version generation : ℕ) (head rest more : List ℕ) → IsVersion version → generation < 2 ^ 64 → behind_gate (take 30 ((heading version generation head ++ rest) ++ more)) ≡ Open version generation
+heading_read version generation head rest more is below =
+    ap (λ (l : List ℕ). behind_gate (take 30 l)) regroup ∙ header_read version generation (field_number w32 (length head) ++ (head ++ (rest ++ more))) is below
   where
-    regroup : (heading generation head ++ rest) ++ more ≡ mark ++ (field_number w64 generation ++ (field_number w32 (length head) ++ (head ++ (rest ++ more))))
+    regroup : (heading version generation head ++ rest) ++ more ≡ mark version ++ (field_number w64 generation ++ (field_number w32 (length head) ++ (head ++ (rest ++ more))))
     regroup = simp append_assoc
 
-module _ (generation : ℕ) (head rest : List ℕ) (goes : GoesWith generation head) where
+module _ (version generation : ℕ) (head rest : List ℕ) (goes : GoesWith version generation head) where
   abbrev text : List ℕ
-  text = mark ++ (field_number w64 generation ++ (field_number w32 (length head) ++ (head ++ rest)))
+  text = mark version ++ (field_number w64 generation ++ (field_number w32 (length head) ++ (head ++ rest)))
 
   abbrev numbers : List ℕ
   numbers = field_number w64 generation ++ (field_number w32 (length head) ++ (head ++ rest))
@@ -99,14 +89,16 @@ module _ (generation : ℕ) (head rest : List ℕ) (goes : GoesWith generation h
       omega (arith, length-append (field_number w64 generation) (field_number w32 (length head) ++ (head ++ rest)), length-append (field_number w32 (length head)) (head ++ rest), length-append head rest, length-field_number w64 generation, length-field_number w32 (length head))
 
   length-text : length text ≡ 22 + length head + length rest
-  length-text = omega (arith, length-numbers, length-append mark numbers)
+  length-text = omega (arith, length-numbers, length-append (mark version) numbers, length-mark version)
 
-  pub header_open : (n : ℕ) → header_of (front (suc n ∷ text)) ≡ Open generation
-  header_open n = open_gate n (take 30 text) ∙ header_read generation (field_number w32 (length head) ++ (head ++ rest)) goes.below
+  pub header_open : (n : ℕ) → header_of (front (suc n ∷ text)) ≡ Open version generation
+  header_open n = open_gate n (take 30 text) ∙ header_read version generation (field_number w32 (length head) ++ (head ++ rest)) goes.version_is goes.below
 
   -- the bytes from the length of the head on
   drop_numbers : (gate : ℕ) → drop 19 (gate ∷ text) ≡ field_number w32 (length head) ++ (head ++ rest)
-  drop_numbers gate = drop_at (field_number w64 generation) (field_number w32 (length head) ++ (head ++ rest)) 8 (length-field_number w64 generation)
+  drop_numbers gate =
+      sym (drop-drop 8 11 (gate ∷ text)) ∙ ap (drop 8) (drop_at (mark version) numbers 10 (length-mark version))
+      ∙ drop_at (field_number w64 generation) (field_number w32 (length head) ++ (head ++ rest)) 8 (length-field_number w64 generation)
 
   drop_head : (gate : ℕ) → drop 23 (gate ∷ text) ≡ head ++ rest
   drop_head gate =
@@ -125,12 +117,12 @@ module _ (generation : ℕ) (head rest : List ℕ) (goes : GoesWith generation h
       ap (λ (l : List ℕ). from_be_bytes w64 (take 8 l)) (drop-take 23 8 (gate ∷ text) ∙ ap (take 8) (drop_head gate))
       ∙ ap (from_be_bytes w64) (take-take 8 8 (head ++ rest) (omega arith) ∙ take-append-le 8 head rest long)
 
-  not_ahead : (gate : ℕ) → is_ahead generation (front (gate ∷ text)) ≡ false
+  not_ahead : (gate : ℕ) → is_ahead version generation (front (gate ∷ text)) ≡ false
   unfolding is_ahead
   not_ahead gate =
       let size = size_there gate in
       let number : 8 ≤ length head → from_be_bytes w64 (take 8 (drop 23 (front (gate ∷ text)))) ≡ from_be_bytes w64 (take 8 head) = first_there gate in
-      all_false (nat_le 31 (length (front (gate ∷ text)))) (nat_le 8 (size_in (front (gate ∷ text)))) (nat_lt (from_be_bytes w64 (take 8 (drop 23 (front (gate ∷ text)))) + 1) generation)
+      all_false (nat_le 31 (length (front (gate ∷ text)))) (nat_le 8 (size_in (front (gate ∷ text)))) (nat_lt (from_be_bytes w64 (take 8 (drop 23 (front (gate ∷ text)))) + version) generation)
       (λ eight. let e : 8 ≤ length head = grind (arith, nat_tests) in let m = number e in let b = goes.not_ahead e in grind (arith, nat_tests))
     where
       and_false : (a d : Bool) → d ≡ false → (a && true && d) ≡ false
@@ -142,14 +134,14 @@ module _ (generation : ℕ) (head rest : List ℕ) (goes : GoesWith generation h
       all_false true false d step = refl
       all_false false false d step = refl
 
-  size_ok : (area : Area) (gate : ℕ) → size_of (record { area = area; generation = generation }) (front (gate ∷ text)) (length (gate ∷ text)) ≡ ok_of (length head)
+  size_ok : (area : Area) (gate : ℕ) → size_of (opened area version generation) (front (gate ∷ text)) (length (gate ∷ text)) ≡ ok_of (length head)
   unfolding size_of
   size_ok area gate =
       let size = size_there gate in
       let ahead = not_ahead gate in
       let long : length (front (gate ∷ text)) ≡ min 31 (length (gate ∷ text)) = length-take 31 (gate ∷ text) in
       let above = goes.above in
-      sized_if (generation == 0) (nat_lt (length (front (gate ∷ text))) 23) (is_ahead generation (front (gate ∷ text))) (nat_lt (length (gate ∷ text)) (23 + size_in (front (gate ∷ text)))) area (length (gate ∷ text))
+      sized_if (generation == 0) (nat_lt (length (front (gate ∷ text))) 23) (is_ahead version generation (front (gate ∷ text))) (nat_lt (length (gate ∷ text)) (23 + size_in (front (gate ∷ text)))) area (length (gate ∷ text))
       (size_in (front (gate ∷ text))) (grind (arith, nat_tests)) (let t = length-text in grind (arith, nat_tests)) ahead (let t = length-text in grind (arith, nat_tests))
       ∙ ap ok_of size
     where
@@ -164,7 +156,7 @@ module _ (generation : ℕ) (head rest : List ℕ) (goes : GoesWith generation h
   rest_there : (gate : ℕ) → drop (23 + length head) (gate ∷ text) ≡ rest
   rest_there gate = sym (drop-drop (length head) 23 (gate ∷ text)) ∙ ap (drop (length head)) (drop_head gate) ∙ drop_at head rest (length head) refl
 
-  gate_open : (gate : ℕ) → 0 < gate → header_of (front (gate ∷ text)) ≡ Open generation
+  gate_open : (gate : ℕ) → 0 < gate → header_of (front (gate ∷ text)) ≡ Open version generation
   gate_open zero is_open = absurd (omega (arith, is_open))
   gate_open (suc n) is_open = header_open n
 
@@ -180,64 +172,64 @@ short_gives generation (zero ∷ []) short = tt
 short_gives generation (suc n ∷ []) short = subst (GivesWay generation) (sym (open_gate n [] ∙ none_closed)) tt
 short_gives generation (x ∷ y ∷ bytes) short = absurd (omega (arith, short))
 
-older_gives : (generation gate older : ℕ) (behind : List ℕ) → behind_gate (take 30 behind) ≡ Open older → older < generation → GivesWay generation (header_of (front (gate ∷ behind)))
-older_gives generation zero older behind is below = tt
-older_gives generation (suc n) older behind is below = subst (GivesWay generation) (sym (open_gate n (take 30 behind) ∙ is)) below
+older_gives : (generation gate version older : ℕ) (behind : List ℕ) → behind_gate (take 30 behind) ≡ Open version older → older < generation → GivesWay generation (header_of (front (gate ∷ behind)))
+older_gives generation zero version older behind is below = tt
+older_gives generation (suc n) version older behind is below = subst (GivesWay generation) (sym (open_gate n (take 30 behind) ∙ is)) below
 
 pub yields_gives : (gate : OtherGate) (generation : ℕ) (bytes : List ℕ) → Yields gate generation bytes → GivesWay generation (header_of (front bytes))
 yields_gives Shut generation bytes b = subst (λ (l : List ℕ). GivesWay generation (header_of (front l))) (sym b.parts) tt
 yields_gives (Written size) generation bytes b = subst (λ (l : List ℕ). GivesWay generation (header_of (front l))) (sym b.parts) tt
 yields_gives Loose generation bytes (inl short) = short_gives generation bytes short
 yields_gives Loose generation bytes (inr older) =
-    subst (λ (l : List ℕ). GivesWay generation (header_of (front l))) (sym older.parts) (older_gives generation older.gate older.older older.behind older.header older.below)
+    subst (λ (l : List ℕ). GivesWay generation (header_of (front l))) (sym older.parts) (older_gives generation older.gate older.version older.older older.behind older.header older.below)
 
 -- ---- which of them is read
 
-by_tests : (a b : ℕ) (same less : Bool) → same ≡ false → less ≡ true → (if same then Err (Damaged B 11) else (if less then Ok (record { area = A; generation = a }) else Ok (record { area = B; generation = b }))) ≡ active_ok A a
+by_tests : (a b : Active) (same less : Bool) → same ≡ false → less ≡ true → (if same then Err (Damaged B 11) else (if less then Ok a else Ok b)) ≡ active_ok a
 by_tests a b same less first second = rw (first, second) refl
 
-by_tests_b : (a b : ℕ) (same less : Bool) → same ≡ false → less ≡ false → (if same then Err (Damaged B 11) else (if less then Ok (record { area = A; generation = a }) else Ok (record { area = B; generation = b }))) ≡ active_ok B b
+by_tests_b : (a b : Active) (same less : Bool) → same ≡ false → less ≡ false → (if same then Err (Damaged B 11) else (if less then Ok a else Ok b)) ≡ active_ok b
 by_tests_b a b same less first second = rw (first, second) refl
 
-pub newer_a : (a b : ℕ) → b < a → newer a b ≡ active_ok A a
-newer_a a b less = by_tests a b (a == b) (nat_lt b a) (grind (arith, nat_tests)) (grind (arith, nat_tests))
+pub newer_a : (a b : Active) → b.generation < a.generation → newer a b ≡ active_ok a
+newer_a a b less = by_tests a b (a.generation == b.generation) (nat_lt b.generation a.generation) (grind (arith, nat_tests)) (grind (arith, nat_tests))
 
-pub newer_b : (a b : ℕ) → a < b → newer a b ≡ active_ok B b
-newer_b a b less = by_tests_b a b (a == b) (nat_lt b a) (grind (arith, nat_tests)) (grind (arith, nat_tests))
+pub newer_b : (a b : Active) → a.generation < b.generation → newer a b ≡ active_ok b
+newer_b a b less = by_tests_b a b (a.generation == b.generation) (nat_lt b.generation a.generation) (grind (arith, nat_tests)) (grind (arith, nat_tests))
 
-active_a : (generation : ℕ) (b : Header) → GivesWay generation b → active_of (Open generation) b ≡ active_ok A generation
-active_a generation (Closed gate) gives = refl
-active_a generation Foreign gives = absurd gives
-active_a generation (Cut at) gives = absurd gives
-active_a generation (Open older) gives = newer_a generation older gives
+active_a : (version generation : ℕ) (b : Header) → GivesWay generation b → active_of (Open version generation) b ≡ active_ok (opened A version generation)
+active_a version generation (Closed gate) gives = refl
+active_a version generation Foreign gives = absurd gives
+active_a version generation (Cut at) gives = absurd gives
+active_a version generation (Open v older) gives = newer_a (opened A version generation) (opened B v older) gives
 
-active_b : (generation : ℕ) (a : Header) → GivesWay generation a → active_of a (Open generation) ≡ active_ok B generation
-active_b generation (Closed gate) gives = refl
-active_b generation Foreign gives = absurd gives
-active_b generation (Cut at) gives = absurd gives
-active_b generation (Open older) gives = newer_b older generation gives
+active_b : (version generation : ℕ) (a : Header) → GivesWay generation a → active_of a (Open version generation) ≡ active_ok (opened B version generation)
+active_b version generation (Closed gate) gives = refl
+active_b version generation Foreign gives = absurd gives
+active_b version generation (Cut at) gives = absurd gives
+active_b version generation (Open v older) gives = newer_b (opened A v older) (opened B version generation) gives
 
-pub active_in : (c : Image) (area : Area) (generation : ℕ) → header_of (front (c area)) ≡ Open generation → GivesWay generation (header_of (front (c (other area)))) → active_of (header_of (front (c A))) (header_of (front (c B))) ≡ active_ok area generation
-active_in c A generation own gives = ap (λ (h : Header). active_of h (header_of (front (c B)))) own ∙ active_a generation (header_of (front (c B))) gives
-active_in c B generation own gives = ap (active_of (header_of (front (c A)))) own ∙ active_b generation (header_of (front (c A))) gives
+pub active_in : (c : Image) (area : Area) (version generation : ℕ) → header_of (front (c area)) ≡ Open version generation → GivesWay generation (header_of (front (c (other area)))) → active_of (header_of (front (c A))) (header_of (front (c B))) ≡ active_ok (opened area version generation)
+active_in c A version generation own gives = ap (λ (h : Header). active_of h (header_of (front (c B)))) own ∙ active_a version generation (header_of (front (c B))) gives
+active_in c B version generation own gives = ap (active_of (header_of (front (c A)))) own ∙ active_b version generation (header_of (front (c A))) gives
 
 -- ---- all of it
 
-area_bytes : (gate generation : ℕ) (head frames rest : List ℕ)
-    → ((gate ∷ heading generation head) ++ frames ++ 0 ∷ []) ++ rest ≡ gate ∷ (mark ++ (field_number w64 generation ++ (field_number w32 (length head) ++ (head ++ (frames ++ 0 ∷ rest)))))
-area_bytes gate generation head frames rest = simp append_assoc
+area_bytes : (gate version generation : ℕ) (head frames rest : List ℕ)
+    → ((gate ∷ heading version generation head) ++ frames ++ 0 ∷ []) ++ rest ≡ gate ∷ (mark version ++ (field_number w64 generation ++ (field_number w32 (length head) ++ (head ++ (frames ++ 0 ∷ rest)))))
+area_bytes gate version generation head frames rest = simp append_assoc
 
 pub accepted : AreOpened
-accepted c area generation head payloads r =
+accepted c area version generation head payloads r =
     let rest : List ℕ = r.area_is.frames ++ 0 ∷ r.area_is.begins.rest in
-    let bytes : c area ≡ r.gate ∷ text generation head rest r.goes_with = r.area_is.begins.parts ∙ area_bytes r.gate generation head r.area_is.frames r.area_is.begins.rest in
-    let own : header_of (front (c area)) ≡ Open generation = ap (λ (l : List ℕ). header_of (front l)) bytes ∙ gate_open generation head rest r.goes_with r.gate r.is_open in
-    let chosen = active_in c area generation own (yields_gives r.beside generation (c (other area)) r.yields) in
-    let sized : size_of (record { area = area; generation = generation }) (front (c area)) (length (c area)) ≡ ok_of (length head) =
-    ap (λ (l : List ℕ). size_of (record { area = area; generation = generation }) (front l) (length l)) bytes ∙ size_ok generation head rest r.goes_with area r.gate in
+    let bytes : c area ≡ r.gate ∷ text version generation head rest r.goes_with = r.area_is.begins.parts ∙ area_bytes r.gate version generation head r.area_is.frames r.area_is.begins.rest in
+    let own : header_of (front (c area)) ≡ Open version generation = ap (λ (l : List ℕ). header_of (front l)) bytes ∙ gate_open version generation head rest r.goes_with r.gate r.is_open in
+    let chosen = active_in c area version generation own (yields_gives r.beside generation (c (other area)) r.yields) in
+    let sized : size_of (opened area version generation) (front (c area)) (length (c area)) ≡ ok_of (length head) =
+    ap (λ (l : List ℕ). size_of (opened area version generation) (front l) (length l)) bytes ∙ size_ok version generation head rest r.goes_with area r.gate in
     record {
-      head_is = headed_ok c (record { area = area; generation = generation }) (length head) chosen sized
-          ∙ ap (λ (h : List ℕ). Ok (record { area = area; generation = generation; head = h })) (ap (λ (l : List ℕ). take (length head) (drop 23 l)) bytes ∙ head_there generation head rest r.goes_with r.gate);
-      frames = subst (AreFrames payloads None (23 + length head + bytes_of payloads) (23 + length head)) (sym (ap (drop (23 + length head)) bytes ∙ rest_there generation head rest r.goes_with r.gate))
+      head_is = headed_ok c (opened area version generation) (length head) chosen sized
+          ∙ ap (λ (h : List ℕ). Ok (record { area = area; version = version; generation = generation; head = h })) (ap (λ (l : List ℕ). take (length head) (drop 23 l)) bytes ∙ head_there version generation head rest r.goes_with r.gate);
+      frames = subst (AreFrames payloads None (23 + length head + bytes_of payloads) (23 + length head)) (sym (ap (drop (23 + length head)) bytes ∙ rest_there version generation head rest r.goes_with r.gate))
           (whole_frames payloads r.area_is.frames r.area_is.begins.rest (23 + length head + bytes_of payloads) (23 + length head) refl r.area_is.whole);
     }

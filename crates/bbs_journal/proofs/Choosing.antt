@@ -31,11 +31,11 @@ pub size_is : (c : Image) (chosen : Chosen) (bytes : List ℕ) (len : ℕ) (r : 
 size_is c chosen bytes len r is bytes_are len_is r_is =
     sym (r_is ∙ ap (λ (l : List ℕ). size_of chosen.active l len) (bytes_are ∙ is.front_is) ∙ ap (λ (n : ℕ). size_of chosen.active (front (c chosen.active.area)) n) len_is)
 
-pub found_is : (c : Image) (chosen : Chosen) (found : Found) (len size : ℕ) → IsChosen c chosen → IsSized c chosen.active len size → found.place.area ≡ chosen.active.area → found.place.generation ≡ chosen.active.generation → found.place.gate ≡ chosen.gate
+pub found_is : (c : Image) (chosen : Chosen) (found : Found) (len size : ℕ) → IsChosen c chosen → IsSized c chosen.active len size → found.place.area ≡ chosen.active.area → found.place.version ≡ chosen.active.version → found.place.generation ≡ chosen.active.generation → found.place.gate ≡ chosen.gate
     → found.head.items ≡ take size (drop 23 (c chosen.active.area)) → length found.head.items ≡ size → AreFrames (payloads_of found.payloads.items) found.broken found.place.end (23 + size) (drop (23 + size) (c chosen.active.area)) → IsFoundIn c found
-found_is c chosen found len size is sized area_is generation_is gate_is head_is head_len frames = record {
+found_is c chosen found len size is sized area_is version_is generation_is gate_is head_is head_len frames = record {
   opening = record {
-    head_is = headed_ok c chosen.active size is.active sized.size_is ∙ cc (area_is, generation_is, head_is);
+    head_is = headed_ok c chosen.active size is.active sized.size_is ∙ cc (area_is, version_is, generation_is, head_is);
     frames = subst (λ (x : Area). AreFrames (payloads_of found.payloads.items) found.broken found.place.end (23 + length found.head.items) (drop (23 + length found.head.items) (c x))) (sym area_is)
         (subst (λ (n : ℕ). AreFrames (payloads_of found.payloads.items) found.broken found.place.end (23 + n) (drop (23 + n) (c chosen.active.area))) (sym head_len) frames);
   };

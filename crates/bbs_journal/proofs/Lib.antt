@@ -18,6 +18,7 @@ mod Kept
 pub mod Sides
 mod AreaWriting
 pub mod Once
+mod Version
 pub mod Accepted
 pub mod Public
 pub mod Recovered

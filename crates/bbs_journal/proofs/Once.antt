@@ -57,8 +57,8 @@ frames_one (x ∷ a) (y ∷ b) broken broken' end end' at bytes (rest, frame, mo
     }
 
 pub opens_once : OpensOnce
-opens_once c area area' generation generation' head head' payloads payloads' broken broken' end end' first second =
-    let one : record { area = area; generation = generation; head = head } ≡ record { area = area'; generation = generation'; head = head' } = ok_is _ _ (headed c) first.head_is second.head_is in
+opens_once c area area' version version' generation generation' head head' payloads payloads' broken broken' end end' first second =
+    let one : record { area = area; version = version; generation = generation; head = head } ≡ record { area = area'; version = version'; generation = generation'; head = head' } = ok_is _ _ (headed c) first.head_is second.head_is in
     let area_is : area ≡ area' = ap (λ (x : Headed). x.area) one in
     let head_is : head ≡ head' = ap (λ (x : Headed). x.head) one in
     let frames : AreFrames payloads' broken' end' (23 + length head) (drop (23 + length head) (c area)) =
@@ -67,6 +67,7 @@ opens_once c area area' generation generation' head head' payloads payloads' bro
     let same = frames_one payloads payloads' broken broken' end end' (23 + length head) (drop (23 + length head) (c area)) first.frames frames in
     record {
       area_is = area_is;
+      version_is = ap (λ (x : Headed). x.version) one;
       generation_is = ap (λ (x : Headed). x.generation) one;
       head_is = head_is;
       payloads_are = same.payloads_are;

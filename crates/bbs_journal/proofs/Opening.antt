@@ -57,7 +57,7 @@ headed_err c active e chosen is =
     bind_is (active_of (header_of (front (c A))) (header_of (front (c B)))) _ active chosen ∙ bind_err (size_of active (front (c active.area)) (length (c active.area))) _ e is
 
 pub headed_ok : (c : Image) (active : Active) (size : ℕ) → active_of (header_of (front (c A))) (header_of (front (c B))) ≡ Ok active → size_of active (front (c active.area)) (length (c active.area)) ≡ Ok size
-    → headed c ≡ Ok (record { area = active.area; generation = active.generation; head = take size (drop 23 (c active.area)) })
+    → headed c ≡ Ok (record { area = active.area; version = active.version; generation = active.generation; head = take size (drop 23 (c active.area)) })
 unfolding headed
 headed_ok c active size chosen is =
     bind_is (active_of (header_of (front (c A))) (header_of (front (c B)))) _ active chosen ∙ bind_is (size_of active (front (c active.area)) (length (c active.area))) _ size is
@@ -68,7 +68,9 @@ pub record Tested (c : Image) (headed : Headed) : Type 0 where
   pub size : ℕ
   pub chosen : active_of (header_of (front (c A))) (header_of (front (c B))) ≡ Ok active
   pub sized : size_of active (front (c active.area)) (length (c active.area)) ≡ Ok size
+  pub parts : record { area = active.area; version = active.version; generation = active.generation; head = take size (drop 23 (c active.area)) } ≡ headed
   pub area_is : active.area ≡ headed.area
+  pub version_is : active.version ≡ headed.version
   pub generation_is : active.generation ≡ headed.generation
   pub head_is : take size (drop 23 (c active.area)) ≡ headed.head
 
@@ -78,13 +80,15 @@ tested c h is =
     let first = bind_ok (active_of (header_of (front (c A))) (header_of (front (c B)))) _ h is in
     let active : Active = first.0 in
     let second = bind_ok (size_of active (front (c active.area)) (length (c active.area))) _ h first.2 in
-    let parts : record { area = active.area; generation = active.generation; head = take second.0 (drop 23 (c active.area)) } ≡ h = ok_is _ h _ refl second.2 in
+    let parts : record { area = active.area; version = active.version; generation = active.generation; head = take second.0 (drop 23 (c active.area)) } ≡ h = ok_is _ h _ refl second.2 in
     record {
       active = active;
       size = second.0;
       chosen = first.1;
       sized = second.1;
+      parts = parts;
       area_is = ap (λ (x : Headed). x.area) parts;
+      version_is = ap (λ (x : Headed). x.version) parts;
       generation_is = ap (λ (x : Headed). x.generation) parts;
       head_is = ap (λ (x : Headed). x.head) parts;
     }
@@ -95,34 +99,31 @@ size_fits active bytes len size is = grind (arith, nat_tests)
 
 -- ---- the other area gives way
 
--- the area that is read is open and has this generation, and the other one has this smaller one
-pub record Newer (area : Area) (generation smaller : ℕ) (active : Active) : Type 0 where
-  pub area_is : active.area ≡ area
-  pub generation_is : active.generation ≡ generation
-  pub less : smaller < active.generation
+-- the first of two is read, and the other one is of this smaller generation
+pub record Newer (first second active : Active) : Type 0 where
+  pub is : active ≡ first
+  pub less : second.generation < first.generation
 
-chosen : (area : Area) (generation smaller : ℕ) (active : Active) → smaller < generation → record { area = area; generation = generation } ≡ active → Newer area generation smaller active
-chosen area generation smaller active less e = record {
-  area_is = sym (ap (λ (x : Active). x.area) e);
-  generation_is = sym (ap (λ (x : Active). x.generation) e);
-  less = subst (λ (n : ℕ). smaller < n) (ap (λ (x : Active). x.generation) e) less;
-}
-
-by_tests : (a b : ℕ) (same less : Bool) (active : Active) → (same ≡ false → less ≡ false → a < b) → (less ≡ true → b < a)
-    → (if same then Err (Damaged B 11) else (if less then Ok (record { area = A; generation = a }) else Ok (record { area = B; generation = b }))) ≡ Ok active → Newer A a b active ⊎ Newer B b a active
+by_tests : (a b : Active) (same less : Bool) (active : Active) → (same ≡ false → less ≡ false → a.generation < b.generation) → (less ≡ true → b.generation < a.generation)
+    → (if same then Err (Damaged B 11) else (if less then Ok a else Ok b)) ≡ Ok active → Newer a b active ⊎ Newer b a active
 by_tests a b true less active up down is = absurd (cc)
-by_tests a b false true active up down is = inl (chosen A a b active (down refl) (ok_is _ active _ refl is))
-by_tests a b false false active up down is = inr (chosen B b a active (up refl refl) (ok_is _ active _ refl is))
+by_tests a b false true active up down is = inl (record { is = sym (ok_is _ active _ refl is); less = down refl })
+by_tests a b false false active up down is = inr (record { is = sym (ok_is _ active _ refl is); less = up refl refl })
 
-pub newer_gives : (a b : ℕ) (active : Active) → newer a b ≡ Ok active → Newer A a b active ⊎ Newer B b a active
-newer_gives a b active is = by_tests a b (a == b) (nat_lt b a) active (λ x y. grind (arith, nat_tests)) (λ x. grind (arith, nat_tests)) is
+pub newer_gives : (a b active : Active) → newer a b ≡ Ok active → Newer a b active ⊎ Newer b a active
+newer_gives a b active is =
+    by_tests a b (a.generation == b.generation) (nat_lt b.generation a.generation) active (λ x y. grind (arith, nat_tests)) (λ x. grind (arith, nat_tests)) is
+
+-- what the header of an area tells, where that is open
+abbrev pub opened : Area → ℕ → ℕ → Active
+opened area version generation = record { area = area; version = version; generation = generation }
 
 -- a header that gives way to this generation
 abbrev pub GivesWay : ℕ → Header → Type 0
 GivesWay generation (Closed gate) = Unit {0}
 GivesWay generation Foreign = ⊥
 GivesWay generation (Cut at) = ⊥
-GivesWay generation (Open older) = older < generation
+GivesWay generation (Open version older) = older < generation
 
 -- the header beside the one that is read gives way to it
 abbrev pub beside : Area → Header → Header → Header
@@ -132,73 +133,73 @@ beside B a b = a
 no_ok : {X : Type 0} (e : LoadFault) (x : X) (r : Result X LoadFault) → r ≡ Err e → r ≡ Ok x → ⊥
 no_ok e x r first second = cc
 
-a_read : (a b : Header) (active : Active) (generation : ℕ) → record { area = A; generation = generation } ≡ active → GivesWay generation b → GivesWay active.generation (beside active.area a b)
-a_read a b active generation is gives = subst (λ (x : Active). GivesWay x.generation (beside x.area a b)) is gives
+a_read : (a b : Header) (active : Active) (version generation : ℕ) → opened A version generation ≡ active → GivesWay generation b → GivesWay active.generation (beside active.area a b)
+a_read a b active version generation is gives = subst (λ (x : Active). GivesWay x.generation (beside x.area a b)) is gives
 
-b_read : (a b : Header) (active : Active) (generation : ℕ) → record { area = B; generation = generation } ≡ active → GivesWay generation a → GivesWay active.generation (beside active.area a b)
-b_read a b active generation is gives = subst (λ (x : Active). GivesWay x.generation (beside x.area a b)) is gives
+b_read : (a b : Header) (active : Active) (version generation : ℕ) → opened B version generation ≡ active → GivesWay generation a → GivesWay active.generation (beside active.area a b)
+b_read a b active version generation is gives = subst (λ (x : Active). GivesWay x.generation (beside x.area a b)) is gives
 
-both_open : (a b : ℕ) (active : Active) → newer a b ≡ Ok active → GivesWay active.generation (beside active.area (Open a) (Open b))
-both_open a b active is = ⊎_elim
-    (λ first. subst (λ (x : Area). GivesWay active.generation (beside x (Open a) (Open b))) (sym first.area_is) first.less)
-    (λ second. subst (λ (x : Area). GivesWay active.generation (beside x (Open a) (Open b))) (sym second.area_is) second.less)
-    (newer_gives a b active is)
+both_open : (v a w b : ℕ) (active : Active) → newer (opened A v a) (opened B w b) ≡ Ok active → GivesWay active.generation (beside active.area (Open v a) (Open w b))
+both_open v a w b active is = ⊎_elim
+    (λ first. subst (λ (x : Active). GivesWay x.generation (beside x.area (Open v a) (Open w b))) (sym first.is) first.less)
+    (λ second. subst (λ (x : Active). GivesWay x.generation (beside x.area (Open v a) (Open w b))) (sym second.is) second.less)
+    (newer_gives (opened A v a) (opened B w b) active is)
 
 pub beside_gives : (a b : Header) (active : Active) → active_of a b ≡ Ok active → GivesWay active.generation (beside active.area a b)
 beside_gives Foreign b active is = absurd (no_ok _ active _ refl is)
 beside_gives (Closed x) Foreign active is = absurd (no_ok _ active _ refl is)
 beside_gives (Closed x) (Closed y) active is = absurd (no_ok _ active _ refl is)
 beside_gives (Closed x) (Cut at) active is = absurd (no_ok _ active _ refl is)
-beside_gives (Closed x) (Open generation) active is = b_read (Closed x) (Open generation) active generation (ok_is _ active _ refl is) tt
+beside_gives (Closed x) (Open v generation) active is = b_read (Closed x) (Open v generation) active v generation (ok_is _ active _ refl is) tt
 beside_gives (Cut at) Foreign active is = absurd (no_ok _ active _ refl is)
 beside_gives (Cut at) (Closed y) active is = absurd (no_ok _ active _ refl is)
 beside_gives (Cut at) (Cut n) active is = absurd (no_ok _ active _ refl is)
-beside_gives (Cut at) (Open generation) active is = absurd (no_ok _ active _ refl is)
-beside_gives (Open generation) Foreign active is = absurd (no_ok _ active _ refl is)
-beside_gives (Open generation) (Closed y) active is = a_read (Open generation) (Closed y) active generation (ok_is _ active _ refl is) tt
-beside_gives (Open generation) (Cut at) active is = absurd (no_ok _ active _ refl is)
-beside_gives (Open a) (Open b) active is = both_open a b active is
+beside_gives (Cut at) (Open v generation) active is = absurd (no_ok _ active _ refl is)
+beside_gives (Open v generation) Foreign active is = absurd (no_ok _ active _ refl is)
+beside_gives (Open v generation) (Closed y) active is = a_read (Open v generation) (Closed y) active v generation (ok_is _ active _ refl is) tt
+beside_gives (Open v generation) (Cut at) active is = absurd (no_ok _ active _ refl is)
+beside_gives (Open v a) (Open w b) active is = both_open v a w b active is
 
 -- the header of the area that is read
 abbrev pub own : Area → Header → Header → Header
 own A a b = a
 own B a b = b
 
-own_a : (a b : Header) (active : Active) (generation : ℕ) → record { area = A; generation = generation } ≡ active → a ≡ Open generation → own active.area a b ≡ Open active.generation
-own_a a b active generation is here = subst (λ (x : Active). own x.area a b ≡ Open x.generation) is here
+own_a : (a b : Header) (active : Active) (version generation : ℕ) → opened A version generation ≡ active → a ≡ Open version generation → own active.area a b ≡ Open active.version active.generation
+own_a a b active version generation is here = subst (λ (x : Active). own x.area a b ≡ Open x.version x.generation) is here
 
-own_b : (a b : Header) (active : Active) (generation : ℕ) → record { area = B; generation = generation } ≡ active → b ≡ Open generation → own active.area a b ≡ Open active.generation
-own_b a b active generation is here = subst (λ (x : Active). own x.area a b ≡ Open x.generation) is here
+own_b : (a b : Header) (active : Active) (version generation : ℕ) → opened B version generation ≡ active → b ≡ Open version generation → own active.area a b ≡ Open active.version active.generation
+own_b a b active version generation is here = subst (λ (x : Active). own x.area a b ≡ Open x.version x.generation) is here
 
-both_own : (a b : ℕ) (active : Active) → newer a b ≡ Ok active → own active.area (Open a) (Open b) ≡ Open active.generation
-both_own a b active is = ⊎_elim
-    (λ first. subst (λ (x : Area). own x (Open a) (Open b) ≡ Open active.generation) (sym first.area_is) (ap Open (sym first.generation_is)))
-    (λ second. subst (λ (x : Area). own x (Open a) (Open b) ≡ Open active.generation) (sym second.area_is) (ap Open (sym second.generation_is)))
-    (newer_gives a b active is)
+both_own : (v a w b : ℕ) (active : Active) → newer (opened A v a) (opened B w b) ≡ Ok active → own active.area (Open v a) (Open w b) ≡ Open active.version active.generation
+both_own v a w b active is = ⊎_elim
+    (λ first. subst (λ (x : Active). own x.area (Open v a) (Open w b) ≡ Open x.version x.generation) (sym first.is) refl)
+    (λ second. subst (λ (x : Active). own x.area (Open v a) (Open w b) ≡ Open x.version x.generation) (sym second.is) refl)
+    (newer_gives (opened A v a) (opened B w b) active is)
 
-own_open : (a b : Header) (active : Active) → active_of a b ≡ Ok active → own active.area a b ≡ Open active.generation
+own_open : (a b : Header) (active : Active) → active_of a b ≡ Ok active → own active.area a b ≡ Open active.version active.generation
 own_open Foreign b active is = absurd (no_ok _ active _ refl is)
 own_open (Closed x) Foreign active is = absurd (no_ok _ active _ refl is)
 own_open (Closed x) (Closed y) active is = absurd (no_ok _ active _ refl is)
 own_open (Closed x) (Cut at) active is = absurd (no_ok _ active _ refl is)
-own_open (Closed x) (Open generation) active is = own_b (Closed x) (Open generation) active generation (ok_is _ active _ refl is) refl
+own_open (Closed x) (Open v generation) active is = own_b (Closed x) (Open v generation) active v generation (ok_is _ active _ refl is) refl
 own_open (Cut at) Foreign active is = absurd (no_ok _ active _ refl is)
 own_open (Cut at) (Closed y) active is = absurd (no_ok _ active _ refl is)
 own_open (Cut at) (Cut n) active is = absurd (no_ok _ active _ refl is)
-own_open (Cut at) (Open generation) active is = absurd (no_ok _ active _ refl is)
-own_open (Open generation) Foreign active is = absurd (no_ok _ active _ refl is)
-own_open (Open generation) (Closed y) active is = own_a (Open generation) (Closed y) active generation (ok_is _ active _ refl is) refl
-own_open (Open generation) (Cut at) active is = absurd (no_ok _ active _ refl is)
-own_open (Open a) (Open b) active is = both_own a b active is
+own_open (Cut at) (Open v generation) active is = absurd (no_ok _ active _ refl is)
+own_open (Open v generation) Foreign active is = absurd (no_ok _ active _ refl is)
+own_open (Open v generation) (Closed y) active is = own_a (Open v generation) (Closed y) active v generation (ok_is _ active _ refl is) refl
+own_open (Open v generation) (Cut at) active is = absurd (no_ok _ active _ refl is)
+own_open (Open v a) (Open w b) active is = both_own v a w b active is
 
 own_area : (area : Area) (c : Image) → own area (header_of (front (c A))) (header_of (front (c B))) ≡ header_of (front (c area))
 own_area A c = refl
 own_area B c = refl
 
--- the area that is read is open, and its header tells the generation
-pub own_is : (c : Image) (active : Active) → active_of (header_of (front (c A))) (header_of (front (c B))) ≡ Ok active → header_of (front (c active.area)) ≡ Open active.generation
+-- the area that is read is open, and its header tells the version and the generation
+pub own_is : (c : Image) (active : Active) → active_of (header_of (front (c A))) (header_of (front (c B))) ≡ Ok active → header_of (front (c active.area)) ≡ Open active.version active.generation
 own_is c active is =
-    subst (λ (h : Header). h ≡ Open active.generation) (own_area active.area c) (own_open (header_of (front (c A))) (header_of (front (c B))) active is)
+    subst (λ (h : Header). h ≡ Open active.version active.generation) (own_area active.area c) (own_open (header_of (front (c A))) (header_of (front (c B))) active is)
 
 beside_area : (area : Area) (c : Image) → beside area (header_of (front (c A))) (header_of (front (c B))) ≡ header_of (front (c (other area)))
 beside_area A c = refl
@@ -225,7 +226,7 @@ behind_stands gate generation behind (Closed x) is gives =
     subst (λ (y : OtherGate). IsBeside [] y generation (gate ∷ behind)) (sym closed.0) (inl (omega (arith, length_front 29 behind closed.1)))
 behind_stands gate generation behind Foreign is gives = absurd gives
 behind_stands gate generation behind (Cut at) is gives = absurd gives
-behind_stands gate generation behind (Open older) is gives = inr (record { gate = gate; behind = behind; older = older; parts = refl; header = is; below = gives })
+behind_stands gate generation behind (Open version older) is gives = inr (record { gate = gate; behind = behind; version = version; older = older; parts = refl; header = is; below = gives })
 
 not_zero : (n : ℕ) → (suc n == 0) ≡ false
 not_zero n = grind (arith, nat_tests)

@@ -137,6 +137,7 @@ opens_headed c h is =
     let all = follow (length bytes) bytes (23 + length h.head) (omega arith) in
     record {
       area = h.area;
+      version = h.version;
       generation = h.generation;
       head = h.head;
       payloads = all.payloads;

@@ -1,6 +1,7 @@
 -- The lemmas that other crates may cite.
 pub use Rattle.bbs_journal.proofs.Accepted.{accepted}
 pub use Rattle.bbs_journal.proofs.Frames.{before_or_after}
+pub use Rattle.bbs_journal.proofs.Kept.{length-heading}
 pub use Rattle.bbs_journal.proofs.Once.{opens_once}
 pub use Rattle.bbs_journal.proofs.Opening.{stands_yields}
 pub use Rattle.bbs_journal.proofs.Outcomes.{opens_or_not}

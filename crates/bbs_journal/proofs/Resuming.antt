@@ -8,16 +8,16 @@ use Rattle.bbs_journal.specs.Preparing.{first_head, empty_head, OpensEmpty}
 use Rattle.bbs_journal.specs.declared.other_gate.OtherGate.TheVariants.{Loose}
 use Rattle.bbs_journal.proofs.Accepted.{accepted}
 
-first_heading : first_head ≡ 1 ∷ heading 1 empty_head
+first_heading : first_head ≡ 1 ∷ heading 1 1 empty_head
 unfolding field_number
 first_heading = refl
 
 pub opens_empty : OpensEmpty
 unfolding field_number
-opens_empty p q prepares = accepted (content q) A 1 empty_head [] (record {
+opens_empty p q prepares = accepted (content q) A 1 1 empty_head [] (record {
   gate = 1;
   is_open = omega arith;
-  goes_with = record { above = omega arith; below = omega arith; fits = omega arith; not_ahead = λ eight. omega arith };
+  goes_with = record { version_is = refl; above = omega arith; below = omega arith; fits = omega arith; not_ahead = λ eight. omega arith };
   area_is = record {
     frames = [];
     whole = refl;

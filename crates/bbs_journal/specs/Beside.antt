@@ -3,15 +3,16 @@
 use Rattle.std.specs.Prelude.{◌≡◌, ℕ, ◌+◌, List, [], ◌∷◌, ◌++◌, length}
 use Rattle.bbs_journal.specs.Areas.{Begins, Staged}
 use Rattle.bbs_journal.specs.Grammar.{heading}
+use Rattle.bbs_journal.specs.Header.{newest}
 use Rattle.bbs_journal.specs.Other.{IsLoose}
 use Rattle.bbs_journal.specs.declared.other_gate.OtherGate.{OtherGate}
 use Rattle.bbs_journal.specs.declared.other_gate.OtherGate.TheVariants.{Shut, Loose, Written}
 use Rattle.bbs_journal.specs.declared.waiting.Waiting.{Waiting}
 use Rattle.bbs_journal.specs.declared.waiting.Waiting.TheVariants.{Nothing, Frame, Header}
 
--- an area without frames, behind its header gate: the heading with this head, and a closed gate
+-- an area as it is written, behind its header gate: the heading with this head, and a closed gate
 abbrev pub unframed : ℕ → List ℕ → List ℕ
-unframed generation head = heading generation head ++ 0 ∷ []
+unframed generation head = heading newest generation head ++ 0 ∷ []
 
 -- behind any gate, or none that is sure, stands the next header with this head
 abbrev pub IsNext : ℕ → List ℕ → List ℕ → Type 0

@@ -73,9 +73,10 @@ Closes area ok end p q =
     (head : List ℕ) (payloads : List (List ℕ)) (payload : List ℕ) → Waits head payloads payload end (now p area)
     → Mends area ok head payloads payload end p q
 
--- what no append and no mend changes: the area, its generation, and that it has no defect
+-- what no append and no mend changes: the area, its version, its generation, and that it has no defect
 pub record Stays {D : Type 0} (old new : JournalView D) : Type 0 where
   pub area : new.area ≡ old.area
+  pub version : new.version ≡ old.version
   pub generation : new.generation ≡ old.generation
   pub broken : new.broken ≡ old.broken
 

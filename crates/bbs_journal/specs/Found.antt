@@ -34,7 +34,7 @@ pub record FitsArea (start len : ℕ) (frames : Frames) : Type 0 where
 
 -- what an image is opened as, and what the front of the other area tells of its gate
 pub record IsFoundIn (c : Image) (found : Found) : Type 0 where
-  pub opening : IsOpening c found.place.area found.place.generation found.head.items
+  pub opening : IsOpening c found.place.area found.place.version found.place.generation found.head.items
       (payloads_of found.payloads.items) found.broken found.place.end
   pub gate : found.place.gate ≡ gate_of (header_of (front (c (other found.place.area))))
 
@@ -54,6 +54,6 @@ pub record IsJustLoaded {D : Type 0} (told : D → Option Past) (fault_count : D
   pub count : loaded.journal.frames ≡ length loaded.frames.items
   pub mended : loaded.journal.waiting ≡ Nothing
   pub broken : loaded.journal.broken ≡ is_some loaded.broken
-  pub kept : ForSome (told loaded.journal.disk) (IsKept loaded.journal.area loaded.journal.generation
-      loaded.journal.end loaded.journal.frames Nothing loaded.journal.broken loaded.journal.gate)
+  pub kept : ForSome (told loaded.journal.disk) (IsKept loaded.journal.area loaded.journal.version
+      loaded.journal.generation loaded.journal.end loaded.journal.frames Nothing loaded.journal.broken loaded.journal.gate)
   pub stood : fault_count loaded.journal.disk ≡ fault_count disk

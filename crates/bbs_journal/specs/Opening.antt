@@ -13,11 +13,11 @@ use Rattle.bbs_journal.specs.declared.header.Header.TheVariants.{Closed, Foreign
 use Rattle.bbs_journal.specs.declared.load_fault.LoadFault.{LoadFault}
 use Rattle.bbs_journal.specs.declared.load_fault.LoadFault.TheVariants.{NotABoard, Damaged}
 
--- of two open areas the one of the greater generation
-abbrev pub newer : ℕ → ℕ → Result Active LoadFault
+-- of two open areas, whatever their versions, the one of the greater generation
+abbrev pub newer : Active → Active → Result Active LoadFault
 newer a b =
-    if a == b then Err (Damaged B 11)
-    else (if nat_lt b a then Ok (record { area = A; generation = a }) else Ok (record { area = B; generation = b }))
+    if a.generation == b.generation then Err (Damaged B 11)
+    else (if nat_lt b.generation a.generation then Ok a else Ok b)
 
 -- the area that is read, by the headers of both: the tests that stand first in the table come first
 abbrev pub active_of : Header → Header → Result Active LoadFault
@@ -26,31 +26,33 @@ active_of a Foreign = Err (NotABoard B)
 active_of (Closed x) (Closed y) = Err (NotABoard A)
 active_of (Cut at) b = Err (Damaged A at)
 active_of a (Cut at) = Err (Damaged B at)
-active_of (Open generation) (Closed y) = Ok (record { area = A; generation = generation })
-active_of (Closed x) (Open generation) = Ok (record { area = B; generation = generation })
-active_of (Open a) (Open b) = newer a b
+active_of (Open version generation) (Closed y) = Ok (record { area = A; version = version; generation = generation })
+active_of (Closed x) (Open version generation) = Ok (record { area = B; version = version; generation = generation })
+active_of (Open v a) (Open w b) =
+    newer (record { area = A; version = v; generation = a }) (record { area = B; version = w; generation = b })
 
 -- the length of the head, as the header tells it
 unfoldable pub size_in : List ℕ → ℕ
 size_in bytes = from_be_bytes w32 (take 4 (drop 19 bytes))
 
--- the head is there as far as a number of eight bytes, and the generation is above that number plus 1
-unfoldable pub is_ahead : ℕ → List ℕ → Bool
-is_ahead generation bytes =
-    nat_le 31 (length bytes) && nat_le 8 (size_in bytes) && nat_lt (from_be_bytes w64 (take 8 (drop 23 bytes)) + 1) generation
+-- the head is there as far as a number of eight bytes, and the generation is above that number plus the version
+unfoldable pub is_ahead : ℕ → ℕ → List ℕ → Bool
+is_ahead version generation bytes =
+    nat_le 31 (length bytes) && nat_le 8 (size_in bytes) && nat_lt (from_be_bytes w64 (take 8 (drop 23 bytes)) + version) generation
 
 -- the length of the head of an area with this front and this length
 unfoldable pub size_of : Active → List ℕ → ℕ → Result ℕ LoadFault
 size_of active bytes len =
     if active.generation == 0 then Err (Damaged active.area 11)
     else (if nat_lt (length bytes) 23 then Err (Damaged active.area len)
-    else (if is_ahead active.generation bytes then Err (Damaged active.area 11)
+    else (if is_ahead active.version active.generation bytes then Err (Damaged active.area 11)
     else (if nat_lt len (23 + size_in bytes) then Err (Damaged active.area len)
     else Ok (size_in bytes))))
 
 -- an area whose header and head have no defect
 pub record Headed : Type 0 where
   pub area : Area
+  pub version : ℕ
   pub generation : ℕ
   pub head : List ℕ
 
@@ -65,7 +67,7 @@ unfoldable pub headed : Image → Result Headed LoadFault
 headed c = do
   active ← active_of (header_of (front (c A))) (header_of (front (c B)))
   size ← size_of active (front (c active.area)) (length (c active.area))
-  Ok (record { area = active.area; generation = active.generation; head = take size (drop 23 (c active.area)) })
+  Ok (record { area = active.area; version = active.version; generation = active.generation; head = take size (drop 23 (c active.area)) })
 
 -- the bytes begin neither with a closed gate nor with a whole frame
 pub record IsBroken (bytes : List ℕ) : Type 0 where
@@ -84,7 +86,7 @@ AreFrames (payload ∷ payloads) broken end at bytes =
     (rest : List ℕ) × IsFrame payload bytes rest × AreFrames payloads broken end (at + 3 + length payload) rest
 
 -- what an image is opened as
-pub record IsOpening (c : Image) (area : Area) (generation : ℕ) (head : List ℕ) (payloads : List (List ℕ))
+pub record IsOpening (c : Image) (area : Area) (version generation : ℕ) (head : List ℕ) (payloads : List (List ℕ))
     (broken : Option ℕ) (end : ℕ) : Type 0 where
-  pub head_is : headed c ≡ Ok (record { area = area; generation = generation; head = head })
+  pub head_is : headed c ≡ Ok (record { area = area; version = version; generation = generation; head = head })
   pub frames : AreFrames payloads broken end (23 + length head) (drop (23 + length head) (c area))

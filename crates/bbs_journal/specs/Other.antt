@@ -6,13 +6,14 @@ use Rattle.bbs_journal.specs.declared.header.Header.TheVariants.{Open}
 use Rattle.bbs_journal.specs.declared.other_gate.OtherGate.{OtherGate}
 use Rattle.bbs_journal.specs.declared.other_gate.OtherGate.TheVariants.{Shut, Loose, Written}
 
--- behind its gate, open or closed, stands the header of an older generation
+-- behind its gate, open or closed, stands the header of an older generation, in whichever version
 pub record IsOlder (generation : ℕ) (bytes : List ℕ) : Type 0 where
   pub gate : ℕ
   pub behind : List ℕ
+  pub version : ℕ
   pub older : ℕ
   pub parts : bytes ≡ gate ∷ behind
-  pub header : behind_gate (take 30 behind) ≡ Open older
+  pub header : behind_gate (take 30 behind) ≡ Open version older
   pub below : older < generation
 
 -- no byte for a gate, or that one alone, or an older header

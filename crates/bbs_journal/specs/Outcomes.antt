@@ -13,12 +13,13 @@ pub record IsHeadless (c : Image) : Type 0 where
 -- the image is a head and frames behind it, up to a closed gate or a defect
 pub record IsOpened (c : Image) : Type 0 where
   pub area : Area
+  pub version : ℕ
   pub generation : ℕ
   pub head : List ℕ
   pub payloads : List (List ℕ)
   pub broken : Option ℕ
   pub end : ℕ
-  pub opening : IsOpening c area generation head payloads broken end
+  pub opening : IsOpening c area version generation head payloads broken end
 
 -- each image is one of the two, whatever stands in it
 abbrev pub OpensOrHasNoHead : Type 0

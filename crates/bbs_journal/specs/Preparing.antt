@@ -60,6 +60,6 @@ is_prepare_disk_fault (Err Disk) = true
 abbrev pub empty_head : List ℕ
 empty_head = 0 ∷ 0 ∷ 0 ∷ 0 ∷ 0 ∷ 0 ∷ 0 ∷ 0 ∷ 0 ∷ 0 ∷ 0 ∷ 0 ∷ 0 ∷ 0 ∷ 0 ∷ 0 ∷ 0 ∷ 0 ∷ 0 ∷ 0 ∷ 0 ∷ 0 ∷ 0 ∷ 0 ∷ []
 
--- what was prepared is opened as a journal of generation 1 without frames, whose first gate is at place 47
+-- what was prepared is opened as a journal of version 1 and generation 1 without frames, whose first gate is at place 47
 abbrev pub OpensEmpty : Type 0
-OpensEmpty = (p q : Past) → Prepares p q → IsOpening (content q) A 1 empty_head [] None 47
+OpensEmpty = (p q : Past) → Prepares p q → IsOpening (content q) A 1 1 empty_head [] None 47

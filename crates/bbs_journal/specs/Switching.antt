@@ -7,6 +7,7 @@ use Rattle.disk_trait.specs.Runs.{Turns}
 use Rattle.disk_trait.specs.declared.area.Area.{Area}
 use Rattle.bbs_journal.specs.Areas.{Begins}
 use Rattle.bbs_journal.specs.Beside.{unframed, IsNext, Beside}
+use Rattle.bbs_journal.specs.Header.{newest}
 use Rattle.bbs_journal.specs.Other.{IsLoose}
 use Rattle.bbs_journal.specs.View.{JournalView, IsCalm}
 use Rattle.bbs_journal.specs.declared.other_gate.OtherGate.{OtherGate}
@@ -56,6 +57,7 @@ abbrev pub with_opened : {D : Type 0} → Bool → ℕ → JournalView D → D �
 with_opened true size journal disk = record {
   disk = disk;
   area = other journal.area;
+  version = newest;
   generation = journal.generation + 1;
   end = 23 + size;
   frames = 0;

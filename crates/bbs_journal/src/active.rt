@@ -11,34 +11,29 @@ use disk_trait::Area;
 /// The place of the generation in an area.
 pub(crate) const GENERATION_AT: u64 = 11;
 
-/// The area that is read, and its generation.
+/// The area that is read, its version and its generation.
 #[derive(Clone, Copy, Debug)]
 pub(crate) struct Active {
     pub(crate) area: Area,
+    pub(crate) version: u16,
     pub(crate) generation: u64,
 }
 
-/// Both areas are open, with these generations.
-fn choose_newer(a: u64, b: u64) -> Result<Active, LoadFault>
+/// Both areas are open, and this is what their headers tell.
+fn choose_newer(a: Active, b: Active) -> Result<Active, LoadFault>
     ensures value { result ≡ newer a b }
     ensures told { IfErr result (λ e. is_load_disk_fault e ≡ false) }
 {
-    if a == b {
+    if a.generation == b.generation {
         return Err(LoadFault::Damaged {
             area: Area::B,
             at: GENERATION_AT,
         });
     }
-    if b < a {
-        return Ok(Active {
-            area: Area::A,
-            generation: a,
-        });
+    if b.generation < a.generation {
+        return Ok(a);
     }
-    Ok(Active {
-        area: Area::B,
-        generation: b,
-    })
+    Ok(b)
 }
 
 /// These are the headers of both areas.
@@ -52,8 +47,12 @@ pub(crate) fn choose(a: Header, b: Header) -> Result<Active, LoadFault>
             Header::Foreign => Err(LoadFault::NotABoard { area: Area::B }),
             Header::Closed(_) => Err(LoadFault::NotABoard { area: Area::A }),
             Header::Cut(at) => Err(LoadFault::Damaged { area: Area::B, at }),
-            Header::Open(generation) => Ok(Active {
+            Header::Open {
+                version,
+                generation,
+            } => Ok(Active {
                 area: Area::B,
+                version,
                 generation,
             }),
         },
@@ -61,14 +60,32 @@ pub(crate) fn choose(a: Header, b: Header) -> Result<Active, LoadFault>
             Header::Foreign => Err(LoadFault::NotABoard { area: Area::B }),
             _ => Err(LoadFault::Damaged { area: Area::A, at }),
         },
-        Header::Open(generation) => match b {
+        Header::Open {
+            version,
+            generation,
+        } => match b {
             Header::Foreign => Err(LoadFault::NotABoard { area: Area::B }),
             Header::Closed(_) => Ok(Active {
                 area: Area::A,
+                version,
                 generation,
             }),
             Header::Cut(at) => Err(LoadFault::Damaged { area: Area::B, at }),
-            Header::Open(other) => choose_newer(generation, other),
+            Header::Open {
+                version: other_version,
+                generation: other,
+            } => choose_newer(
+                Active {
+                    area: Area::A,
+                    version,
+                    generation,
+                },
+                Active {
+                    area: Area::B,
+                    version: other_version,
+                    generation: other,
+                },
+            ),
         },
     }
 }

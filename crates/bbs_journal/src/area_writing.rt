@@ -10,10 +10,10 @@ ghost use Rattle.disk_trait.specs.Steps.{Goes};
 ghost use Rattle.wire_fields.specs.Field.{field_number};
 ghost use Rattle.bbs_journal.specs.Areas.{Begins};
 ghost use Rattle.bbs_journal.specs.Calls.{TakesCalls};
-ghost use Rattle.bbs_journal.specs.Header.{mark};
+ghost use Rattle.bbs_journal.specs.Header.{mark, newest};
 
 use crate::body::put_bytes;
-use crate::header::MARK;
+use crate::header::NEWEST_MARK;
 use crate::journal::CLOSED;
 use crate::synced::write_synced;
 use byte_ports::Failed;
@@ -23,12 +23,12 @@ use wire_fields::{put_u32, put_u64};
 /// How many bytes stand between the header gate and the head.
 const HEADER: usize = 22;
 
-/// The magic and the version, the generation, and the length of the head.
+/// The magic and the newest version, the generation, and the length of the head.
 pub(crate) fn new_header(generation: u64, size: u32) -> [u8; HEADER]
-    ensures { result ≡ mark ++ (field_number w64 generation ++ field_number w32 size) }
+    ensures { result ≡ mark newest ++ (field_number w64 generation ++ field_number w32 size) }
 {
     let mut out = [0u8; HEADER];
-    let marked = put_bytes(&mut out, 0, &MARK);
+    let marked = put_bytes(&mut out, 0, &NEWEST_MARK);
     let numbered = put_u64(&mut out, marked, generation);
     let _end = put_u32(&mut out, numbered, size);
     out

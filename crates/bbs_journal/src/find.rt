@@ -105,6 +105,7 @@ fn read_sized<D: Disk>(
     let frames = read_frames(alloc, disk, area, 23 + size as u64, len)?;
     let place = Place {
         area,
+        version: chosen.active.version,
         generation: chosen.active.generation,
         end: frames.end,
         frames: frames.payloads.len() as u64,

@@ -1,5 +1,5 @@
 //! Whether the head of the area that is read fits in it, and goes with its generation.
-ghost use Rattle.std.specs.Prelude.{◌≡◌, ◌+◌, ◌<◌, ◌≤◌, false, length, IfOk, IfErr};
+ghost use Rattle.std.specs.Prelude.{◌≡◌, ◌+◌, ◌≤◌, false, length, IfOk, IfErr};
 ghost use Rattle.bbs_journal.specs.LoadFaults.{is_load_disk_fault};
 ghost use Rattle.bbs_journal.specs.Opening.{size_in, is_ahead, size_of};
 
@@ -7,18 +7,18 @@ use crate::LoadFault;
 use crate::active::{Active, GENERATION_AT};
 use crate::header::{FRONT, u32_at, u64_at};
 
-/// Whether the generation is above the number that begins the head, plus 1. A generation is followed
-/// by another only where it has frames, and each of them raises that number.
+/// Whether the generation is above the number that begins the head, plus the version. A generation is
+/// followed by another of its version only where it has frames, and each of them raises that number.
 #[tactic(auto, unfolding(crate::specs::Opening::size_in, crate::specs::Opening::is_ahead))]
-fn runs_ahead(generation: u64, front: &[u8]) -> bool
+fn runs_ahead(version: u16, generation: u64, front: &[u8]) -> bool
     requires room { 23 ≤ length front.now }
-    requires above { 0 < generation }
-    ensures { result ≡ is_ahead generation front.now }
+    ensures { result ≡ is_ahead version generation front.now }
 {
     if front.len() < FRONT || u32_at(&front[19..]) < 8 {
         return false;
     }
-    u64_at(&front[23..]) < generation - 1
+    let version = version as u64;
+    generation > version && u64_at(&front[23..]) < generation - version
 }
 
 /// The length of the head. `front` are the first bytes of the area, of which there are `len`.
@@ -38,7 +38,7 @@ pub(crate) fn check_head(active: Active, front: &[u8], len: u64) -> Result<u32, 
     if front.len() < 23 {
         return Err(LoadFault::Damaged { area, at: len });
     }
-    if runs_ahead(active.generation, front) {
+    if runs_ahead(active.version, active.generation, front) {
         return Err(LoadFault::Damaged {
             area,
             at: GENERATION_AT,

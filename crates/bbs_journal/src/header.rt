@@ -1,12 +1,18 @@
 //! What the first bytes of an area say of it.
 ghost use Rattle.std.specs.Prelude.{◌≡◌, ◌≤◌, length, take};
 ghost use Rattle.std.specs.Int.{w32, w64, from_be_bytes};
-ghost use Rattle.bbs_journal.specs.Header.{header_of, behind_gate};
+ghost use Rattle.bbs_journal.specs.Header.{header_of, behind_gate, version_of};
 
 use crate::OtherGate;
 
 /// The magic, and version 1 in two bytes.
-pub(crate) const MARK: [u8; 10] = [b'D', b'I', b'E', b'G', b'O', b'B', b'B', b'S', 0, 1];
+const MARK: [u8; 10] = [b'D', b'I', b'E', b'G', b'O', b'B', b'B', b'S', 0, 1];
+
+/// The version of every area that is written.
+pub(crate) const NEWEST: u16 = 1;
+
+/// The magic, and that version in two bytes.
+pub(crate) const NEWEST_MARK: [u8; 10] = MARK;
 
 /// How many bytes of an area are looked at before its head is read.
 pub(crate) const FRONT: usize = 31;
@@ -16,12 +22,12 @@ pub(crate) const FRONT: usize = 31;
 pub(crate) enum Header {
     /// It has no bytes or one, or its gate is 0.
     Closed(OtherGate),
-    /// Its gate is open, and the magic and the version don't follow.
+    /// Its gate is open, and the magic and a version that is read don't follow.
     Foreign,
     /// It ends within the generation, at this place.
     Cut(u64),
-    /// Its gate is open, and it has this generation.
-    Open(u64),
+    /// Its gate is open, and it has this version and this generation.
+    Open { version: u16, generation: u64 },
 }
 
 pub(crate) fn u64_at(bytes: &[u8]) -> u64
@@ -40,6 +46,17 @@ pub(crate) fn u32_at(bytes: &[u8]) -> u32
     u32::from_be_bytes([bytes[0], bytes[1], bytes[2], bytes[3]])
 }
 
+/// The version that stands behind an open gate, if it is one that is read.
+#[tactic(auto, unfolding(crate::specs::Header::version_of, wire_fields::specs::Field::field_number))]
+fn version_in(bytes: &[u8]) -> Option<u16>
+    ensures { result ≡ version_of bytes.now }
+{
+    if bytes.starts_with(&MARK) {
+        return Some(1);
+    }
+    None
+}
+
 /// The gate is open, and these bytes follow it.
 #[tactic(auto, unfolding(crate::specs::Header::behind_gate))]
 fn header_behind(bytes: &[u8]) -> Header
@@ -48,13 +65,16 @@ fn header_behind(bytes: &[u8]) -> Header
     if bytes.is_empty() {
         return Header::Closed(OtherGate::Loose);
     }
-    if !bytes.starts_with(&MARK) {
+    let Some(version) = version_in(bytes) else {
         return Header::Foreign;
-    }
+    };
     if bytes.len() < 18 {
         return Header::Cut(1 + bytes.len() as u64);
     }
-    Header::Open(u64_at(&bytes[10..]))
+    Header::Open {
+        version,
+        generation: u64_at(&bytes[10..]),
+    }
 }
 
 /// These are an area's first bytes, as many as it has of them.

@@ -31,6 +31,7 @@ pub(crate) const CLOSED: [u8; 1] = [0];
 pub struct Journal<D: Disk> {
     pub(crate) disk: D,
     pub(crate) area: Area,
+    pub(crate) version: u16,
     pub(crate) generation: u64,
     pub(crate) end: u64,
     pub(crate) frames: u64,
@@ -49,6 +50,7 @@ impl<D: Disk> Model for Journal<D> {
     ghost view = { λ j. record {
       disk = j.disk;
       area = j.area;
+      version = j.version;
       generation = j.generation;
       end = j.end;
       frames = j.frames;
@@ -59,18 +61,19 @@ impl<D: Disk> Model for Journal<D> {
 
     ghost invariant = { λ j. (j.end < 2 ^ 33 + 515 * j.frames)
         × ForSome (D.told j.disk)
-        (IsKept j.area j.generation j.end j.frames j.waiting j.broken j.gate) };
+        (IsKept j.area j.version j.generation j.end j.frames j.waiting j.broken j.gate) };
 }
 
 impl<D: Disk> Journal<D> {
     /// Goes on with what was found on the disk. Nothing is in doubt.
     pub(crate) fn resume(disk: D, found: Place) -> Journal<D>
         requires small { found.end < 2 ^ 33 + 515 * found.frames }
-        requires kept { ForSome (D.told disk) (IsKept found.area found.generation found.end
-            found.frames Nothing found.broken found.gate) }
+        requires kept { ForSome (D.told disk) (IsKept found.area found.version found.generation
+            found.end found.frames Nothing found.broken found.gate) }
         ensures { result ≡ record {
           disk = disk;
           area = found.area;
+          version = found.version;
           generation = found.generation;
           end = found.end;
           frames = found.frames;
@@ -82,6 +85,7 @@ impl<D: Disk> Journal<D> {
         Journal {
             disk,
             area: found.area,
+            version: found.version,
             generation: found.generation,
             end: found.end,
             frames: found.frames,
@@ -195,6 +199,13 @@ impl<D: Disk> Journal<D> {
         self.area
     }
 
+    /// The format version of that area.
+    pub fn version(&self) -> u16
+        ensures { result ≡ self.now.version }
+    {
+        self.version
+    }
+
     /// The generation of that area, at least 1.
     pub fn generation(&self) -> u64
         ensures { result ≡ self.now.generation }
@@ -223,6 +234,7 @@ impl<D: Disk> Journal<D> {
         let Journal {
             disk,
             area: _,
+            version: _,
             generation: _,
             end: _,
             frames: _,

@@ -32,7 +32,7 @@ fn read_disk<D: Disk>(alloc: Global, disk: &mut D) -> Result<Found, LoadFault>
     ensures shows { IfOk result (λ f. (c : Image) → Shows (D.told disk.new) c → IsFoundIn c f) }
     ensures counts { IfOk result IsCounted }
     ensures kept { IfOk result (λ f. ForSome (D.told disk.new) (IsKept f.place.area
-        f.place.generation f.place.end f.place.frames Nothing f.place.broken f.place.gate)) }
+        f.place.version f.place.generation f.place.end f.place.frames Nothing f.place.broken f.place.gate)) }
     ensures fault { IfErr result (λ e. (c : Image) → Shows (D.told disk.new) c →
         Fails e (headed c)) }
     ensures does { Goes (D.told disk.old) (D.told disk.new) (Syncs (is_ok result)) }
@@ -47,7 +47,7 @@ fn read_disk<D: Disk>(alloc: Global, disk: &mut D) -> Result<Found, LoadFault>
 /// fault: what stands before it is read, and nothing can be appended or mended.
 pub fn load<D: Disk>(alloc: Global, mut disk: D) -> Result<Loaded<D>, (D, LoadFault)>
     ensures found { IfOk result (λ l. (c : Image) → Shows (D.told l.journal.disk) c →
-        IsOpening c l.journal.area l.journal.generation l.head.items
+        IsOpening c l.journal.area l.journal.version l.journal.generation l.head.items
         (payloads_of l.frames.items) l.broken l.journal.end) }
     ensures fresh { IfOk result (IsJustLoaded D.told D.fault_count disk) }
     ensures fault { IfErr result (λ e. (c : Image) → Shows (D.told e.0) c →

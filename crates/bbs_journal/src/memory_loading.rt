@@ -21,7 +21,7 @@ pub fn load_from_memory(
     disk: MemoryDisk,
 ) -> Result<Loaded<MemoryDisk>, (MemoryDisk, LoadFault)>
     ensures found { IfOk result (λ l. (c : Image) → Shows (Some (memory_past disk)) c →
-        IsOpening c l.journal.area l.journal.generation l.head.items
+        IsOpening c l.journal.area l.journal.version l.journal.generation l.head.items
         (payloads_of l.frames.items) l.broken l.journal.end) }
     ensures fresh { IfOk result (IsJustLoaded (λ d. Some (memory_past d)) faults_of disk) }
     ensures fault { IfErr result (λ e. (c : Image) → Shows (Some (memory_past disk)) c →

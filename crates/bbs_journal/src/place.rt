@@ -8,6 +8,7 @@ use disk_trait::Area;
 #[derive(Clone, Copy)]
 pub(crate) struct Place {
     pub(crate) area: Area,
+    pub(crate) version: u16,
     pub(crate) generation: u64,
     pub(crate) end: u64,
     pub(crate) frames: u64,

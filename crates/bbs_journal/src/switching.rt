@@ -10,6 +10,7 @@ ghost use Rattle.bbs_journal.specs.View.{IsCalm};
 ghost use Rattle.bbs_journal.specs.declared.other_gate.OtherGate.TheVariants as gates;
 
 use crate::area_writing::{new_header, write_area};
+use crate::header::NEWEST;
 use crate::journal::{CLOSED, OPEN};
 use crate::other_gate::size_written;
 use crate::synced::write_synced;
@@ -112,6 +113,7 @@ impl<D: Disk> Journal<D> {
         write_synced(&mut self.disk, area, 0, &OPEN)?;
         self.waiting = Waiting::Nothing;
         self.area = area;
+        self.version = NEWEST;
         self.generation += 1;
         self.end = 23 + size as u64;
         self.frames = 0;

@@ -17,8 +17,8 @@ pub fn switch<D: Disk>(journal: &mut Journal<D>, head: &[u8]) -> Result<(), Disk
     requires can { CanSwitch journal.old }
     requires fits { length head.now < 2 ^ 32 }
     ensures does { Goes (D.told journal.old.disk) (D.told journal.new.disk)
-        (SwitchesAll (is_ok result) journal.old.area journal.old.generation journal.new.waiting
-        journal.new.gate head.now) }
+        (SwitchesAll (is_ok result) journal.old.area journal.old.version journal.old.generation
+        journal.new.waiting journal.new.gate head.now) }
     ensures calls { TakesCalls (is_ok result) (close_calls journal.old.gate + 6)
         (D.moment journal.old.disk) (D.moment journal.new.disk) }
     ensures cause { HasCause (is_err result)

@@ -25,7 +25,7 @@ use Rattle.diego_engine.proofs.Recoveries.{opened}
 keeps_then_writes : (rows : Rows) (items : List Item) (p q r : Past) → Secures p q → WritesOn rows items q r → WritesOn rows items p r
 keeps_then_writes rows items p q r secures writes reading reads =
     let same : content p ≡ content q = λ i. λ area. sym (secures.keeps.same area) i in
-    writes reading (subst (λ (image : Rattle.disk_trait.specs.Past.Image). OpensAs image reading.area reading.generation reading.head reading.payloads) same reads)
+    writes reading (subst (λ (image : Rattle.disk_trait.specs.Past.Image). OpensAs image reading.area reading.version reading.generation reading.head reading.payloads) same reads)
 
 module _ {D : Type 0} (told : D → Option Past) (faults moment : D → ℕ) (law : RunsAreAlone told) (e : Ended) (v w : Ports) (script : Script)
     (sound : IsScript script) (late : EndsLate told faults moment script ending.Done e v w) where

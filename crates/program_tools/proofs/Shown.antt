@@ -85,9 +85,9 @@ module _ (rows : Rows) (v m : Ports) (opens : Opens rows v m) (held : Option (Li
   checked (Some p) check found kept next image shows =
       let board = found image shows in
       let place = kept p refl in
-      let opening : OpensAs image check.area check.generation place.head place.payloads =
-      subst (λ (c : Image). OpensAs c check.area check.generation place.head place.payloads) (λ i area. shows area i) place.opens in
-      let same = opens_once image board.area check.area board.generation check.generation board.head place.head board.payloads place.payloads None None board.end _ board.opening opening in
+      let opening : OpensAs image check.area place.version check.generation place.head place.payloads =
+      subst (λ (c : Image). OpensAs c check.area place.version check.generation place.head place.payloads) (λ i area. shows area i) place.opens in
+      let same = opens_once image board.area check.area board.version place.version board.generation check.generation board.head place.head board.payloads place.payloads None None board.end _ board.opening opening in
       record {
         rows = rows;
         board = board;

@@ -67,10 +67,12 @@ fn a_changed_byte_is_told_where_it_counts(rt: HostRuntime) -> Result<(), Fail> {
         area: Area::A,
         at: 11,
     };
-    let table: [(usize, u8, Read); 12] = [
+    let table: [(usize, u8, Read); 14] = [
         (0, 0, Err(not_ours)),
         (0, 9, Ok((1, None))),
         (1, 9, Err(not_ours)),
+        (9, 1, Err(not_ours)),
+        (10, 0, Err(not_ours)),
         (10, 2, Err(not_ours)),
         (18, 0, Err(generation)),
         (18, 2, Err(generation)),

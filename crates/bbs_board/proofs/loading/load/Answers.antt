@@ -39,7 +39,7 @@ invariant_of-result g c =
       doubted = subst (λ (l : List Item). RoseForEach (doubts_in l) c.faults-faults.result (g.D.Disk.fault_count c.in-Ok.loaded.journal.disk)) (sym log_is)
           (omega (arith, c.faults-faults.ensures, fresh.stood));
       holds = rw (base_is, log_is, marks_is, fresh.mended, frames_are)
-          (loaded_holds _ _ c.in-Ok.loaded.journal.area c.in-Ok.loaded.journal.generation c.in-Ok.loaded.head.items payloads c.in-Ok.loaded.broken c.in-Ok.loaded.journal.end c.in-Ok-board_of.index.rows c.clock.result
+          (loaded_holds _ _ c.in-Ok.loaded.journal.area c.in-Ok.loaded.journal.version c.in-Ok.loaded.journal.generation c.in-Ok.loaded.head.items payloads c.in-Ok.loaded.broken c.in-Ok.loaded.journal.end c.in-Ok-board_of.index.rows c.clock.result
           c.in-Ok.ensures.ok timed c.in-Ok.ensures.found fresh.end is _ _ _ fresh.kept);
     }
 
@@ -49,5 +49,5 @@ returns-in-Ok-board_of-clause-found g c image shows =
     let is : board_of c.in-Ok.loaded.journal.area c.in-Ok.loaded.head.items payloads c.in-Ok.loaded.broken ≡ Ok c.in-Ok-board_of.index.rows = search rules in
     let base_is : c.of.result.value.rows ≡ c.in-Ok-board_of.index.rows = ap (λ (i : Indexed). i.rows) c.of.ensures in
     subst (λ (r : Rows). IsBoard r image) (sym base_is)
-    (loaded_board image c.in-Ok.loaded.journal.area c.in-Ok.loaded.journal.generation c.in-Ok.loaded.head.items payloads c.in-Ok.loaded.broken c.in-Ok.loaded.journal.end c.in-Ok-board_of.index.rows
+    (loaded_board image c.in-Ok.loaded.journal.area c.in-Ok.loaded.journal.version c.in-Ok.loaded.journal.generation c.in-Ok.loaded.head.items payloads c.in-Ok.loaded.broken c.in-Ok.loaded.journal.end c.in-Ok-board_of.index.rows
     (c.in-Ok.ensures.found image shows) is)

@@ -39,7 +39,7 @@ pub returns-then-is_err-clause-does : goal.returns-then-is_err-clause-does
 returns-then-is_err-clause-does g c =
     let b = c.self.inside in
     let still = passes_nothing (g.D.Disk.told b.journal.disk) b.base.value.rows b.history.log b.history.marks b.since
-    b.journal.area b.journal.generation b.journal.end b.journal.frames b.journal.waiting b.journal.gate c.self.invariant.holds c.args.command.now in
+    b.journal.area b.journal.version b.journal.generation b.journal.end b.journal.frames b.journal.waiting b.journal.gate c.self.invariant.holds c.args.command.now in
     subst (λ (v : View g.row.D.Denot). Goes (g.D.Disk.told v.disk) (g.D.Disk.told b.journal.disk) (Passes v.waits verdict.Ok false (rows_of v) c.args.command.now)) c.self.view_is still
 
 pub returns-then-is_err-clause-few : goal.returns-then-is_err-clause-few
