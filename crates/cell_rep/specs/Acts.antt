@@ -100,6 +100,11 @@ settle_op cell draining (Task name) (Completed failed) i = op.CompleteTask name 
 abbrev pub settle_todo : Moment → List ℕ → Bool → Container → Todo
 settle_todo now cell draining c = call now (settle_op cell draining c.job c.state c.instance)
 
+-- the job that an act names whose calls are for each of some containers
+abbrev pub named_in : CellAct → Option JobName
+named_in (act.Up job) = job
+named_in a = None
+
 -- what a container has to be told of in an act that has a call for each of some
 abbrev pub each_todo : CellAct → Moment → List ℕ → Bool → Container → Option Todo
 each_todo (act.Up job) now cell draining c =

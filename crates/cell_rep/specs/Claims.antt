@@ -1,24 +1,16 @@
 -- What an act does to a cell's containers before it calls.
-use Rattle.std.specs.Prelude.{ℕ, ◌&&◌, Bool, List, Option, Some, None, Result, Ok, Err, IsOk, find, ◌≡◌}
+pub use Rattle.container_store.specs.Lookups.{first_of, uncompleted_of}
+use Rattle.std.specs.Prelude.{ℕ, Bool, Option, Some, None, Result, Ok, Err, IsOk, ◌≡◌}
 use Rattle.std.specs.Result.{result_unwrap_or}
 use Rattle.cell_records.specs.declared.container.Container.{Container}
 use Rattle.cell_records.specs.declared.container_state.ContainerState.{ContainerState}
 use Rattle.cell_records.specs.declared.container_state.ContainerState.TheVariants.{Reserved, Running, Completed}
 use Rattle.cell_records.specs.declared.job_name.JobName.{JobName}
-use Rattle.container_store.specs.Changes.{is_uncompleted, next_container, reserving, running, completing}
-use Rattle.container_store.specs.Jobs.{is_same_job}
+use Rattle.container_store.specs.Changes.{next_container, reserving, running, completing}
 use Rattle.container_store.specs.Store.{StoreView}
 use Rattle.container_store.specs.declared.refusal.StoreRefusal.{StoreRefusal}
 use Rattle.container_store.specs.declared.refusal.ReserveFault.{ReserveFault}
 use Rattle.container_store.specs.declared.refusal.ReserveFault.TheVariants.{Refused, OutOfMemory}
-
--- the first container of a job
-abbrev pub first_of : JobName → List Container → Option Container
-first_of job cs = find (λ c. is_same_job job c.job) cs
-
--- the first of them that has not ended
-abbrev pub uncompleted_of : JobName → List Container → Option Container
-uncompleted_of job cs = find (λ c. is_uncompleted c.state && is_same_job job c.job) cs
 
 -- a store, and a container of it
 abbrev pub Claimed : Type 0

@@ -63,7 +63,7 @@ impl CellRep {
             × (port.new ≡ port.old) × (wire.new ≡ wire.old)) }
         ensures cell { self.new.cell ≡ self.old.cell }
     {
-        let containers = match self.snapshot(alloc) {
+        let containers = match self.asked_of(alloc, act) {
             Err(want) => return Err(want),
             Ok(containers) => containers,
         };
@@ -73,7 +73,7 @@ impl CellRep {
             moment: now,
             draining: self.is_draining(),
         };
-        let refusal = self.refusal_of(act);
+        let refusal = self.refusal_of(act, containers.items());
         self.begin_each(act);
         match refusal {
             Some(why) => self.perform(alloc, &Todo::Local(why), port, wire, out),

@@ -1,9 +1,11 @@
 //! The acts that have a call for each of some containers.
-ghost use Rattle.std.specs.Prelude.{◌≡◌};
+ghost use Rattle.std.specs.Prelude.{◌≡◌, IfOk};
 ghost use Rattle.std.specs.List.{list_any};
-ghost use Rattle.cell_rep.specs.Acts.{begun, start_todo, comes_up, settle_op, settle_todo, each_todo, refused_each, each_refusal};
+ghost use Rattle.container_store.specs.Lookups.{those_of};
+ghost use Rattle.cell_rep.specs.Acts.{named_in, begun, start_todo, comes_up, settle_op, settle_todo, each_todo, refused_each, each_refusal};
 ghost use Rattle.cell_records.specs.declared.job_name.JobName.TheVariants.{Lrp};
 ghost use Rattle.cell_rep.specs.Kinds.{IsOfEach};
+ghost use Rattle.cell_rep.specs.Reps.{containers_of};
 
 use crate::begin::call;
 use crate::call_end::RepRefusal;
@@ -14,7 +16,8 @@ use bbs_model::Op;
 use cell_records::{Container, ContainerState, JobName};
 use container_store::{StoreRefusal, is_job_in, is_reserved};
 use crash_backoff::Moment;
-use diego_names::{Instance, Key, Name};
+use diego_names::{Instance, Key, List, Name, OutOfMemory};
+use std::alloc::Global;
 
 fn comes_up(job: &Option<JobName>, container: &Container) -> bool
     ensures { result ≡ comes_up job.now container.now }
@@ -119,14 +122,37 @@ fn refused_each(act: &CellAct, containers: &[Container]) -> bool
     }
 }
 
+// The job that an act names, if it names one.
+fn named_in(act: &CellAct) -> Option<JobName>
+    ensures { result ≡ named_in act.now }
+{
+    match act {
+        CellAct::Up { job } => *job,
+        _ => None,
+    }
+}
+
 impl CellRep {
+    /// The containers that such an act may have a call for: of the job that it names, or all.
+    pub(crate) fn asked_of(
+        &self,
+        alloc: Global,
+        act: &CellAct,
+    ) -> Result<List<Container>, OutOfMemory>
+        ensures { IfOk result (λ list. list ≡ those_of (named_in act.now) (containers_of self.now)) }
+    {
+        self.those_of(alloc, &named_in(act))
+    }
+
     /// Why such an act calls nothing, if so.
-    pub(crate) fn refusal_of(&self, act: &CellAct) -> Option<RepRefusal>
+    #[tactic(auto, using(crate::proofs::Asked::asked_refusal))]
+    pub(crate) fn refusal_of(&self, act: &CellAct, asked: &[Container]) -> Option<RepRefusal>
+        requires { asked.now ≡ those_of (named_in act.now) (containers_of self.now) }
         ensures { result ≡ each_refusal act.now self.now.joined }
     {
         match &self.joined {
             None => Some(RepRefusal::Down),
-            Some(joined) if refused_each(act, joined.store.containers()) => {
+            Some(_) if refused_each(act, asked) => {
                 Some(RepRefusal::Store(StoreRefusal::Unknown))
             }
             Some(_) => None,

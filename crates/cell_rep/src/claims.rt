@@ -1,39 +1,11 @@
 //! What an act does to a cell's containers before it calls.
-ghost use Rattle.std.specs.Prelude.{◌≡◌, ◌&&◌, find, MatchResult, IsOk, Ok, Err};
-ghost use Rattle.container_store.specs.Changes.{is_uncompleted, running};
+ghost use Rattle.std.specs.Prelude.{◌≡◌, MatchResult, IsOk, Ok, Err};
+ghost use Rattle.container_store.specs.Changes.{running};
 ghost use Rattle.std.specs.Result.{result_unwrap_or};
-ghost use Rattle.container_store.specs.Jobs.{is_same_job};
-ghost use Rattle.cell_rep.specs.Claims.{first_of, uncompleted_of, claiming, store_ended, flag_of, IsClaimFault};
+ghost use Rattle.cell_rep.specs.Claims.{first_of, claiming, store_ended, flag_of, IsClaimFault};
 
 use cell_records::{Container, ContainerState, JobName};
-use container_store::{ReserveFault, Store, is_same_job};
-
-fn is_uncompleted(container: &Container) -> bool
-    ensures { result ≡ is_uncompleted container.now.state }
-{
-    match container.state {
-        ContainerState::Reserved | ContainerState::Running => true,
-        ContainerState::Completed { .. } => false,
-    }
-}
-
-/// The first container of a job.
-pub fn first_of(job: &JobName, containers: &[Container]) -> Option<Container>
-    ensures { result ≡ first_of job.now containers.now }
-{
-    containers
-        .iter()
-        .copied()
-        .find(|container| is_same_job(job, &container.job))
-}
-
-/// The first container of a job that has not ended.
-fn uncompleted_of(job: &JobName, containers: &[Container]) -> Option<Container>
-    ensures { result ≡ uncompleted_of job.now containers.now }
-{
-    containers.iter().copied().find(|container| is_uncompleted(container)
-        && is_same_job(job, &container.job))
-}
+use container_store::{ReserveFault, Store};
 
 /// A job's container that has not ended, or one more.
 pub fn claim_in(
@@ -47,7 +19,7 @@ pub fn claim_in(
         (λ fault. IsClaimFault (claiming store.old job.now memory disk) fault
         × (store.new ≡ store.old)) }
 {
-    if let Some(container) = uncompleted_of(job, store.containers()) {
+    if let Some(container) = store.uncompleted_of(job) {
         return Ok(container);
     }
     match store.reserve(*job, memory, disk) {
@@ -75,7 +47,7 @@ pub fn end_in(store: &mut Store, job: &JobName, failed: bool) -> Option<Containe
         ≡ store_ended store.old failed (first_of job.now store.old.containers) }
     ensures found { result ≡ first_of job.now store.old.containers }
 {
-    let container = first_of(job, store.containers())?;
+    let container = store.first_of(job)?;
     let _ = store.complete(&container.instance, failed);
     Some(container)
 }

@@ -1,10 +1,11 @@
 //! The rep of a cell. One that is up and has no epoch does in every act what one that is down does,
 //! so that there is one state for both: it has not joined.
-ghost use Rattle.std.specs.Prelude.{◌≡◌, IfOk, MatchResult, Ok, Err};
+ghost use Rattle.std.specs.Prelude.{◌≡◌, ◌==◌, length, IfOk, MatchResult, Ok, Err};
+ghost use Rattle.container_store.specs.Lookups.{those_of};
 ghost use Rattle.cell_rep.specs.Reps.{new_rep, answer_in, answer_of, containers_of, is_draining, stopping};
 
 use crate::joined::Joined;
-use cell_records::{Answer, Container};
+use cell_records::{Answer, Container, JobName};
 use container_store::StoreRefusal;
 use diego_names::{Instance, List, Name, OutOfMemory};
 use std::alloc::Global;
@@ -42,12 +43,19 @@ impl CellRep {
     }
 
     /// The containers, in order of number.
-    pub fn containers(&self) -> &[Container]
-        ensures { result.now ≡ containers_of self.now }
+    pub fn containers(&self, alloc: Global) -> Result<List<Container>, OutOfMemory>
+        ensures { IfOk result (λ list. list ≡ containers_of self.now) }
+    {
+        self.those_of(alloc, &None)
+    }
+
+    /// Whether there is no container.
+    pub fn is_empty(&self) -> bool
+        ensures { result ≡ (length (containers_of self.now) == 0) }
     {
         match &self.joined {
-            None => &[],
-            Some(joined) => joined.store.containers(),
+            None => true,
+            Some(joined) => joined.store.is_empty(),
         }
     }
 
@@ -61,11 +69,19 @@ impl CellRep {
         }
     }
 
-    /// The containers, copied.
-    pub(crate) fn snapshot(&self, alloc: Global) -> Result<List<Container>, OutOfMemory>
-        ensures { IfOk result (λ list. list ≡ containers_of self.now) }
+    /// The containers of the job that is named, or all where none is named.
+    #[tactic(auto, using(crate::proofs::Asked::those_of_none))]
+    pub(crate) fn those_of(
+        &self,
+        alloc: Global,
+        named: &Option<JobName>,
+    ) -> Result<List<Container>, OutOfMemory>
+        ensures { IfOk result (λ list. list ≡ those_of named.now (containers_of self.now)) }
     {
-        Ok(List::from(self.containers().to_vec(alloc)?))
+        match &self.joined {
+            None => Ok(List::new(alloc)),
+            Some(joined) => Ok(List::from(joined.store.those_of(alloc, named)?)),
+        }
     }
 
     /// A container is given up, whatever its state.
@@ -86,7 +102,7 @@ fn answer_in(alloc: Global, cell: Name, joined: &Joined) -> Result<Answer, OutOf
     ensures { IfOk result (λ answer. answer ≡ answer_in cell joined.now) }
 {
     let store = &joined.store;
-    let containers = store.containers().to_vec(alloc)?;
+    let containers = store.containers(alloc)?;
     Ok(Answer {
         cell,
         zone: joined.zone,

@@ -12,6 +12,7 @@ mod moved;
 mod names;
 mod refusals;
 mod rivals;
+mod scan;
 mod stories;
 
 use super::*;

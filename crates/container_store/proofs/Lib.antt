@@ -1,7 +1,12 @@
 pub mod Rising
-pub mod Alone
 pub mod Keeps
-pub mod Stands
-pub mod Turns
 pub mod Fresh
+pub mod Orders
+pub mod Numbered
+pub mod JobSets
+pub mod Finding
+pub mod Walks
+pub mod Held
+pub mod Turns
+pub mod Runs
 pub mod Public

@@ -1,5 +1,5 @@
 -- What keeps numbers rising: a change that leaves them, a choice of some, a greater one behind the others.
-use Rattle.std.proofs.Common.{◌≡◌, ℕ, zero, suc, ◌<◌, Bool, true, false, cond, ◌&&◌, T, List, [], ◌∷◌, ◌++◌, map, filter, length, get_or, refl, sym, ap, subst, ◌∙◌, arith}
+use Rattle.std.proofs.Common.{◌≡◌, Bool, true, false, cond, ◌&&◌, T, List, [], ◌∷◌, ◌++◌, map, filter, refl, sym, ap, subst, ◌∙◌}
 use Rattle.std.specs.declared.cmp.Ordering.{Ordering}
 use Rattle.std.specs.declared.cmp.Ordering.TheVariants.{Less}
 use Rattle.std.specs.FinMap.Entries.{is_sorted, below_all}
@@ -7,7 +7,7 @@ use Rattle.std.specs.List.{All}
 use Rattle.std.specs.Ordering.{is_lt}
 use Rattle.std.proofs.lemmas.List.Elements.{All-head, All-tail}
 use Rattle.row_tables.specs.Table.{keyed, IsRising}
-use Rattle.row_tables.proofs.Public.{less_from_test, first_of_both, second_of_both, below_rest, IsRising-tail}
+use Rattle.row_tables.proofs.Public.{first_of_both, second_of_both, below_rest, IsRising-tail}
 
 both : (a b : Bool) → T a → T b → T (a && b)
 both true b p q = q
@@ -69,17 +69,3 @@ module _ {K X : Type 0} (R : K → K → Ordering) (key : X → K) where
       both (below_all R (key x) (keyed R key (xs ++ y ∷ []))) (is_sorted R (keyed R key (xs ++ y ∷ [])))
       (below_all-push (key x) xs y (below_rest R key x xs h) (All-head P x xs above))
       (IsRising-push xs y (IsRising-tail R key x xs h) (All-tail P x xs above))
-
-  below_all-at : (k : K) (xs : List X) (j : ℕ) (d : X) → T (below_all R k (keyed R key xs)) → j < length xs → R k (key (get_or xs j d)) ≡ Less
-  below_all-at k [] j d h in' = absurd (omega arith)
-  below_all-at k (x ∷ xs) zero d h in' =
-      less_from_test (R k (key x)) (first_of_both (is_lt (R k (key x))) (below_all R k (keyed R key xs)) h)
-  below_all-at k (x ∷ xs) (suc j) d h in' =
-      below_all-at k xs j d (second_of_both (is_lt (R k (key x))) (below_all R k (keyed R key xs)) h) (omega arith)
-
-  -- of two places the later has the greater key
-  pub less_at : (xs : List X) (j k : ℕ) (d : X) → IsRising R key xs → j < k → k < length xs → R (key (get_or xs j d)) (key (get_or xs k d)) ≡ Less
-  less_at [] j k d h lt in' = absurd (omega arith)
-  less_at (x ∷ xs) j zero d h lt in' = absurd (omega arith)
-  less_at (x ∷ xs) zero (suc k) d h lt in' = below_all-at (key x) xs k d (below_rest R key x xs h) (omega arith)
-  less_at (x ∷ xs) (suc j) (suc k) d h lt in' = less_at xs j k d (IsRising-tail R key x xs h) (omega arith) (omega arith)

@@ -1,6 +1,7 @@
 pub mod Store
 pub mod Changes
 pub mod Jobs
-pub mod Places
+pub mod Lookups
+pub mod Entries
 pub mod Inside
 pub mod Laws

@@ -1,33 +1,19 @@
-//! A cell's containers, by plain scans.
-ghost use Rattle.std.specs.Prelude.{◌≡◌, map, MatchOption};
-ghost use Rattle.std.specs.List.{position};
+//! A cell's containers: by number, and the entries of their jobs beside them.
+ghost use Rattle.std.specs.Prelude.{◌≡◌, ℕ, true, false, cond, Some, OnOk, OnErr};
+ghost use Rattle.std.specs.BTreeMap.{get, insert_entry, is_at};
+ghost use Rattle.std.specs.BTreeSet.{contains};
+ghost use Rattle.std.specs.Map.{set_value};
 ghost use Rattle.std.specs.Ordering.{nat_cmp};
-ghost use Rattle.lrp_records.specs.States.{is_same_instance};
-ghost use Rattle.row_tables.specs.Table.{IsRising};
-ghost use Rattle.container_store.specs.Places.{StandsAt};
-ghost use Rattle.container_store.specs.Store.{number_of, find_container};
-ghost use Rattle.container_store.specs.Changes.{is_reserved, run_if_named};
+ghost use Rattle.cell_records.specs.declared.container.Container.{Container as AContainer};
+ghost use Rattle.container_store.specs.Changes.{in_state, is_reserved, is_uncompleted};
+ghost use Rattle.container_store.specs.Entries.{entry_order, entry_of};
+ghost use Rattle.container_store.specs.Store.{number_of};
+ghost use Rattle.container_store.specs.declared.entries.JobEntry.{JobEntry as AnEntry};
 
-use crate::jobs::is_job_in;
-use cell_records::{Container, ContainerState, JobName};
-use diego_names::Instance;
-
-/// The first place of a container of an instance.
-fn first_of(containers: &[Container], instance: &Instance) -> Option<usize>
-    ensures { result ≡ position (λ c. is_same_instance instance.now c.instance) containers.now }
-{
-    containers.iter().position(|c| *instance == c.instance)
-}
-
-/// Where the container of an instance stands.
-pub fn place_of(containers: &[Container], instance: &Instance) -> Option<usize>
-    requires { IsRising nat_cmp number_of containers.now }
-    ensures { MatchOption result
-        (find_container instance.now containers.now ≡ None)
-        (StandsAt instance.now containers.now) }
-{
-    first_of(containers, instance)
-}
+use crate::entries::{JobEntry, job_entry};
+use cell_records::{Container, ContainerState};
+use diego_names::OutOfMemory;
+use std::collections::{BTreeMap, BTreeSet};
 
 /// Whether a container has room, and does not run yet.
 pub fn is_reserved(container: &Container) -> bool
@@ -36,20 +22,58 @@ pub fn is_reserved(container: &Container) -> bool
     container.state == ContainerState::Reserved
 }
 
-/// A RESERVED container of the job that is named, or of any, runs.
-fn run_if_named(container: &mut Container, job: &Option<JobName>)
-    ensures { container.new ≡ run_if_named job.now container.old }
+/// Whether a container has not ended.
+pub(crate) fn is_uncompleted(container: &Container) -> bool
+    ensures { result ≡ is_uncompleted container.now.state }
 {
-    if is_reserved(container) && is_job_in(job, &container.job) {
-        container.state = ContainerState::Running;
+    match container.state {
+        ContainerState::Reserved | ContainerState::Running => true,
+        ContainerState::Completed { .. } => false,
     }
 }
 
-/// Each such container runs.
-pub fn run_named(containers: &mut [Container], job: &Option<JobName>)
-    ensures { containers.new ≡ map (run_if_named job.now) containers.old }
+/// Adds a container, whose number is new, and its entry: both, or none for want of memory.
+pub(crate) fn put_container(
+    containers: &mut BTreeMap<u32, Container>,
+    jobs: &mut BTreeSet<JobEntry>,
+    container: Container,
+) -> Result<(), OutOfMemory>
+    requires { contains entry_order jobs.old (entry_of container) ≡ false }
+    ensures containers { OnOk result (containers.new.entries
+        ≡ insert_entry nat_cmp containers.old.entries (number_of container) container) }
+    ensures found { OnOk result ((n : ℕ) → get nat_cmp containers.new n
+        ≡ cond (is_at (nat_cmp (number_of container)) n) (Some container) (get nat_cmp containers.old n)) }
+    ensures jobs { OnOk result ((q : AnEntry) → contains entry_order jobs.new q
+        ≡ cond (is_at (entry_order (entry_of container)) q) true (contains entry_order jobs.old q)) }
+    ensures err { OnErr result ((containers.new.entries ≡ containers.old.entries)
+        × ((q : AnEntry) → contains entry_order jobs.new q ≡ contains entry_order jobs.old q)) }
 {
-    for container in containers.iter_mut() {
-        run_if_named(container, job);
+    let number = container.instance.number;
+    let entry = job_entry(&container.job, number);
+    jobs.insert(entry)?;
+    match containers.insert(number, container) {
+        Ok(_) => Ok(()),
+        Err(_) => {
+            jobs.remove(&entry);
+            Err(OutOfMemory)
+        }
+    }
+}
+
+/// The container of that number comes to that state.
+pub(crate) fn set_state(
+    containers: &mut BTreeMap<u32, Container>,
+    number: u32,
+    state: ContainerState,
+)
+    ensures entries { (c : AContainer) → get nat_cmp containers.old number ≡ Some c
+        → containers.new.entries
+        ≡ set_value (is_at (nat_cmp number)) containers.old.entries (in_state c state) }
+    ensures found { (c : AContainer) → get nat_cmp containers.old number ≡ Some c
+        → (n : ℕ) → get nat_cmp containers.new n
+        ≡ cond (is_at (nat_cmp number) n) (Some (in_state c state)) (get nat_cmp containers.old n) }
+{
+    if let Some(container) = containers.get_mut(&number) {
+        container.state = state;
     }
 }

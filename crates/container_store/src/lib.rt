@@ -1,10 +1,13 @@
-//! What a cell keeps of its containers: a list in order of number, and what it leaves of the cell.
+//! What a cell keeps of its containers, by number and by job, and what they leave of the cell.
 #![tactic(auto)]
 
 mod containers;
+mod entries;
 mod jobs;
 mod laws;
+mod lookups;
 mod refusal;
+mod running;
 mod store;
 
 pub use containers::is_reserved;

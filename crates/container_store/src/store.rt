@@ -1,22 +1,27 @@
-//! The containers of a cell. Numbers are given in turn and never again, so the list is in order of
-//! number, and an instance names one container.
-ghost use Rattle.std.specs.Prelude.{◌≡◌, MatchResult};
+//! The containers of a cell. Numbers are given in turn and never again, so an instance names one
+//! container. They are kept by number; beside them stands the number of each by its job.
+ghost use Rattle.std.specs.Prelude.{◌≡◌, ◌==◌, length, MatchResult};
 ghost use Rattle.container_store.specs.Store.{IsStore, new_store, free_of};
 ghost use Rattle.container_store.specs.Changes.{next_of, reserving, IsReserveFault, running, running_each, completing, removing};
 
-use crate::containers::{place_of, run_named};
+use crate::containers::{put_container, set_state};
+use crate::entries::{JobEntry, job_entry};
 use crate::refusal::{ReserveFault, StoreRefusal};
 use cell_records::{Amounts, Container, ContainerState, JobName};
 use diego_names::Instance;
 use std::alloc::Global;
+use std::collections::{BTreeMap, BTreeSet};
 use std::marker::Model;
 
 /// What a cell keeps of its containers.
 #[derive(Debug, Drop)]
 pub struct Store {
     totals: Amounts,
-    epoch: u64,
-    containers: Vec<Container>,
+    pub(crate) epoch: u64,
+    // By number.
+    pub(crate) containers: BTreeMap<u32, Container>,
+    // The entry of each of them.
+    pub(crate) jobs: BTreeSet<JobEntry>,
     last: u32,
     used_memory: u32,
     used_disk: u32,
@@ -42,7 +47,8 @@ impl Store {
         Store {
             totals,
             epoch,
-            containers: Vec::new(alloc),
+            containers: BTreeMap::new(alloc),
+            jobs: BTreeSet::new(alloc),
             last: 0,
             used_memory: 0,
             used_disk: 0,
@@ -68,11 +74,11 @@ impl Store {
         }
     }
 
-    /// The containers, in order of number.
-    pub fn containers(&self) -> &[Container]
-        ensures { result.now ≡ self.now.containers }
+    /// Whether there is no container.
+    pub fn is_empty(&self) -> bool
+        ensures { result ≡ (length self.now.containers == 0) }
     {
-        self.containers.as_slice()
+        self.containers.is_empty()
     }
 
     pub fn totals(&self) -> Amounts
@@ -128,13 +134,15 @@ impl Store {
             disk,
             state: ContainerState::Reserved,
         };
-        if self.containers.push(container).is_err() {
-            return Err(ReserveFault::OutOfMemory);
+        match put_container(&mut self.containers, &mut self.jobs, container) {
+            Err(_) => Err(ReserveFault::OutOfMemory),
+            Ok(()) => {
+                self.last += 1;
+                self.used_memory += memory;
+                self.used_disk += disk;
+                Ok(instance)
+            }
         }
-        self.last += 1;
-        self.used_memory += memory;
-        self.used_disk += disk;
-        Ok(instance)
     }
 
     /// A RESERVED container runs.
@@ -143,21 +151,18 @@ impl Store {
             (λ _. running self.old instance.now ≡ Ok self.new)
             (λ why. (running self.old instance.now ≡ Err why) × (self.new ≡ self.old)) }
     {
-        let at = place_of(&self.containers, instance).ok_or(StoreRefusal::Unknown)?;
-        match self.containers[at].state {
-            ContainerState::Reserved => {
-                self.containers[at].state = ContainerState::Running;
+        match self.state_of(instance) {
+            None => Err(StoreRefusal::Unknown),
+            Some(ContainerState::Reserved) => {
+                set_state(
+                    &mut self.containers,
+                    instance.number,
+                    ContainerState::Running,
+                );
                 Ok(())
             }
-            _ => Err(StoreRefusal::WrongState),
+            Some(_) => Err(StoreRefusal::WrongState),
         }
-    }
-
-    /// Each RESERVED container of the job that is named runs, or each where none is named.
-    pub fn run_each(&mut self, job: &Option<JobName>)
-        ensures { self.new ≡ running_each self.old job.now }
-    {
-        run_named(&mut self.containers, job);
     }
 
     /// A container that has not ended ends.
@@ -167,13 +172,19 @@ impl Store {
             (λ why. (completing self.old instance.now failed ≡ Err why)
             × (self.new ≡ self.old)) }
     {
-        let at = place_of(&self.containers, instance).ok_or(StoreRefusal::Unknown)?;
-        match self.containers[at].state {
-            ContainerState::Completed { .. } => Err(StoreRefusal::WrongState),
-            _ => {
-                self.containers[at].state = ContainerState::Completed { failed };
-                Ok(())
-            }
+        match self.state_of(instance) {
+            None => Err(StoreRefusal::Unknown),
+            Some(state) => match state {
+                ContainerState::Completed { .. } => Err(StoreRefusal::WrongState),
+                _ => {
+                    set_state(
+                        &mut self.containers,
+                        instance.number,
+                        ContainerState::Completed { failed },
+                    );
+                    Ok(())
+                }
+            },
         }
     }
 
@@ -183,8 +194,10 @@ impl Store {
             (λ _. removing self.old instance.now ≡ Ok self.new)
             (λ why. (removing self.old instance.now ≡ Err why) × (self.new ≡ self.old)) }
     {
-        let at = place_of(&self.containers, instance).ok_or(StoreRefusal::Unknown)?;
-        let container = self.containers.remove(at);
+        let container = *self.find(instance).ok_or(StoreRefusal::Unknown)?;
+        self.containers.remove(&instance.number);
+        self.jobs
+            .remove(&job_entry(&container.job, instance.number));
         self.used_memory -= container.memory;
         self.used_disk -= container.disk;
         Ok(())

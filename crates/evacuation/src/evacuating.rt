@@ -1,9 +1,8 @@
 ghost use Rattle.std.specs.Prelude.{◌≡◌, ◌⊎◌, OnOk, OnErr};
 ghost use Rattle.cell_rep.specs.Follows.{stage};
-ghost use Rattle.evacuation.specs.Evacuation.{is_agreed, is_drained, is_nothing, Evacuates, StopsBetween};
+ghost use Rattle.evacuation.specs.Evacuation.{is_agreed, is_drained, Evacuates, StopsBetween};
 
 use bbs_model::{Port, Reply};
-use cell_records::Container;
 use cell_rep::{CallEnd, Called, CellAct, CellRep, Wire, add_answer};
 use crash_backoff::Moment;
 use diego_names::OutOfMemory;
@@ -16,15 +15,6 @@ fn is_agreed(end: &CallEnd) -> bool
         end,
         CallEnd::Got(Reply::Ok { .. }) | CallEnd::Got(Reply::Same { .. })
     )
-}
-
-fn is_nothing(containers: &[Container]) -> bool
-    ensures { result ≡ is_nothing containers.now }
-{
-    match containers {
-        [] => true,
-        _ => false,
-    }
 }
 
 /// Empties a cell: it tells the board so, and, where the board agrees, gives each of its containers
@@ -66,5 +56,5 @@ pub fn evacuate<P: Port, W: Wire>(
 pub fn drained(rep: &CellRep) -> bool
     ensures { result ≡ is_drained rep.now }
 {
-    is_nothing(rep.containers())
+    rep.is_empty()
 }

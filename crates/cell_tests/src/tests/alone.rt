@@ -23,7 +23,7 @@ const UNKNOWN: CallEnd = CallEnd::Local(RepRefusal::Store(StoreRefusal::Unknown)
 fn a_cell_that_never_joined_has_no_answer(rt: HostRuntime) -> Result<(), Fail> {
     let rep = CellRep::new(Names::read()?.cell);
     assert!(rt; rep.answer(rt.alloc())?.is_none());
-    assert!(rt; rep.containers().is_empty());
+    assert!(rt; rep.is_empty());
     assert!(rt; drained(&rep));
     Ok(())
 }

@@ -4,7 +4,7 @@ use super::names::TTL;
 use super::{Site, done, site_of, take, take_done};
 use crate::Turn;
 use bbs_model::{Op, Port};
-use cell_records::{Amounts, Job, JobName};
+use cell_records::{Amounts, Container, Job, JobName};
 use cell_rep::{CallEnd, CellAct, CellRep, RepRefusal, Wire};
 use container_store::StoreRefusal;
 use diego_names::{Instance, Key, Name, OutOfMemory};
@@ -125,13 +125,16 @@ fn fill<P: Port + Drop, W: Wire + Drop>(
     ];
     take(rt, alloc, &mut site, &turns, &ends)?;
     assert_eq!(rt; room_of(alloc, &site.rep)?, leaves(0, 0, 0, 2));
-    assert_eq!(rt; instances(&site.rep), Some((numbered(1), numbered(2))));
+    assert_eq!(rt;
+        instances(site.rep.containers(alloc)?.items()),
+        Some((numbered(1), numbered(2)))
+    );
     Ok(())
 }
 
 // The epochs and numbers of two containers.
-fn instances(rep: &CellRep) -> Option<(Instance, Instance)> {
-    match rep.containers() {
+fn instances(containers: &[Container]) -> Option<(Instance, Instance)> {
+    match containers {
         [one, two] => Some((one.instance, two.instance)),
         _ => None,
     }

@@ -56,7 +56,10 @@ fn both_claim<P: Port + Drop, W: Wire + Drop>(
     swap(&mut site.rep, &mut other);
     take(rt, alloc, &mut site, &turns, &[refused(held_by(epoch), 5)])?;
     assert_eq!(rt;
-        (site.rep.containers().len(), other.containers().len()),
+        (
+            site.rep.containers(alloc)?.len(),
+            other.containers(alloc)?.len()
+        ),
         (0, 1)
     );
     Ok(())
@@ -100,7 +103,10 @@ fn claim_unheard<P: Port + Drop, W: Wire + Drop>(
     let turns = [claim(names.lrp())];
     take(rt, alloc, &mut site, &turns, &[refused(held_by(1), 6)])?;
     assert_eq!(rt;
-        (site.rep.containers().len(), other.containers().len()),
+        (
+            site.rep.containers(alloc)?.len(),
+            other.containers(alloc)?.len()
+        ),
         (0, 1)
     );
     Ok(())
@@ -132,7 +138,10 @@ fn run_over<P: Port + Drop, W: Wire + Drop>(
     swap(&mut site.rep, &mut other);
     take(rt, alloc, &mut site, &[settle()], &[refused(held_by(0), 6)])?;
     assert_eq!(rt;
-        (site.rep.containers().len(), other.containers().len()),
+        (
+            site.rep.containers(alloc)?.len(),
+            other.containers(alloc)?.len()
+        ),
         (0, 1)
     );
     Ok(())

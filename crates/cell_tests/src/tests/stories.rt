@@ -149,7 +149,7 @@ pub fn is_left(
     assert_eq!(rt; epoch_of(alloc, rep)?, left.epoch);
     assert_eq!(rt; rep.is_draining(), left.draining);
     assert_eq!(rt;
-        states_of(rep.containers()),
+        states_of(rep.containers(alloc)?.items()),
         (count(&left.states), left.states)
     );
     Ok(())

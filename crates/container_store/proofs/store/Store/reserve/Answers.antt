@@ -1,24 +1,30 @@
-use Rattle.std.proofs.Common.{◌≡◌, ◌+◌, ◌∙◌, ap, sym, refl, cond}
-use Rattle.container_store.specs.Changes.{reserved}
+use Rattle.std.proofs.Common.{◌∙◌, refl, sym, ap, Ok}
+use Rattle.container_store.specs.Changes.{next_of, next_container, reserved}
 use Rattle.container_store.specs.Inside.{store_view_of}
 use Rattle.container_store.specs.Store.{free_of}
-use Rattle.container_store.specs.declared.store.Store.TheInside.{Inside}
-use Rattle.container_store.proofs.Turns.{IsInside-reserved}
+use Rattle.container_store.proofs.Turns.{unlisted, reserving-ok, IsInside-same, IsInside-pushed, view-pushed}
 use Rattle.container_store.proofs.store.Store.reserve.Goals as goal
 
-abbrev left : goal.After-self-3-1 → Inside
-left c = record c.self.inside {
-  containers = c.push.new.self;
-  last = c.self.inside.last + 1;
-  used_memory = c.self.inside.used_memory + c.args.memory;
-  used_disk = c.self.inside.used_disk + c.args.disk;
-}
+pub put_container-requires : goal.put_container-requires
+put_container-requires c =
+    unlisted c.self.inside c.self.invariant (next_container (store_view_of c.self.inside) c.args.job c.args.memory c.args.disk) refl
 
-pub invariant_of-self-2 : goal.invariant_of-self-2
-invariant_of-self-2 c =
-    let s = c.self.inside in
-    let pushed : c.push.new.self.items ≡ (reserved (store_view_of s) c.args.job c.args.memory c.args.disk).containers =
-    c.push.ensures.items ∙ ap (λ b. cond b (reserved (store_view_of s) c.args.job c.args.memory c.args.disk).containers s.containers.items) c.if-is_err.ensures.negation in
-    IsInside-reserved s (left c) c.free-free.result c.args.job c.args.memory c.args.disk c.self.invariant
+pub invariant_of-self : goal.invariant_of-self
+invariant_of-self c =
+    let kept = c.in-Err.ensures.err in
+    IsInside-same c.self.inside c.self.invariant c.put_container.new.containers c.put_container.new.jobs kept.0 kept.1
+
+pub invariant_of-self-in-Ok : goal.invariant_of-self-in-Ok
+invariant_of-self-in-Ok c =
+    IsInside-pushed c.self.inside c.self.invariant c.free-free.result c.args.job c.args.memory c.args.disk c.put_container.new.containers c.put_container.new.jobs
+    c.in-Ok.ensures.containers c.in-Ok.ensures.found c.in-Ok.ensures.jobs
     (c.free-free.ensures ∙ ap free_of (sym c.self.view_is)) c.if-memory-free.false c.if-disk-free.false c.if-free-eq0.false
-    (ap (λ cs. record (reserved (store_view_of s) c.args.job c.args.memory c.args.disk) { containers = cs }) pushed) refl refl
+
+pub returns-in-Ok : goal.returns-in-Ok
+returns-in-Ok c = (
+  ap next_of c.self.view_is,
+  reserving-ok c.args.self.now c.free-free.result c.args.job c.args.memory c.args.disk c.free-free.ensures c.if-memory-free.false c.if-disk-free.false c.if-free-eq0.false
+      ∙ ap (λ w. Ok (reserved w c.args.job c.args.memory c.args.disk)) (sym c.self.view_is)
+      ∙ ap (λ w. Ok w) (sym (view-pushed c.self.inside c.self.invariant c.free-free.result c.args.job c.args.memory c.args.disk c.put_container.new.containers c.put_container.new.jobs
+      c.in-Ok.ensures.containers c.in-Ok.ensures.found c.in-Ok.ensures.jobs)),
+)

@@ -1,17 +1,29 @@
-use Rattle.std.proofs.Common.{◌≡◌, ◌∙◌, ap}
+use Rattle.std.proofs.Common.{◌≡◌, ◌∙◌, cond, sym, ap, Some, Ok, Err}
+use Rattle.std.specs.Option.{option_map}
+use Rattle.cell_records.specs.declared.container.Container.{Container}
 use Rattle.cell_records.specs.declared.container_state.ContainerState.TheVariants.{Reserved, Running}
-use Rattle.container_store.specs.Places.{StandsAt}
-use Rattle.container_store.proofs.Turns.{IsInside-turned, running-is, stands_in, same_reads}
+use Rattle.container_store.specs.Changes.{is_reserved, with_state}
+use Rattle.container_store.specs.Store.{find_container}
+use Rattle.container_store.specs.declared.refusal.StoreRefusal.TheVariants.{WrongState}
+use Rattle.container_store.proofs.Turns.{HeldAs, held_in, IsInside-turned, view-turned, ask-some}
 use Rattle.container_store.proofs.store.Store.run.Goals as goal
 
-stands : (c : goal.After-self-1) → StandsAt c.args.instance.now c.self.inside.containers.items c.in_ok-at.at
-stands c = stands_in c.args.instance.now c.self.inside.containers.items c.deref.result.now c.place_of.result c.in_ok-at.at c.place_of.ensures c.in_ok-at.ensures.ok_part c.deref.ensures.value
+state : (c : goal.After-set_state) → Some Reserved ≡ option_map (λ (x : Container). x.state) (find_container c.args.instance.now c.args.self.now.containers)
+state c = ap (λ s. Some s) (sym c.in-Some-Reserved.field-0-is) ∙ sym c.in-Some-Reserved.is ∙ c.state_of.ensures
+
+here : (c : goal.After-set_state) → HeldAs c.self.inside c.args.instance.now
+here c = held_in c.self.inside c.self.invariant c.args.self.now c.self.view_is c.args.instance.now Reserved (state c)
 
 pub invariant_of-self : goal.invariant_of-self
 invariant_of-self c =
-    IsInside-turned c.self.inside c.args.instance.now c.in_ok-at.at Running c.index_mut.result.now (stands c) c.index_mut.ensures.value c.self.invariant
+    let h = here c in
+    IsInside-turned c.self.inside c.self.invariant c.args.instance.now h Running c.set_state.new.containers (c.set_state.ensures.entries h.one h.held) (c.set_state.ensures.found h.one h.held)
 
-pub returns-in-Reserved : goal.returns-in-Reserved
-returns-in-Reserved c =
-    let is : c.index_mut.result.now.state ≡ Reserved = ap (λ x. x.state) (same_reads c.args.instance.now c.self.inside.containers.items c.in_ok-at.at c.index_mut.result.now c.index.result.now (stands c) c.index_mut.ensures.value c.index.ensures) ∙ c.in-Reserved.is in
-    running-is c.self.inside c.args.self.now c.self.view_is c.args.instance.now c.in_ok-at.at c.index_mut.result.now (stands c) c.index_mut.ensures.value is
+pub returns-in-Some-Reserved : goal.returns-in-Some-Reserved
+returns-in-Some-Reserved c =
+    let v = c.args.self.now in
+    let i = c.args.instance.now in
+    let h = here c in
+    ask-some (find_container i v.containers) Reserved (λ s. cond (is_reserved s) (Ok (with_state v i Running)) (Err WrongState)) (state c)
+    ∙ ap (λ w. Ok (with_state w i Running)) (sym c.self.view_is)
+    ∙ ap (λ w. Ok w) (sym (view-turned c.self.inside c.self.invariant i h Running c.set_state.new.containers (c.set_state.ensures.entries h.one h.held) (c.set_state.ensures.found h.one h.held)))
