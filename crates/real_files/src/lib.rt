@@ -2,6 +2,8 @@
 //! and that each line here makes the call that it notes is read.
 #![tactic(auto)]
 
+mod folders;
+mod identity;
 mod locked;
 mod real_calls;
 mod two_files;
@@ -9,5 +11,7 @@ mod two_files;
 pub use file_calls::FileDisk;
 pub use real_calls::RealCalls;
 
+#[cfg(test)]
+mod move_tests;
 #[cfg(test)]
 mod tests;
