@@ -12,6 +12,4 @@ pub use file_calls::FileDisk;
 pub use real_calls::RealCalls;
 
 #[cfg(test)]
-mod move_tests;
-#[cfg(test)]
 mod tests;

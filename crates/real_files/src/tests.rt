@@ -6,16 +6,16 @@ use std::fs::OpenOptions;
 use std::marker::Brand;
 use std::test::Fail;
 
-pub(crate) type Tried = FileDisk<RealCalls<HostRuntime, Brand>>;
+type Tried = FileDisk<RealCalls<HostRuntime, Brand>>;
 
-pub(crate) fn disk(rt: &HostRuntime, a: &str, b: &str) -> Result<Tried, Fail> {
+fn disk(rt: &HostRuntime, a: &str, b: &str) -> Result<Tried, Fail> {
     let a = String::from_str(rt.alloc(), a)?;
     let b = String::from_str(rt.alloc(), b)?;
     Ok(FileDisk::new(RealCalls::new(rt.clone()?, a, b)))
 }
 
 // A folder of the test's own, which isn't there yet.
-pub(crate) fn folder(rt: &HostRuntime, test: &str) -> Result<String, Fail> {
+fn folder(rt: &HostRuntime, test: &str) -> Result<String, Fail> {
     let all = std::env::temp_dir(rt)?;
     let id = std::process::id(rt.process());
     Ok(format!(in rt.alloc(); "{}/real_files_{id}_{test}", all.as_str())?)
