@@ -2,6 +2,8 @@
 //! and that each line here makes the call that it notes is read.
 #![tactic(auto)]
 
+mod folders;
+mod identity;
 mod locked;
 mod real_calls;
 mod two_files;

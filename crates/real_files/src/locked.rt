@@ -1,7 +1,8 @@
 // A file of which nothing is read or written before its lock was had.
-ghost use Rattle.std.specs.Prelude.{◌≡◌, true};
+ghost use Rattle.std.specs.Prelude.{◌≡◌, true, is_ok};
 
-use std::fs::File;
+use crate::identity::Identity;
+use std::fs::{File, TryLockError};
 use std::io;
 use std::marker::Model;
 
@@ -9,6 +10,7 @@ use std::marker::Model;
 #[derive(Drop)]
 pub(crate) struct LockedFile {
     file: File,
+    identity: Identity,
     // what the system answered, kept so that no other value can be made
     had: bool,
 }
@@ -29,11 +31,26 @@ impl LockedFile {
     /// # Errors
     ///
     /// The system's, where another opening has the lock or there are no locks. The file is closed.
-    pub(crate) fn lock(file: File) -> io::Result<LockedFile> {
+    pub(crate) fn lock(file: File, identity: Identity) -> io::Result<LockedFile> {
         let answer = file.try_lock();
+        LockedFile::given(file, identity, answer)
+    }
+
+    // The file, if the system gave its lock.
+    fn given(
+        file: File,
+        identity: Identity,
+        answer: Result<(), TryLockError>,
+    ) -> io::Result<LockedFile>
+        ensures { is_ok result ≡ is_ok answer }
+    {
         let had = answer.is_ok();
         match answer {
-            Ok(()) => Ok(LockedFile { file, had }),
+            Ok(()) => Ok(LockedFile {
+                file,
+                identity,
+                had,
+            }),
             Err(error) => Err(error.into()),
         }
     }
@@ -43,5 +60,10 @@ impl LockedFile {
         ensures { self.now ≡ true }
     {
         &self.file
+    }
+
+    /// Which file it is.
+    pub(crate) fn identity(&self) -> Identity {
+        self.identity
     }
 }

@@ -1,6 +1,8 @@
 // Two files of the system, opened at their first use, one line for a call of the system.
-ghost use Rattle.std.specs.Prelude.{◌≡◌, ◌<◌, ◌≤◌, ◌^◌, true, length, is_some, IfOk, OnOk};
+ghost use Rattle.std.specs.Prelude.{◌≡◌, ◌<◌, ◌≤◌, ◌^◌, true, false, not, length, is_ok, is_some, IfOk, OnOk};
 
+use crate::folders::{leads_to, sync_folders};
+use crate::identity::Identity;
 use crate::locked::LockedFile;
 use disk_trait::Area;
 use std::fs::{File, OpenOptions};
@@ -28,6 +30,8 @@ pub(crate) struct TwoFiles<R: Files<File = File> + AllocGlobal + Drop> {
     a: String,
     b: String,
     opened: Option<Opened>,
+    /// A name was found that doesn't lead to its open file any more. Then no call is made again.
+    moved: bool,
 }
 
 impl<R: Files<File = File> + AllocGlobal + Drop> TwoFiles<R> {
@@ -37,11 +41,14 @@ impl<R: Files<File = File> + AllocGlobal + Drop> TwoFiles<R> {
             a,
             b,
             opened: None,
+            moved: false,
         }
     }
 
     pub(crate) fn len(&mut self, area: Area) -> io::Result<u64>
         ensures kept { is_some self.old.opened ≡ true → is_some self.new.opened ≡ true }
+        ensures moved { self.old.moved ≡ true
+            → (is_ok result ≡ false) × (self.new.moved ≡ true) }
     {
         self.open()?;
         Ok(self.file(area)?.metadata()?.len())
@@ -49,6 +56,8 @@ impl<R: Files<File = File> + AllocGlobal + Drop> TwoFiles<R> {
 
     pub(crate) fn read_some(&mut self, area: Area, at: u64, room: &mut [u8]) -> io::Result<usize>
         ensures kept { is_some self.old.opened ≡ true → is_some self.new.opened ≡ true }
+        ensures moved { self.old.moved ≡ true
+            → (is_ok result ≡ false) × (self.new.moved ≡ true) }
         ensures count { IfOk result (λ n. (n ≤ length room.old) × (at < 2 ^ 63)) }
     {
         self.open()?;
@@ -57,29 +66,56 @@ impl<R: Files<File = File> + AllocGlobal + Drop> TwoFiles<R> {
 
     pub(crate) fn write_some(&mut self, area: Area, at: u64, bytes: &[u8]) -> io::Result<usize>
         ensures kept { is_some self.old.opened ≡ true → is_some self.new.opened ≡ true }
+        ensures moved { self.old.moved ≡ true
+            → (is_ok result ≡ false) × (self.new.moved ≡ true) }
         ensures count { IfOk result (λ n. (0 < n) × (n ≤ length bytes.now) × (at < 2 ^ 63)) }
     {
         self.open()?;
         write_to(self.file(area)?, at, bytes)
     }
 
-    /// The folder is that of the file itself where the name is a link.
+    /// The folder is that of the file itself where the name is a link, and the one above it is synced
+    /// as well.
     pub(crate) fn sync_name(&mut self, area: Area) -> io::Result<()>
         ensures kept { is_some self.old.opened ≡ true → is_some self.new.opened ≡ true }
+        ensures moved { self.old.moved ≡ true
+            → (is_ok result ≡ false) × (self.new.moved ≡ true) }
     {
         self.open()?;
-        let path = self.rt.canonicalize(self.rt.alloc(), self.name(area))?;
-        match path.parent() {
-            Some(folder) => File::open(&self.rt, folder)?.sync_all(),
-            None => Err(ErrorKind::NotFound.into()),
-        }
+        sync_folders(&self.rt, self.name(area))
     }
 
+    /// It is done only if both names then still lead to the open files.
     pub(crate) fn sync_data(&mut self, area: Area) -> io::Result<()>
         ensures kept { is_some self.old.opened ≡ true → is_some self.new.opened ≡ true }
+        ensures moved { self.old.moved ≡ true
+            → (is_ok result ≡ false) × (self.new.moved ≡ true) }
     {
         self.open()?;
-        self.file(area)?.sync_data()
+        self.file(area)?.sync_data()?;
+        self.find_again()
+    }
+
+    // What is written to a file that was moved away or replaced is not on the board. So the sync that
+    // was just made doesn't count, and no call is made behind it.
+    fn find_again(&mut self) -> io::Result<()>
+        ensures kept { is_some self.old.opened ≡ true → is_some self.new.opened ≡ true }
+        ensures moved { self.new.moved ≡ not (is_ok result) }
+    {
+        let found = self.leads(Area::A) && self.leads(Area::B);
+        self.moved = !found;
+        if !found {
+            return Err(ErrorKind::NotFound.into());
+        }
+        Ok(())
+    }
+
+    fn leads(&self, area: Area) -> bool {
+        match (&self.opened, area) {
+            (Some(opened), Area::A) => leads_to(&self.rt, self.a.as_str(), opened.a.identity()),
+            (Some(opened), Area::B) => leads_to(&self.rt, self.b.as_str(), opened.b.identity()),
+            (None, _) => false,
+        }
     }
 
     fn name(&self, area: Area) -> &str {
@@ -93,8 +129,13 @@ impl<R: Files<File = File> + AllocGlobal + Drop> TwoFiles<R> {
     // locks had.
     fn open(&mut self) -> io::Result<()>
         ensures kept { is_some self.old.opened ≡ true → is_some self.new.opened ≡ true }
+        ensures moved { self.old.moved ≡ true
+            → (is_ok result ≡ false) × (self.new.moved ≡ true) }
         ensures opened { OnOk result (is_some self.new.opened ≡ true) }
     {
+        if self.moved {
+            return Err(ErrorKind::NotFound.into());
+        }
         if self.opened.is_none() {
             let a = open_locked(&self.rt, self.a.as_str())?;
             let b = open_locked(&self.rt, self.b.as_str())?;
@@ -146,8 +187,9 @@ fn open_locked<R: Files<File = File>>(rt: &R, name: &str) -> io::Result<LockedFi
     let mut how = OpenOptions::new();
     how.read(true).write(true).create(true);
     let file = how.open(rt, name)?;
-    if !file.metadata()?.is_file() || file.as_raw_fd() <= LAST_STREAM {
+    let found = file.metadata()?;
+    if !found.is_file() || file.as_raw_fd() <= LAST_STREAM {
         return Err(ErrorKind::Unsupported.into());
     }
-    LockedFile::lock(file)
+    LockedFile::lock(file, Identity::of(&found))
 }
