@@ -34,4 +34,4 @@ both_can lines n m clients (suc (suc k)) a is l inside = cc (is)
 
 pub run_phase-board-requires-clause-can : goal.run_phase-board-requires-clause-can
 run_phase-board-requires-clause-can g c κs within =
-    both_can c.args.phase.now.lines c.in_ok-name.name c.in_ok-name.name (sym c.are_of_clients.ensures ∙ c.if-not-are_of_clients.false)
+    both_can c.args.phase.now.lines c.args.name c.args.name c.requires
