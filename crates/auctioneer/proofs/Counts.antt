@@ -1,7 +1,12 @@
 -- What one container more does to the counts of a zone or a cell.
-use Rattle.std.proofs.Common.{◌≡◌, ℕ, zero, suc, ◌+◌, ◌*◌, ◌<◌, ◌≤◌, ◌^◌, Bool, true, false, ◌&&◌, cond, List, [], ◌∷◌, ◌++◌, length, take, set, get_or, Option, Some, unwrap_or, refl, sym, ap, subst, ◌∙◌, arith}
+use Rattle.std.proofs.Common.{◌≡◌, ℕ, zero, suc, ◌+◌, ◌*◌, ◌<◌, ◌≤◌, ◌^◌, Bool, true, false, ◌&&◌, cond, List, [], ◌∷◌, ◌++◌, length, take, set, get_or, Option, Some, None, unwrap_or, refl, sym, ap, subst, ◌∙◌, arith}
 use Rattle.std.specs.HashMap.{get}
+use Rattle.std.specs.Option.{is_some}
+use Rattle.std.specs.Result.{OnOk, OnErr}
+use Rattle.std.specs.declared.result.Result.{Result}
+use Rattle.std.specs.declared.result.Result.TheVariants.{Ok, Err}
 use Rattle.std.specs.List.{All, count_by}
+use Rattle.std.proofs.lemmas.Bool.{and_parts}
 use Rattle.std.proofs.lemmas.Cmp.{nat_list_eq_equiv}
 use Rattle.std.proofs.lemmas.List.{length-take, take_all}
 use Rattle.std.specs.declared.cmp.Ordering.TheVariants.{Less}
@@ -16,7 +21,7 @@ use Rattle.cell_records.specs.declared.job_name.JobName.{JobName}
 use Rattle.cell_records.specs.declared.job_name.JobName.TheVariants.{Lrp, Task}
 use Rattle.auctioneer.specs.Asked.{AreStands}
 use Rattle.auctioneer.specs.Stands.{same_name, is_of, held_of, with_job}
-use Rattle.auctioneer.specs.Tallies.{place_of, held_at, count_at, same_share, tallied, counts_for, Gains, CountsAt}
+use Rattle.auctioneer.specs.Tallies.{place_of, held_at, count_at, same_share, tallied, counts_for, Gains, SaysTheSame, CountsAt}
 use Rattle.auctioneer.specs.declared.stand.Stand.{Stand}
 use Rattle.auctioneer.specs.declared.tally.Place.{Place}
 use Rattle.auctioneer.specs.declared.tally.Place.TheVariants.{Zone, Cell}
@@ -45,6 +50,36 @@ gains old new key zone count is put (Lrp o) place =
     ∙ ap (λ t. unwrap_or (get same_share old.counts q) 0 + cond (same_name zone place) (cond t 1 0) 0) (nat_list_eq_equiv.symm key.process o.process)
 gains old new key zone count is put (Task t) place =
     elim (same_name zone place) as (λ b. 0 ≡ 0 + cond b 0 0) [ true ↦ refl | false ↦ refl ]
+
+-- what fails only where nothing is there doesn't fail where something is
+pub there_then_ok : {T E : Type 0} (r : Result T E) (had : Option ℕ) (P : Type 0) → is_some had ≡ true → OnErr r (had ≡ None) → OnOk r P → P
+there_then_ok (Ok x) had P some absent h = h
+there_then_ok (Err e) had P some absent h = absurd (none_is_not_some had some absent)
+  where
+    none_is_not_some : (o : Option ℕ) → is_some o ≡ true → o ≡ None → ⊥
+    none_is_not_some None there e = absurd cc
+    none_is_not_some (Some n) there e = absurd cc
+
+pub none_from_test : (o : Option ℕ) → is_some o ≡ false → o ≡ None
+none_from_test None e = refl
+none_from_test (Some n) e = absurd cc
+
+-- where nothing was counted, a count of none that is put there changes nothing
+pub kept_with_zero : (old new : Tally) (key : Key) (zone : List ℕ) → get same_share old.counts (record { process = key.process; place = zone }) ≡ None → ((q : Share) → get same_share new.counts q ≡ cond (same_share (record { process = key.process; place = zone }) q) (Some 0) (get same_share old.counts q)) → SaysTheSame old new
+kept_with_zero old new key zone none put (Lrp o) name =
+    let q : Share = record { process = o.process; place = name } in
+    let one : same_share (record { process = key.process; place = zone }) q ≡ true → 0 ≡ unwrap_or (get same_share old.counts q) 0 =
+    λ e.
+    let both = and_parts (same_name key.process o.process) (same_name zone name) e in
+    let process : key.process ≡ o.process = same_from_test key.process o.process both.0 in
+    let here : zone ≡ name = same_from_test zone name both.1 in
+    sym ((λ i. unwrap_or (get same_share old.counts (record { process = sym process i; place = sym here i })) 0) ∙ ap (λ (x : Option ℕ). unwrap_or x 0) none) in
+    ap (λ (x : Option ℕ). unwrap_or x 0) (put q)
+    ∙ elim (same_share (record { process = key.process; place = zone }) q) as (λ t. same_share (record { process = key.process; place = zone }) q ≡ t → unwrap_or (cond t (Some 0) (get same_share old.counts q)) 0 ≡ unwrap_or (get same_share old.counts q) 0) [
+      | true ↦ λ e. one e
+      | false ↦ λ e. refl
+    ] refl
+kept_with_zero old new key zone none put (Task t) name = refl
 
 at_most : (b : Bool) (n m : ℕ) → n ≤ m → cond b n 0 ≤ m
 at_most true n m h = h

@@ -24,7 +24,7 @@ use Rattle.cell_records.specs.declared.job.Job.{Job}
 use Rattle.auction_scoring.specs.Order.{is_better}
 use Rattle.auction_scoring.specs.declared.scores.Score.{Score}
 use Rattle.auctioneer.specs.Candidates.{better_candidate}
-use Rattle.auctioneer.specs.Fields.{IsFieldOf, IsFitting, IsNoWorse, IsBestOf}
+use Rattle.auctioneer.specs.Fields.{IsFieldOf, IsFitting, IsNoWorse, IsBestOf, IsAtBound}
 use Rattle.auctioneer.specs.Least.{best, IsBestAt}
 use Rattle.auctioneer.specs.Spots.{spot_order, load_in, group_in}
 use Rattle.auctioneer.specs.Stands.{can_take, score_in, in_zone}
@@ -62,15 +62,26 @@ less_then Less a b name e h = refl
 less_then Equal a b name e h = ap is_gt (h (ranked a b Less (sym e)))
 less_then Greater a b name e h = absurd cc
 
-first_less : (o p : Ordering) → ordering_then o p ≡ Less → (o ≡ Less) ⊎ ((o ≡ Equal) × (p ≡ Less))
-first_less Less p e = inl refl
-first_less Equal p e = inr (refl, e)
-first_less Greater p e = absurd cc
-
 first_not_above : (o p : Ordering) → is_gt (ordering_then o p) ≡ false → is_gt o ≡ false
 first_not_above Less p e = refl
 first_not_above Equal p e = refl
 first_not_above Greater p e = e
+
+-- the same where the second number is less than what it stands for
+less_then_up : (a b most : ℕ) (i j : ℕ) (name : Ordering) → b ≤ most → ordering_then (nat_cmp a b) (nat_cmp i j) ≡ Less → (i < j → name ≡ Less) → is_gt (ordering_then (nat_cmp a most) name) ≡ false
+less_then_up a b most i j name up e h =
+    elim (cases_lt a most) [
+      | (inl lt) ↦ ap (λ o. is_gt (ordering_then o name)) (cmp_below a most lt)
+      | (inr ge) ↦
+          let least : a ≤ b = le_from_not_gt a b (first_not_above (nat_cmp a b) (nat_cmp i j) (ap is_gt e)) in
+          let same : most ≡ b = omega arith in
+          ap (λ n. is_gt (ordering_then (nat_cmp a n) name)) same ∙ less_then (nat_cmp a b) i j name e h
+    ]
+
+first_less : (o p : Ordering) → ordering_then o p ≡ Less → (o ≡ Less) ⊎ ((o ≡ Equal) × (p ≡ Less))
+first_less Less p e = inl refl
+first_less Equal p e = inr (refl, e)
+first_less Greater p e = absurd cc
 
 -- where the spots of a group begin
 abbrev pub first_of : ℕ → Spot
@@ -252,8 +263,8 @@ module _ (f : Field) (field : IsFieldOf f) (job : Job) (number : ℕ) where
       each = All-tail (IsSpotIn f number) q rest h.each;
     }
 
-    -- without the process
-    module _ (none : c.score.on_cell ≡ 0) where
+    -- without the process, and as full as the spot says
+    module _ (bound : IsAtBound c.score q) where
       here_spot : IsSpotIn f number q
       here_spot = All-head (IsSpotIn f number) q rest h.each
 
@@ -270,15 +281,13 @@ module _ (f : Field) (field : IsFieldOf f) (job : Job) (number : ℕ) where
           let tie : nat_cmp q.group other.group ≡ Equal = ap (nat_cmp q.group) (group ∙ sym here_spot.group) ∙ tied_itself nat_cmp_total q.group in
           let rest_less : ordering_then (nat_cmp q.load other.load) (nat_cmp q.cell other.cell) ≡ Less =
           ap (λ o. ordering_then o (ordering_then (nat_cmp q.load other.load) (nat_cmp q.cell other.cell))) (sym tie) ∙ less in
-          let load_here : c.score.load ≡ q.load =
-          ap (λ (x : Score). x.load) (fits.score s) ∙ ap (λ n. load_in (get_or f.stands.items n s)) at ∙ sym (field.spots.load q.cell s q here_spot.inside) ∙ ap (λ (x : Spot). x.load) (here_spot.is q) in
-          let load_there : other.load ≡ load_in (get_or f.stands.items k s) = field.spots.load k s p below in
+          let load_there : other.load ≤ load_in (get_or f.stands.items k s) = field.spots.load k s p below in
           let cell_there : other.cell ≡ k = field.spots.cell k p (omega (arith, field.spots.all)) in
           let name_here : c.score.cell ≡ (get_or f.stands.items q.cell s).cell = ap (λ (x : Score). x.cell) (fits.score s) ∙ ap (λ n. (get_or f.stands.items n s).cell) at in
           let name : q.cell < other.cell → name_order c.score.cell (get_or f.stands.items k s).cell ≡ Less =
           λ lt. ap (λ x. name_order x (get_or f.stands.items k s).cell) name_here ∙ pairs-from_rising f.stands.items field.sound.rising q.cell k s (omega (arith, cell_there)) below in
-          ap (λ o. is_gt (ordering_then o (name_order c.score.cell (get_or f.stands.items k s).cell))) (λ i. nat_cmp (load_here i) (sym load_there i))
-          ∙ less_then (nat_cmp q.load other.load) q.cell other.cell (name_order c.score.cell (get_or f.stands.items k s).cell) rest_less name
+          ap (λ n. is_gt (ordering_then (nat_cmp n (load_in (get_or f.stands.items k s))) (name_order c.score.cell (get_or f.stands.items k s).cell))) bound.load
+          ∙ less_then_up q.load other.load (load_in (get_or f.stands.items k s)) q.cell other.cell (name_order c.score.cell (get_or f.stands.items k s).cell) load_there rest_less name
 
       later : (k : ℕ) (s : Stand) (p : Spot) → k < length f.stands.items → (get_or f.spots.items k p).group ≡ number → Contains rest (get_or f.spots.items k p) → is_better (score_in f.stands.items job.job (get_or f.stands.items k s)) c.score ≡ false
       later k s p below group there =
@@ -286,7 +295,7 @@ module _ (f : Field) (field : IsFieldOf f) (job : Job) (number : ℕ) where
           All-contains (λ y. spot_order q y ≡ Less) rest (get_or f.spots.items k p) (All-from_recursion (λ y. spot_order q y ≡ Less) rest (sorted_head spot_order q rest h.rising)) there in
           let zone : c.score.in_zone ≡ in_zone f.stands.items job.job (get_or f.stands.items k s).zone =
           ap (λ (x : Score). x.in_zone) (fits.score s) ∙ ap (λ n. in_zone f.stands.items job.job (get_or f.stands.items n s).zone) at ∙ ap (in_zone f.stands.items job.job) (same_zone k s p below group) in
-          later_is_no_better c.score (score_in f.stands.items job.job (get_or f.stands.items k s)) zone none (behind k s p below group less)
+          later_is_no_better c.score (score_in f.stands.items job.job (get_or f.stands.items k s)) zone bound.none (behind k s p below group less)
 
       pub best_at_first_free : IsBestOf f job (λ p. p.group < number + 1) (Some (better_candidate found c))
       best_at_first_free = record {

@@ -8,6 +8,7 @@ pub mod Apart
 pub mod Counts
 pub mod SpotOrders
 pub mod SpotLists
+pub mod Refusals
 pub mod Offers
 pub mod Groups
 pub mod Public

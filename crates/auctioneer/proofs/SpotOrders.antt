@@ -63,35 +63,39 @@ IsOrderOf-made order spots cells made =
           ap (λ n. get_or spots n q) cell ∙ at.2;
     }
 
--- a set in which one spot was put in place of another
-module _ (order mid new : BTreeSet Spot) (spots : List Spot) (at : ℕ) (before after : Spot) (inside : at < length spots) (cells : AreCellsOf spots) (was : before ≡ get_or spots at before) (cell : after.cell ≡ before.cell) (removed : (q : Spot) → contains spot_order mid q ≡ cond (is_at (spot_order before) q) false (contains spot_order order q)) (inserted : (q : Spot) → contains spot_order new q ≡ cond (is_at (spot_order after) q) true (contains spot_order mid q)) (h : IsOrderOf order spots) where
+-- a set into which one spot was put, and from which another of the same cell was then taken
+module _ (order mid new : BTreeSet Spot) (spots : List Spot) (at : ℕ) (before after : Spot) (inside : at < length spots) (cells : AreCellsOf spots) (was : before ≡ get_or spots at before) (cell : after.cell ≡ before.cell) (other : before ≢ after) (inserted : (q : Spot) → contains spot_order mid q ≡ cond (is_at (spot_order after) q) true (contains spot_order order q)) (removed : (q : Spot) → contains spot_order new q ≡ cond (is_at (spot_order before) q) false (contains spot_order mid q)) (h : IsOrderOf order spots) where
   there : after.cell ≡ at
   there = cell ∙ ap (λ (x : Spot). x.cell) was ∙ cells at before inside
 
-  -- another spot stays
-  stays : (q : Spot) → contains spot_order order q ≡ true → q.cell ≢ at → contains spot_order new q ≡ true
-  stays q e apart =
-      let kept : is_at (spot_order before) q ≡ false =
+  -- another spot than the old one is there if it was put in
+  kept : (q : Spot) → before ≢ q → contains spot_order new q ≡ cond (is_at (spot_order after) q) true (contains spot_order order q)
+  kept q apart =
+      let no : is_at (spot_order before) q ≡ false =
       elim (is_at (spot_order before) q) as (λ t. is_at (spot_order before) q ≡ t → t ≡ false) [
-        | true ↦ λ yes. absurd (apart (sym (ap (λ (x : Spot). x.cell) (spot_from_test before q yes)) ∙ sym cell ∙ there))
+        | true ↦ λ yes. absurd (apart (spot_from_test before q yes))
         | false ↦ λ no. refl
       ] refl in
-      inserted q
-      ∙ ap (cond (is_at (spot_order after) q) true) (removed q ∙ ap (λ t. cond t false (contains spot_order order q)) kept ∙ e)
+      removed q ∙ ap (λ t. cond t false (contains spot_order mid q)) no ∙ inserted q
+
+  -- the spot of another cell stays
+  stays : (q : Spot) → contains spot_order order q ≡ true → q.cell ≢ at → contains spot_order new q ≡ true
+  stays q e apart =
+      kept q (λ same. apart (sym (ap (λ (x : Spot). x.cell) same) ∙ sym cell ∙ there))
+      ∙ ap (cond (is_at (spot_order after) q) true) e
       ∙ elim (is_at (spot_order after) q) as (λ t. cond t true true ≡ true) [ true ↦ refl | false ↦ refl ]
 
   -- each spot is the new one, or one of before and not the old one
   came : (q : Spot) → contains spot_order new q ≡ true → (after ≡ q) ⊎ ((contains spot_order order q ≡ true) × (before ≢ q))
   came q e =
-      elim (is_at (spot_order after) q) as (λ t. is_at (spot_order after) q ≡ t → cond t true (contains spot_order mid q) ≡ true → (after ≡ q) ⊎ ((contains spot_order order q ≡ true) × (before ≢ q))) [
-        | true ↦ λ yes f. inl (spot_from_test after q yes)
-        | false ↦ λ no f. inr (
-            elim (is_at (spot_order before) q) as (λ t. is_at (spot_order before) q ≡ t → cond t false (contains spot_order order q) ≡ true → (contains spot_order order q ≡ true) × (before ≢ q)) [
-              | true ↦ λ yes g. cc
-              | false ↦ λ other g. (g, λ same. let yes : is_at (spot_order before) q ≡ true = test_from_spot before q same in cc)
-            ] refl (sym (removed q) ∙ f)
-            )
-      ] refl (sym (inserted q) ∙ e)
+      elim (is_at (spot_order before) q) as (λ t. is_at (spot_order before) q ≡ t → cond t false (contains spot_order mid q) ≡ true → (after ≡ q) ⊎ ((contains spot_order order q ≡ true) × (before ≢ q))) [
+        | true ↦ λ yes f. absurd cc
+        | false ↦ λ no f.
+            elim (is_at (spot_order after) q) as (λ t. is_at (spot_order after) q ≡ t → cond t true (contains spot_order order q) ≡ true → (after ≡ q) ⊎ ((contains spot_order order q ≡ true) × (before ≢ q))) [
+              | true ↦ λ yes g. inl (spot_from_test after q yes)
+              | false ↦ λ off g. inr (g, λ same. let yes : is_at (spot_order before) q ≡ true = test_from_spot before q same in absurd cc)
+            ] refl (sym (inserted q) ∙ f)
+      ] refl (sym (removed q) ∙ e)
 
   pub IsOrderOf-moved : IsOrderOf new (set spots at after)
   IsOrderOf-moved = record {
@@ -99,7 +103,7 @@ module _ (order mid new : BTreeSet Spot) (spots : List Spot) (at : ℕ) (before 
         elim (cases_eq k at) [
           | (inl same) ↦
               let here : get_or (set spots at after) k p ≡ after = ap (λ n. get_or (set spots at after) n p) same ∙ get_or-set_same spots at after p inside in
-              ap (contains spot_order new) here ∙ inserted after ∙ ap (λ t. cond t true (contains spot_order mid after)) (test_from_spot after after refl)
+              ap (contains spot_order new) here ∙ kept after other ∙ ap (λ t. cond t true (contains spot_order order after)) (test_from_spot after after refl)
           | (inr apart) ↦
               let within : k < length spots = simp length-set at below in
               let here : get_or (set spots at after) k p ≡ get_or spots k p = get_or-set_other spots at k after p apart in

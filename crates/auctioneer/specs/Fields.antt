@@ -2,23 +2,36 @@
 use Rattle.std.specs.Prelude.{◌≡◌, ℕ, ◌<◌, true, false, List, length, Option, Some, None, IfSome, slice_index_or}
 use Rattle.cell_records.specs.declared.job.Job.{Job}
 use Rattle.auction_scoring.specs.Order.{is_better}
+use Rattle.auction_scoring.specs.declared.scores.Score.{Score}
 use Rattle.auctioneer.specs.Asked.{AreStands}
+use Rattle.auctioneer.specs.Refused.{AreRefused}
 use Rattle.auctioneer.specs.Spots.{AreSpots, IsOrderOf}
 use Rattle.auctioneer.specs.Stands.{can_take, score_in}
-use Rattle.auctioneer.specs.Tallies.{CountsAt}
+use Rattle.auctioneer.specs.Tallies.{HasRoomFor, CountsAt}
 use Rattle.auctioneer.specs.declared.candidate.Candidate.{Candidate}
 use Rattle.auctioneer.specs.declared.field.Field.{Field}
 use Rattle.auctioneer.specs.declared.spots.Spot.{Spot}
 use Rattle.auctioneer.specs.declared.stand.Stand.{Stand}
 use Rattle.auctioneer.specs.declared.tally.Place.TheVariants.{Zone, Cell}
 
--- spots, order and tallies are those of the cells
+-- spots, order and tallies are those of the cells, and jobs of the refused sizes fit on none of them
 pub record IsFieldOf (f : Field) : Type 0 where
   pub sound : AreStands f.stands.items
   pub spots : AreSpots f.groups.items f.stands.items f.spots.items
   pub order : IsOrderOf f.order f.spots.items
   pub zones : CountsAt Zone f.in_zones f.stands.items
   pub cells : CountsAt Cell f.on_cells f.stands.items
+  pub refused : AreRefused f.stands.items f.refused.items
+
+-- the score has no container of the job's process on the cell, and the load of the spot
+pub record IsAtBound (score : Score) (spot : Spot) : Type 0 where
+  pub none : score.on_cell ≡ 0
+  pub load : score.load ≡ spot.load
+
+-- one container more of the job on the cell at that place is counted without memory
+pub record CanCount (f : Field) (job : Job) (at : ℕ) : Type 0 where
+  pub zone : (s : Stand) → HasRoomFor f.in_zones job.job (slice_index_or f.stands.items at s).zone
+  pub cell : (s : Stand) → HasRoomFor f.on_cells job.job (slice_index_or f.stands.items at s).cell
 
 -- the candidate is one of the cells, with its score, and fits
 pub record IsFitting (stands : List Stand) (job : Job) (c : Candidate) : Type 0 where

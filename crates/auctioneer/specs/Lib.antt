@@ -7,4 +7,5 @@ pub mod Asked
 pub mod Laws
 pub mod Spots
 pub mod Tallies
+pub mod Refused
 pub mod Fields

@@ -1,5 +1,5 @@
 -- The order in which the cells are kept: in groups of one zone and one tag, by load, then by name.
-use Rattle.std.specs.Prelude.{◌≡◌, ℕ, ◌<◌, true, List, length, slice_index_or}
+use Rattle.std.specs.Prelude.{◌≡◌, ℕ, ◌<◌, ◌≤◌, true, List, length, slice_index_or}
 use Rattle.std.specs.BTreeSet.{BTreeSet, contains}
 use Rattle.std.specs.Ordering.{nat_cmp, on, then_cmp}
 use Rattle.std.specs.declared.cmp.Ordering.{Ordering}
@@ -26,12 +26,12 @@ pub record IsGroupOf (groups : List Group) (s : Stand) (number : ℕ) : Type 0 w
   pub inside : number < length groups
   pub is : (g : Group) → slice_index_or groups number g ≡ group_in s
 
--- each cell has a spot, with its group and its load
+-- each cell has a spot, with its group and a load that is at most its own
 pub record AreSpots (groups : List Group) (stands : List Stand) (spots : List Spot) : Type 0 where
   pub all : length spots ≡ length stands
   pub cell : (k : ℕ) (p : Spot) → k < length spots → (slice_index_or spots k p).cell ≡ k
   pub load : (k : ℕ) (s : Stand) (p : Spot) → k < length stands →
-      (slice_index_or spots k p).load ≡ load_in (slice_index_or stands k s)
+      (slice_index_or spots k p).load ≤ load_in (slice_index_or stands k s)
   pub group : (k : ℕ) (s : Stand) (p : Spot) → k < length stands →
       IsGroupOf groups (slice_index_or stands k s) (slice_index_or spots k p).group
 

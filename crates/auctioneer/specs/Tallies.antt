@@ -1,5 +1,5 @@
 -- How many containers of each process each zone has, and each cell, as it is kept.
-use Rattle.std.specs.Prelude.{◌≡◌, ℕ, ◌+◌, Bool, ◌&&◌, List, sum_by, unwrap_or, if◌then◌else◌}
+use Rattle.std.specs.Prelude.{◌≡◌, ℕ, ◌+◌, Bool, true, ◌&&◌, List, sum_by, unwrap_or, is_some, if◌then◌else◌}
 use Rattle.std.specs.HashMap.{get}
 use Rattle.cell_records.specs.declared.job_name.JobName.{JobName}
 use Rattle.cell_records.specs.declared.job_name.JobName.TheVariants.{Lrp, Task}
@@ -41,6 +41,15 @@ counts_for job name other place = if same_name name place then (if is_of other j
 abbrev pub Gains : Tally → Tally → JobName → List ℕ → Type 0
 Gains old new job name =
     (other : JobName) (place : List ℕ) → tallied new other place ≡ tallied old other place + counts_for job name other place
+
+-- it has an entry for the job's process at that place, so that one more takes no memory; a task needs none
+abbrev pub HasRoomFor : Tally → JobName → List ℕ → Type 0
+HasRoomFor tally (Lrp key) name = is_some (get same_share tally.counts (record { process = key.process; place = name })) ≡ true
+HasRoomFor tally (Task task) name = Unit {0}
+
+-- both count the same
+abbrev pub SaysTheSame : Tally → Tally → Type 0
+SaysTheSame old new = (job : JobName) (name : List ℕ) → tallied new job name ≡ tallied old job name
 
 -- the tally says what the cells hold
 abbrev pub CountsAt : Place → Tally → List Stand → Type 0

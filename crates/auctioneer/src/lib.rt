@@ -9,6 +9,7 @@ mod field;
 mod laws;
 mod placement;
 mod placing;
+mod refused;
 mod scan;
 mod spots;
 mod stand;
@@ -17,7 +18,7 @@ mod tally;
 mod turns;
 
 pub use asked::{are_cells, are_jobs};
-pub use auction::run_auction;
+pub use auction::{Auction, run_auction};
 pub use laws::{
     each_job_has_one_placement, placements_name_answers, placements_spread_over_zones,
     placements_take_room,
@@ -25,3 +26,4 @@ pub use laws::{
 pub use placement::Placement;
 pub use scan::scan_auction;
 pub use stand::Stand;
+pub use turns::in_order;

@@ -1,5 +1,5 @@
 //! The cells in groups of one zone and one tag, and in each group by load and then by name.
-ghost use Rattle.std.specs.Prelude.{◌≡◌, ℕ, ◌<◌, ◌-◌, ◌^◌, length, slice_set, slice_index_or, IfOk, OnOk};
+ghost use Rattle.std.specs.Prelude.{◌≡◌, ℕ, ◌<◌, ◌-◌, ◌^◌, length, slice_set, slice_index_or, IfOk, OnOk, OnErr};
 ghost use Rattle.std.specs.BTreeSet.{IsFromIterResult};
 ghost use Rattle.auctioneer.specs.Asked.{IsSoundStand, AreStands};
 ghost use Rattle.auctioneer.specs.Spots.{spot_order, load_in, IsGroupOf, AreSpots, IsOrderOf};
@@ -21,7 +21,8 @@ pub(crate) struct Group {
 }
 
 // Where a cell stands in the order: by the number of its group, then by its load, and then by its
-// place in the order of names.
+// place in the order of names. The cell may be fuller than its spot says, and never is less so: jobs
+// are only added.
 #[derive(Clone, Copy, PartialEq, Eq, PartialOrd, Ord)]
 pub(crate) struct Spot {
     pub(crate) group: usize,
@@ -94,7 +95,7 @@ pub(crate) fn order_of(alloc: Global, spots: &[Spot]) -> Result<BTreeSet<Spot>, 
     Ok(spots.iter().copied().collect(alloc)?)
 }
 
-// Moves a cell to where it belongs with that load.
+// Moves a cell to where it belongs with that load. After an error it stays where it is.
 pub(crate) fn move_cell(
     order: &mut BTreeSet<Spot>,
     spots: &mut Vec<Spot>,
@@ -105,14 +106,17 @@ pub(crate) fn move_cell(
     requires cells { (k : ℕ) (p : ASpot) → k < length spots.old.items
         → (slice_index_or spots.old.items k p).cell ≡ k }
     requires order { IsOrderOf order.old spots.old.items }
-    ensures order { OnOk result (IsOrderOf order.new spots.new.items) }
+    ensures order { IsOrderOf order.new spots.new.items }
     ensures spots { OnOk result ((p : ASpot) → spots.new.items
         ≡ slice_set spots.old.items at (record (slice_index_or spots.old.items at p) { load = load })) }
+    ensures err { OnErr result (spots.new.items ≡ spots.old.items) }
 {
     let before = spots[at];
     let after = Spot { load, ..before };
-    order.remove(&before);
-    order.insert(after)?;
-    spots[at] = after;
+    if load != before.load {
+        order.insert(after)?;
+        order.remove(&before);
+        spots[at] = after;
+    }
     Ok(())
 }

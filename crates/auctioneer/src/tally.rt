@@ -1,7 +1,7 @@
 //! How many containers of each process each zone has, and how many each cell.
 ghost use Rattle.std.specs.Prelude.{◌≡◌, ℕ, ◌+◌, ◌<◌, ◌^◌, List, length, IfOk, OnOk};
 ghost use Rattle.auctioneer.specs.Asked.{AreStands};
-ghost use Rattle.auctioneer.specs.Tallies.{place_of, tallied, Gains, held_at, CountsAt};
+ghost use Rattle.auctioneer.specs.Tallies.{place_of, tallied, Gains, HasRoomFor, SaysTheSame, held_at, CountsAt};
 ghost use Rattle.cell_records.specs.declared.job_name.JobName.{JobName as JobIs};
 
 use crate::stand::Stand;
@@ -58,10 +58,28 @@ impl Tally {
         }
     }
 
+    // Takes the memory for one container more, and changes no count.
+    pub(crate) fn make_room(&mut self, job: &JobName, place: &Name) -> Result<(), OutOfMemory>
+        ensures kept { SaysTheSame self.old self.new }
+        ensures room { OnOk result (HasRoomFor self.new job.now place.now) }
+    {
+        if let JobName::Lrp(key) = job {
+            let share = Share {
+                process: key.process,
+                place: *place,
+            };
+            if !self.counts.contains_key(&share) {
+                self.counts.insert(share, 0)?;
+            }
+        }
+        Ok(())
+    }
+
     // Counts one container more.
-    pub(crate) fn add(&mut self, job: &JobName, place: &Name) -> Result<(), OutOfMemory>
-        requires { tallied self.old job.now place.now + 1 < 2 ^ 64 }
-        ensures { OnOk result (Gains self.old self.new job.now place.now) }
+    pub(crate) fn add(&mut self, job: &JobName, place: &Name)
+        requires few { tallied self.old job.now place.now + 1 < 2 ^ 64 }
+        requires room { HasRoomFor self.old job.now place.now }
+        ensures { Gains self.old self.new job.now place.now }
     {
         let count = self.count(job, place);
         if let JobName::Lrp(key) = job {
@@ -69,9 +87,9 @@ impl Tally {
                 process: key.process,
                 place: *place,
             };
-            self.counts.insert(share, count + 1)?;
+            // It is there, so that this takes no memory.
+            let _had = self.counts.insert(share, count + 1);
         }
-        Ok(())
     }
 
     // Counts the containers of a cell.
@@ -84,7 +102,8 @@ impl Tally {
     {
         let name = place.of(stand);
         for job in stand.jobs.items() {
-            self.add(job, &name)?;
+            self.make_room(job, &name)?;
+            self.add(job, &name);
         }
         Ok(())
     }

@@ -37,8 +37,8 @@ fn turn_of(job: &Job) -> Turn
     }
 }
 
-// The jobs in the order in which they are placed.
-pub(crate) fn in_order(alloc: Global, jobs: &[Job]) -> Result<Vec<Job>, OutOfMemory>
+/// The jobs in the order in which they are placed.
+pub fn in_order(alloc: Global, jobs: &[Job]) -> Result<Vec<Job>, OutOfMemory>
     requires { AreJobs jobs.now }
     ensures { IfOk result (λ sorted. sorted.items ≡ in_order jobs.now) }
 {

@@ -24,7 +24,7 @@ loop-cell-preserved c =
     subst (λ (ss : List Stand). AreSpots c.group_of.new.groups.items ss c.push.new.self.items) (sym first)
     (subst (AreSpots c.group_of.new.groups.items (take i stands ++ s ∷ [])) (sym c.in_ok-push.ensures.items)
     (AreSpots-push c.loop-cell.groups.items c.group_of.new.groups.items (take i stands) c.loop-cell.spots.items s spot c.loop-cell.invariant c.group_of.ensures.others
-    (omega (arith, at, c.loop-cell.invariant.all)) c.load_of-load.ensures c.in_ok-group.ensures.number))
+    (omega (arith, at, c.loop-cell.invariant.all)) (omega (arith, c.load_of-load.ensures)) c.in_ok-group.ensures.number))
 
 pub returns : goal.returns
 returns c =

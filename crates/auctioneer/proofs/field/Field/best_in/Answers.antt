@@ -38,15 +38,15 @@ candidate_at-requires-clause-zone c =
     zone_count_of c.args.self.now c.requires.field c.args.job.now c.args.group c.count-count.result c.index.result.now c.requires.inside c.index.ensures c.count-count.ensures
     c.in-Some.spot.now (All-head (IsSpotIn c.args.self.now c.args.group) c.in-Some.spot.now c.next.new.self before.each)
 
-pub returns-then-on_cell-eq0 : goal.returns-then-on_cell-eq0
-returns-then-on_cell-eq0 c =
+pub returns-then-is_first : goal.returns-then-is_first
+returns-then-is_first c =
     let before = subst (λ (xs : List Spot). IsBestBefore c.args.self.now c.args.job.now c.args.group xs c.loop-spot.best) c.in-Some.ensures.steps c.loop-spot.invariant in
     subst (λ (x : Candidate). IsBestOf c.args.self.now c.args.job.now (λ p. p.group < c.args.group + 1) (Some x)) (sym c.better_of.ensures)
     (best_at_first_free c.args.self.now c.requires.field c.args.job.now c.args.group c.in-Some.spot.now c.next.new.self c.loop-spot.best before
-    c.in-Some-candidate_at.other c.in-Some-candidate_at.ensures.fitting c.in-Some-candidate_at.ensures.place c.if-on_cell-eq0.true)
+    c.in-Some-candidate_at.other c.in-Some-candidate_at.ensures.fitting c.in-Some-candidate_at.ensures.place (c.is_at_bound-is_first.ensures c.if-is_first.true))
 
-pub loop-spot-preserved-else-on_cell-eq0 : goal.loop-spot-preserved-else-on_cell-eq0
-loop-spot-preserved-else-on_cell-eq0 c =
+pub loop-spot-preserved-else-is_first : goal.loop-spot-preserved-else-is_first
+loop-spot-preserved-else-is_first c =
     let before = subst (λ (xs : List Spot). IsBestBefore c.args.self.now c.args.job.now c.args.group xs c.loop-spot.best) c.in-Some.ensures.steps c.loop-spot.invariant in
     subst (λ (x : Candidate). IsBestBefore c.args.self.now c.args.job.now c.args.group c.next.new.self (Some x)) (sym c.better_of.ensures)
     (before_fitting c.args.self.now c.requires.field c.args.job.now c.args.group c.in-Some.spot.now c.next.new.self c.loop-spot.best before

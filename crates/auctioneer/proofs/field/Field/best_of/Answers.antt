@@ -1,27 +1,11 @@
-use Rattle.std.proofs.Common.{◌≡◌, ◌+◌, ◌<◌, None, MatchOption, sym, subst, ◌∙◌, arith, rules}
-use Rattle.auctioneer.specs.Fields.{IsBestOf}
-use Rattle.auctioneer.specs.Least.{best, IsBestAt}
-use Rattle.auctioneer.proofs.Groups.{best_other_tag, found_best}
-use Rattle.auctioneer.proofs.field.Field.best_of.Goals.{then-eq, else-eq}
+use Rattle.std.proofs.Common.{◌≡◌, None, List, sym, subst}
+use Rattle.auctioneer.specs.Refused.{AreRefused}
+use Rattle.auctioneer.specs.declared.refused.Size.{Size}
+use Rattle.auctioneer.proofs.Refusals.{best-from_none}
 use Rattle.auctioneer.proofs.field.Field.best_of.Goals as goal
 
-pub loop-group-init : goal.loop-group-init
-loop-group-init c = record { fitting = tt; no_worse = λ k s p below seen. absurd (omega arith) }
-
-pub best_in-best-requires-clause-found : goal.best_in-best-requires-clause-found
-best_in-best-requires-clause-found c = c.loop-group.invariant
-
-pub loop-group-preserved : goal.loop-group-preserved
-loop-group-preserved c =
-    elim c.if-eq.branch [
-      | then-eq w ↦ subst (IsBestOf c.args.self.now c.args.job.now (λ p. p.group < c.loop-group.group + 1)) (sym w.best-is) w.best_in-best.ensures
-      | else-eq w ↦
-          subst (IsBestOf c.args.self.now c.args.job.now (λ p. p.group < c.loop-group.group + 1)) (sym w.best-is)
-          (best_other_tag c.args.self.now c.requires c.args.job.now c.loop-group.group c.index.result.now (omega (arith, c.loop-group-test.true, c.len-group-end.ensures)) c.index.ensures (sym c.eq.ensures ∙ w.if-eq.false) c.loop-group.best c.loop-group.invariant)
-    ]
-
-pub returns : goal.returns
-returns c =
-    let h : MatchOption c.loop-group.best (best c.args.self.now.stands.items c.args.job.now ≡ None) (λ x. IsBestAt c.args.self.now.stands.items c.args.job.now x.at) =
-    found_best c.args.self.now c.requires c.args.job.now c.loop-group.group c.loop-group.best (omega (arith, c.loop-group-test.false, c.len-group-end.ensures)) c.loop-group.invariant in
-    search (rules, h)
+pub returns-then-is_refused : goal.returns-then-is_refused
+returns-then-is_refused c =
+    let f = c.args.self.now in
+    best-from_none f.stands.items c.args.job.now c.requires.sound.rising
+    (c.is_refused.ensures c.if-is_refused.true f.stands.items (subst (λ (zs : List Size). AreRefused f.stands.items zs) (sym c.as_slice.ensures.value) c.requires.refused))

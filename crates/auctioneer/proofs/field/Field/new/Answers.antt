@@ -1,5 +1,6 @@
-use Rattle.std.proofs.Common.{List, subst}
+use Rattle.std.proofs.Common.{List, [], ◌<◌, length, sym, subst, arith}
 use Rattle.std.specs.BTreeSet.{IsFromIterResult}
+use Rattle.auctioneer.specs.Refused.{AreRefused}
 use Rattle.auctioneer.specs.Spots.{spot_order, AreSpots}
 use Rattle.auctioneer.specs.Tallies.{CountsAt}
 use Rattle.auctioneer.specs.declared.spots.Spot.{Spot}
@@ -17,4 +18,5 @@ returns-clause-sound c =
       order = IsOrderOf-made c.in_ok-order.order c.in_ok-groups.spots.items spots.cell (subst (λ (ps : List Spot). IsFromIterResult spot_order ps c.in_ok-order.order) c.as_slice-2.ensures.value c.in_ok-order.ensures);
       zones = subst (CountsAt Zone c.in_ok-in_zones.in_zones) c.as_slice-3.ensures.value c.in_ok-in_zones.ensures;
       cells = subst (CountsAt Cell c.in_ok-on_cells.on_cells) c.as_slice-4.ensures.value c.in_ok-on_cells.ensures;
+      refused = subst (AreRefused c.in_ok-stands.stands.items) (sym c.new.ensures.items) (λ k d below. absurd (omega arith));
     }
