@@ -1,5 +1,5 @@
 -- The reasons count each cell once.
-use Rattle.std.proofs.Common.{◌≡◌, ℕ, ◌+◌, ◌≤◌, Bool, true, false, cond, not, ◌&&◌, List, length, refl, sym, ap, ◌∙◌}
+use Rattle.std.proofs.Common.{◌≡◌, ℕ, ◌+◌, ◌≤◌, Bool, true, false, cond, not, ◌&&◌, List, length, refl, sym, ap, ◌∙◌, arith}
 use Rattle.std.specs.List.{Contains, sum_by, count_by}
 use Rattle.cell_records.specs.declared.job.Job.{Job}
 use Rattle.auctioneer.specs.Least.{NoneFits}
@@ -90,13 +90,7 @@ module _ (job : Job) (stands : List Stand) (none : NoneFits job stands) where
       let pg : sum_by g stands ≡ sum_by f stands + sum_by (just true true true) stands = sum_by-plus f (just true true true) stands in
       let whole : sum_by g stands ≡ length stands =
       sum_by-ones g stands (λ s i. once_one (has_tag job.tag s) (lacks job s).memory (lacks job s).disk (lacks job s).containers (lacks_some s i)) in
-      (λ i. sym pa i + sum_by (just false true false) stands + sum_by (just false false true) stands + sum_by (just true true false) stands + sum_by (just true false true) stands + sum_by (just false true true) stands + sum_by (just true true true) stands)
-      ∙ (λ i. sym pb i + sum_by (just false false true) stands + sum_by (just true true false) stands + sum_by (just true false true) stands + sum_by (just false true true) stands + sum_by (just true true true) stands)
-      ∙ (λ i. sym pc i + sum_by (just true true false) stands + sum_by (just true false true) stands + sum_by (just false true true) stands + sum_by (just true true true) stands)
-      ∙ (λ i. sym pd i + sum_by (just true false true) stands + sum_by (just false true true) stands + sum_by (just true true true) stands)
-      ∙ (λ i. sym pe i + sum_by (just false true true) stands + sum_by (just true true true) stands)
-      ∙ (λ i. sym pf i + sum_by (just true true true) stands)
-      ∙ sym pg ∙ whole
+      omega (arith, pa, pb, pc, pd, pe, pf, pg, whole)
 
   pub counts_each_once : CountsEachOnce job stands (reasons_of job stands)
   counts_each_once = record {

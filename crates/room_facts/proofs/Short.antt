@@ -1,8 +1,8 @@
 -- No placing has more than there is room for.
-use Rattle.std.proofs.Common.{◌≡◌, ℕ, ◌≤◌, Bool, true, ◌||◌, cond, ltb, List, length, filter, Option, inl, inr, refl, sym, ap, ◌∙◌, arith}
+use Rattle.std.proofs.Common.{◌≡◌, ℕ, ◌≤◌, Bool, true, false, ◌||◌, cond, ltb, List, length, get_or, filter, Option, inl, inr, refl, sym, ap, ◌∙◌, arith}
 use Rattle.std.specs.List.{All, Contains, sum_by, count_by}
 use Rattle.std.proofs.lemmas.Bool.{or_cases, ltb-true, le-leb, and_from}
-use Rattle.std.proofs.lemmas.List.Elements.{All-contains, filter_passes}
+use Rattle.std.proofs.lemmas.List.Elements.{All-contains, All-filter, filter_passes}
 use Rattle.cell_records.specs.declared.amounts.Amounts.{Amounts}
 use Rattle.cell_records.specs.declared.job.Job.{Job}
 use Rattle.cell_records.specs.declared.job_name.JobName.{JobName}
@@ -105,6 +105,42 @@ no_placing stands jobs job short on h =
           omega (arith, few, ltb-true (room_for job stands) (as_large job jobs) large)
       | (inr more) ↦ not_within (sums asked) free more (placing_within job.tag stands asked on h own)
     ]
+
+-- what passes two tests adds up to no more than what passes the second
+part_of : (f : Job → ℕ) (p q : Job → Bool) (jobs : List Job) → sum_by f (filter q (filter p jobs)) ≤ sum_by f (filter q jobs)
+part_of f p q jobs =
+    let both : sum_by f (filter q (filter p jobs)) ≡ sum_by (λ j. cond (p j) (cond (q j) (f j) 0) 0) jobs =
+    sum_by-filter f q (filter p jobs) ∙ sum_by-filter (λ j. cond (q j) (f j) 0) p jobs in
+    let one : sum_by f (filter q jobs) ≡ sum_by (λ j. cond (q j) (f j) 0) jobs = sum_by-filter f q jobs in
+    let less : sum_by (λ j. cond (p j) (cond (q j) (f j) 0) 0) jobs ≤ sum_by (λ j. cond (q j) (f j) 0) jobs =
+    sum_by-at_most (λ j. cond (p j) (cond (q j) (f j) 0) 0) (λ j. cond (q j) (f j) 0) jobs
+    (λ j i. at_most_it (p j) (cond (q j) (f j) 0)) in
+    omega (arith, both, one, less)
+  where
+    at_most_it : (b : Bool) (n : ℕ) → cond b n 0 ≤ n
+    at_most_it true n = omega arith
+    at_most_it false n = omega arith
+
+-- a placing is one of each part of its jobs
+placing_of_part : (stands : List Stand) (jobs : List Job) (p : Job → Bool) (on : JobName → List ℕ) → IsPlacing stands jobs on → IsPlacing stands (filter p jobs) on
+placing_of_part stands jobs p on h = record {
+  tags = All-filter p (λ j. (s : Stand) × Contains stands s × (s.cell ≡ on j.job) × (s.tag ≡ j.tag)) jobs h.tags;
+  within = λ k d below.
+      let s : Stand = get_or stands k d in
+      let q : Job → Bool = λ j. same_name (on j.job) s.cell in
+      let whole = h.within k d below in
+      let some : sum_by (λ j. 1) (filter q (filter p jobs)) ≡ length (filter q (filter p jobs)) = sum_by-ones (λ (j : Job). 1) (filter q (filter p jobs)) (λ j i. refl) in
+      let all : sum_by (λ j. 1) (filter q jobs) ≡ length (filter q jobs) = sum_by-ones (λ (j : Job). 1) (filter q jobs) (λ j i. refl) in
+      record {
+        memory = omega (arith, part_of (λ (j : Job). j.memory) p q jobs, whole.memory);
+        disk = omega (arith, part_of (λ (j : Job). j.disk) p q jobs, whole.disk);
+        containers = omega (arith, part_of (λ (j : Job). 1) p q jobs, whole.containers, some, all);
+      };
+}
+
+pub no_placing_of_all : (stands : List Stand) (jobs : List Job) (job : Job) → is_short stands jobs job ≡ true → (on : JobName → List ℕ) → IsPlacing stands jobs on → ⊥
+no_placing_of_all stands jobs job short on h =
+    no_placing stands jobs job short on (placing_of_part stands jobs (is_for job.tag) on h)
 
 pub no_placing_has_more : (size : Job) (stands : List Stand) (jobs : List Job) → All (IsAlike size) jobs → (on : JobName → List ℕ) → IsPlacing stands jobs on → length jobs ≤ room_for size stands
 no_placing_has_more size stands jobs alike on h =

@@ -41,6 +41,12 @@ ShortHasNoPlacing =
     (stands : List Stand) (jobs : List Job) (job : Job) → is_short stands jobs job ≡ true →
     (on : JobName → List ℕ) → IsPlacing stands (of_tag job.tag jobs) on → ⊥
 
+-- so none of all jobs is one either
+abbrev pub ShortHasNoPlacingOfAll : Type 0
+ShortHasNoPlacingOfAll =
+    (stands : List Stand) (jobs : List Job) (job : Job) → is_short stands jobs job ≡ true →
+    (on : JobName → List ℕ) → IsPlacing stands jobs on → ⊥
+
 -- where the auction gives each job a cell, whoever goes by its placements has a placing
 abbrev pub AuctionIsAPlacing : Type 0
 AuctionIsAPlacing =

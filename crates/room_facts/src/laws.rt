@@ -3,6 +3,7 @@ ghost use Rattle.room_facts.specs.Laws.{
   JobsFitWhereNothingLacks,
   ReasonsAreExact,
   ShortHasNoPlacing,
+  ShortHasNoPlacingOfAll,
   AuctionIsAPlacing,
   RoomIsAPlacing,
   AlikeJobsFill,
@@ -21,9 +22,10 @@ pub fn reasons_are_exact()
 {}
 
 /// If it is shown that there is too little, no function from the jobs of the tag to cells is a
-/// placing.
+/// placing, and so none from all jobs.
 pub fn short_has_no_placing()
-    ensures { ShortHasNoPlacing }
+    ensures tag { ShortHasNoPlacing }
+    ensures all { ShortHasNoPlacingOfAll }
 {}
 
 /// If the auction gives each job a cell, there is a placing: the one that its placements name.
