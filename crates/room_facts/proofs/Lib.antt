@@ -1,0 +1,9 @@
+pub mod Lists
+pub mod Names
+pub mod Fits
+pub mod Counts
+pub mod Added
+pub mod Shares
+pub mod Short
+pub mod Placings
+pub mod Fills
