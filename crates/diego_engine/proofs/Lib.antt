@@ -4,4 +4,5 @@ pub mod SinceEntry
 pub mod Spoken
 pub mod TopLaws
 pub mod Serial
+pub mod Restarts
 pub mod Exactly

@@ -2,3 +2,4 @@ pub mod Headline
 pub mod InMemory
 pub mod Top
 pub mod Serial
+pub mod Restarts

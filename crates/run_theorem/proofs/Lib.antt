@@ -12,3 +12,4 @@ mod Counted
 mod ItemsAnswered
 mod ByLine
 mod OwnAnswers
+mod ItsCells

@@ -1,5 +1,5 @@
 -- The laws of runs.
-use Rattle.std.specs.Prelude.{◌≡◌, ◌≢◌, ℕ, suc, ◌<◌, ◌==◌, List, [], ◌∷◌, filter, Option, Some}
+use Rattle.std.specs.Prelude.{◌≡◌, ◌≢◌, ℕ, suc, ◌<◌, ◌==◌, List, [], ◌∷◌, filter, map, Option, Some}
 use Rattle.std.specs.List.{Contains, slice_get}
 use Rattle.disk_trait.specs.Past.{Past}
 use Rattle.bbs_board.specs.View.{View}
@@ -8,8 +8,14 @@ use Rattle.bbs_model.specs.Replay.{IsLawful}
 use Rattle.bbs_model.specs.Valid.{IsValid}
 use Rattle.bbs_model.specs.declared.item.Item.{Item}
 use Rattle.bbs_model.specs.declared.rows.Rows.{Rows}
+use Rattle.cell_rep.specs.declared.rep.CellRep.{CellRep}
 use Rattle.convergence.specs.declared.report.Report.{Report}
+use Rattle.converge_round.specs.Askings.{StandApart}
+use Rattle.converge_round.specs.Each.{Each}
+use Rattle.converge_round.specs.Reps.{names_of}
+use Rattle.phase_runs.specs.Reps.{reps_of}
 use Rattle.program_ends.specs.declared.ending.Ending.{Ending}
+use Rattle.scenario_lines.specs.declared.actor.Actor.{Actor}
 use Rattle.scenario_lines.specs.declared.answered.Answered.{Answered}
 use Rattle.scenario_lines.specs.declared.script.Phase.{Phase}
 use Rattle.scenario_lines.specs.declared.script.Script.{Script}
@@ -17,7 +23,7 @@ use Rattle.scenario_reader.specs.Facts.{IsScript}
 use Rattle.phase_text.specs.Sorting.{by_line}
 use Rattle.scenario_player.specs.Plays.{Plays}
 use Rattle.run_theorem.specs.Answers.{answer_items, board_answer, place_named}
-use Rattle.run_theorem.specs.Headline.{IsFaithful}
+use Rattle.run_theorem.specs.Headline.{IsFaithful, outset}
 use Rattle.run_theorem.specs.Phases.{PhaseAgrees, Point}
 
 -- a scenario that was played on a board that had done nothing is faithful, whatever its end and its disk
@@ -60,3 +66,26 @@ ActorsAnswersStand =
     (agrees : PhaseAgrees base log phase s s') → IsScript script → Contains script.phases phase →
     (k : ℕ) (part : List Answered) → slice_get agrees.parts k ≡ Some part →
     answers_by (suc k) (by_line agrees.parts) ≡ part
+
+-- the names of the cells among actors, in their order
+abbrev pub cells_among : List Actor → List (List ℕ)
+cells_among actors = map (λ a. a.name) (filter (λ a. a.cell) actors)
+
+-- the reps are those of the scenario's cells: one for each, in their order, and no two have one name
+pub record AreItsCells (script : Script) (reps : List CellRep) : Type 0 where
+  pub names : names_of reps ≡ cells_among script.actors
+  pub apart : StandApart (names_of reps)
+
+-- of each of these phases, which agree one after another, the round goes over the reps of the scenario's cells
+abbrev pub GoOverItsCells : (script : Script) (base : Rows) (log : List Item) (phases : List Phase) (s t : Point) →
+    Each (PhaseAgrees base log) phases s t → Type 0
+GoOverItsCells script base log [] s t each = Unit {0}
+GoOverItsCells script base log (phase ∷ phases) s t each =
+    AreItsCells script (reps_of each.1.mids) × GoOverItsCells script base log phases each.0 t each.2
+
+-- so it is with each phase of a run that ended
+abbrev pub RoundsGoOverItsCells : Type 0
+RoundsGoOverItsCells =
+    (script : Script) (how : Ending) (answers : List Answered) (reports : List Report) (base : Rows) (log : List Item)
+    (run : IsFaithful script how answers reports base log) → IsScript script →
+    GoOverItsCells script base log run.order.ended (outset script) run.order.last run.order.each

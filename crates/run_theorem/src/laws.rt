@@ -1,5 +1,5 @@
 //! The laws of runs. These functions do nothing: they are there for what they ensure.
-ghost use Rattle.run_theorem.specs.Laws.{ActorsAnswersStand, ItemsAreAnswered, PlayedRunsAreFaithful, PlayedRunsKeepBase};
+ghost use Rattle.run_theorem.specs.Laws.{ActorsAnswersStand, ItemsAreAnswered, PlayedRunsAreFaithful, PlayedRunsKeepBase, RoundsGoOverItsCells};
 
 use bbs_laws::tasks_complete_once;
 use disk_trait::Disk;
@@ -26,4 +26,10 @@ pub fn items_are_answered()
 /// in which they were made.
 pub fn answers_of_actors_stand()
     ensures { ActorsAnswersStand }
+{}
+
+/// The round of each phase goes over one rep for each cell of the scenario, and no two of them have one
+/// name. So what is said of rounds over reps whose names differ can be said of the rounds of a run.
+pub fn rounds_go_over_the_cells()
+    ensures { RoundsGoOverItsCells }
 {}

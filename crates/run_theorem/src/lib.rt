@@ -3,4 +3,6 @@
 
 mod laws;
 
-pub use laws::{answers_of_actors_stand, items_are_answered, played_runs_are_faithful};
+pub use laws::{
+    answers_of_actors_stand, items_are_answered, played_runs_are_faithful, rounds_go_over_the_cells,
+};
