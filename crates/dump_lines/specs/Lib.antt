@@ -1,0 +1,10 @@
+pub mod Cells
+pub mod Faults
+pub mod Json
+pub mod Lines
+pub mod Listing
+pub mod Members
+pub mod Questions
+pub mod Rows
+pub mod Tags
+pub mod Values
