@@ -1,18 +1,11 @@
 //! What becomes of a disk if somebody moves, removes or replaces its files while it has them open.
 use super::*;
-use crate::tests::{Tried, disk, folder};
+use crate::tests::folder;
 use disk_trait::{Area, Disk};
+use std::marker::Brand;
 use std::test::Fail;
 
-// The names of a board's files, one that is free beside them, and one that is free for their folder.
-#[derive(Drop)]
-struct Names {
-    folder: String,
-    a: String,
-    b: String,
-    free: String,
-    elsewhere: String,
-}
+type Lent<'a> = FileDisk<RealCalls<&'a HostRuntime, Brand>>;
 
 #[derive(Clone, Copy)]
 enum Way {
@@ -23,112 +16,136 @@ enum Way {
     Exchange,
 }
 
-fn names_of(rt: &HostRuntime, test: &str) -> Result<Names, Fail> {
-    let alloc = rt.alloc();
-    let folder = folder(rt, test)?;
-    Ok(Names {
-        a: format!(in alloc; "{}/a", folder.as_str())?,
-        b: format!(in alloc; "{}/b", folder.as_str())?,
-        free: format!(in alloc; "{}/free", folder.as_str())?,
-        elsewhere: format!(in alloc; "{}_elsewhere", folder.as_str())?,
-        folder,
-    })
+// A board's files are board/a and board/b of a folder of the test's own.
+fn path(rt: &HostRuntime, folder: &str, name: &str) -> Result<String, Fail> {
+    Ok(format!(in rt.alloc(); "{folder}/{name}")?)
 }
 
-fn harm(rt: &HostRuntime, names: &Names, way: Way) -> Result<(), Fail> {
-    let (a, b, free) = (names.a.as_str(), names.b.as_str(), names.free.as_str());
+fn renames(rt: &HostRuntime, folder: &str, from: &str, to: &str) -> Result<(), Fail> {
+    let from = path(rt, folder, from)?;
+    let to = path(rt, folder, to)?;
+    std::fs::rename(rt, from.as_str(), to.as_str())?;
+    Ok(())
+}
+
+fn makes(rt: &HostRuntime, folder: &str, name: &str) -> Result<(), Fail> {
+    let name = path(rt, folder, name)?;
+    std::fs::write(rt, name.as_str(), b"12345")?;
+    Ok(())
+}
+
+fn removes(rt: &HostRuntime, folder: &str, name: &str) -> Result<(), Fail> {
+    let name = path(rt, folder, name)?;
+    std::fs::remove_file(rt, name.as_str())?;
+    Ok(())
+}
+
+fn harm(rt: &HostRuntime, folder: &str, way: Way) -> Result<(), Fail> {
     match way {
-        Way::Move => std::fs::rename(rt, b, free)?,
-        Way::MoveTheFolder => {
-            std::fs::rename(rt, names.folder.as_str(), names.elsewhere.as_str())?;
-        }
-        Way::Remove => std::fs::remove_file(rt, b)?,
+        Way::Move => renames(rt, folder, "board/b", "free"),
+        Way::MoveTheFolder => renames(rt, folder, "board", "there"),
+        Way::Remove => removes(rt, folder, "board/b"),
         Way::Replace => {
-            std::fs::write(rt, free, b"x")?;
-            std::fs::rename(rt, free, b)?;
+            makes(rt, folder, "free")?;
+            renames(rt, folder, "free", "board/b")
         }
         Way::Exchange => {
-            std::fs::rename(rt, a, free)?;
-            std::fs::rename(rt, b, a)?;
-            std::fs::rename(rt, free, b)?;
+            renames(rt, folder, "board/a", "free")?;
+            renames(rt, folder, "board/b", "board/a")?;
+            renames(rt, folder, "free", "board/b")
         }
     }
-    Ok(())
 }
 
 // Gives each file its name back, where that is still to be had.
-fn mend(rt: &HostRuntime, names: &Names, way: Way) -> Result<(), Fail> {
+fn mend(rt: &HostRuntime, folder: &str, way: Way) -> Result<(), Fail> {
     match way {
-        Way::Move => std::fs::rename(rt, names.free.as_str(), names.b.as_str())?,
-        Way::MoveTheFolder => {
-            std::fs::rename(rt, names.elsewhere.as_str(), names.folder.as_str())?;
-        }
-        Way::Remove | Way::Replace => {}
-        Way::Exchange => harm(rt, names, way)?,
+        Way::Move => renames(rt, folder, "free", "board/b"),
+        Way::MoveTheFolder => renames(rt, folder, "there", "board"),
+        Way::Remove | Way::Replace => Ok(()),
+        Way::Exchange => harm(rt, folder, way),
     }
-    Ok(())
 }
 
-fn stores(disk: &mut Tried, area: Area) -> bool {
+fn stores(disk: &mut Lent<'_>, area: Area) -> bool {
     disk.write_at(area, 0, b"x").is_ok() && disk.sync(area).is_ok()
 }
 
-// The file that isn't written to is the one that is harmed.
-fn is_refused(rt: &HostRuntime, disk: &mut Tried, names: &Names, way: Way) -> Result<bool, Fail> {
-    let stored = stores(disk, Area::A) && stores(disk, Area::B);
-    harm(rt, names, way)?;
-    let written = disk.write_at(Area::A, 0, b"y").is_ok();
-    Ok(stored && written && disk.sync(Area::A).is_err())
-}
-
 // Nothing is answered any more.
-fn stays_refused(disk: &mut Tried) -> bool {
+fn stays_refused(disk: &mut Lent<'_>) -> bool {
     let mut room = *b".";
-    let failed = [
-        disk.len(Area::A).is_err(),
-        disk.read_at(Area::A, 0, &mut room).is_err(),
-        disk.write_at(Area::A, 0, b"z").is_err(),
-        disk.sync(Area::A).is_err(),
-        disk.sync(Area::B).is_err(),
-    ];
-    failed.iter().all(|it| *it)
+    let len = disk.len(Area::A).is_err();
+    let read = disk.read_at(Area::A, 0, &mut room).is_err();
+    let write = disk.write_at(Area::A, 0, b"z").is_err();
+    let sync = disk.sync(Area::A).is_err();
+    len && read && write && sync && disk.sync(Area::B).is_err()
 }
 
-fn is_seen(rt: &HostRuntime, test: &str, way: Way) -> Result<bool, Fail> {
-    let names = names_of(rt, test)?;
-    std::fs::create_dir(rt, names.folder.as_str())?;
-    let mut disk = disk(rt, names.a.as_str(), names.b.as_str())?;
-    let refused = is_refused(rt, &mut disk, &names, way)?;
-    mend(rt, &names, way)?;
-    let stays = stays_refused(&mut disk);
-    std::fs::remove_dir_all(rt, names.folder.as_str())?;
-    Ok(refused && stays)
+// The file that isn't written to is harmed as well as the one that is.
+fn sees(rt: &HostRuntime, folder: &str, disk: &mut Lent<'_>, way: Way) -> Result<bool, Fail> {
+    let stored = stores(disk, Area::A) && stores(disk, Area::B);
+    harm(rt, folder, way)?;
+    let written = disk.write_at(Area::A, 0, b"y").is_ok();
+    let refused = disk.sync(Area::A).is_err();
+    mend(rt, folder, way)?;
+    Ok(stored && written && refused && stays_refused(disk))
+}
+
+fn disk_sees(rt: &HostRuntime, folder: &str, a: String, b: String, way: Way) -> Result<bool, Fail> {
+    let mut disk = FileDisk::new(RealCalls::<&HostRuntime, Brand>::new(rt, a, b));
+    sees(rt, folder, &mut disk, way)
+}
+
+fn is_seen(rt: &HostRuntime, folder: &str, way: Way) -> Result<bool, Fail> {
+    let a = path(rt, folder, "board/a")?;
+    let b = path(rt, folder, "board/b")?;
+    disk_sees(rt, folder, a, b, way)
+}
+
+fn in_own_folder(rt: &HostRuntime, test: &str, way: Way) -> Result<bool, Fail> {
+    let folder = folder(rt, test)?;
+    let board = path(rt, folder.as_str(), "board")?;
+    std::fs::create_dir_all(rt, board.as_str())?;
+    let seen = is_seen(rt, folder.as_str(), way)?;
+    std::fs::remove_dir_all(rt, folder.as_str())?;
+    Ok(seen)
 }
 
 #[test]
 fn a_file_that_is_moved_fails_the_next_sync(rt: HostRuntime) -> Result<(), Fail> {
-    assert!(rt; is_seen(&rt, "move", Way::Move)?);
-    assert!(rt; is_seen(&rt, "move_folder", Way::MoveTheFolder)?);
-    assert!(rt; is_seen(&rt, "remove", Way::Remove)?);
-    assert!(rt; is_seen(&rt, "replace", Way::Replace)?);
-    assert!(rt; is_seen(&rt, "exchange", Way::Exchange)?);
+    assert!(rt; in_own_folder(&rt, "move", Way::Move)?);
+    assert!(rt; in_own_folder(&rt, "move_folder", Way::MoveTheFolder)?);
+    assert!(rt; in_own_folder(&rt, "remove", Way::Remove)?);
+    assert!(rt; in_own_folder(&rt, "replace", Way::Replace)?);
+    assert!(rt; in_own_folder(&rt, "exchange", Way::Exchange)?);
     Ok(())
 }
 
-// A length is that of the open file, and not that of the one in its place.
-fn has_its_length(rt: &HostRuntime, disk: &mut Tried, names: &Names) -> Result<bool, Fail> {
-    let stored = disk.write_at(Area::A, 0, b"xyz").is_ok();
-    std::fs::rename(rt, names.a.as_str(), names.free.as_str())?;
-    std::fs::write(rt, names.a.as_str(), b"12345")?;
-    Ok(stored && disk.len(Area::A) == Ok(3))
+// Another file in the place of the open one has another length.
+fn keeps_its_length(rt: &HostRuntime, folder: &str, disk: &mut Lent<'_>) -> Result<bool, Fail> {
+    let stored = stores(disk, Area::A);
+    renames(rt, folder, "a", "free")?;
+    makes(rt, folder, "a")?;
+    Ok(stored && disk.len(Area::A) == Ok(1))
+}
+
+fn disk_keeps_its_length(
+    rt: &HostRuntime,
+    folder: &str,
+    a: String,
+    b: String,
+) -> Result<bool, Fail> {
+    let mut disk = FileDisk::new(RealCalls::<&HostRuntime, Brand>::new(rt, a, b));
+    keeps_its_length(rt, folder, &mut disk)
 }
 
 #[test]
 fn a_length_is_that_of_the_open_file(rt: HostRuntime) -> Result<(), Fail> {
-    let names = names_of(&rt, "length")?;
-    std::fs::create_dir(&rt, names.folder.as_str())?;
-    let mut disk = disk(&rt, names.a.as_str(), names.b.as_str())?;
-    assert!(rt; has_its_length(&rt, &mut disk, &names)?);
-    std::fs::remove_dir_all(&rt, names.folder.as_str())?;
+    let folder = folder(&rt, "length")?;
+    std::fs::create_dir(&rt, folder.as_str())?;
+    let a = path(&rt, folder.as_str(), "a")?;
+    let b = path(&rt, folder.as_str(), "b")?;
+    assert!(rt; disk_keeps_its_length(&rt, folder.as_str(), a, b)?);
+    std::fs::remove_dir_all(&rt, folder.as_str())?;
     Ok(())
 }

@@ -6,9 +6,9 @@ use std::fs::OpenOptions;
 use std::marker::Brand;
 use std::test::Fail;
 
-pub(crate) type Tried = FileDisk<RealCalls<HostRuntime, Brand>>;
+type Tried = FileDisk<RealCalls<HostRuntime, Brand>>;
 
-pub(crate) fn disk(rt: &HostRuntime, a: &str, b: &str) -> Result<Tried, Fail> {
+fn disk(rt: &HostRuntime, a: &str, b: &str) -> Result<Tried, Fail> {
     let a = String::from_str(rt.alloc(), a)?;
     let b = String::from_str(rt.alloc(), b)?;
     Ok(FileDisk::new(RealCalls::new(rt.clone()?, a, b)))
