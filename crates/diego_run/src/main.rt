@@ -2,15 +2,14 @@
 //! folder.
 #![tactic(auto)]
 
-ghost use Rattle.std.specs.Prelude.{◌≡◌, codes, string_bytes, IfOk};
-
+mod places;
 mod streams;
 mod words;
 
 use byte_ports::{OpenGate, StdSink, StdSource};
 use diego_engine::{TopEnd, diego_top};
 use real_files::{FileDisk, RealCalls};
-use std::alloc::{AllocError, Global};
+use std::alloc::AllocError;
 use std::env::Env;
 use std::io;
 use std::marker::Brand;
@@ -23,20 +22,11 @@ const OUT_OF_MEMORY: u8 = 7;
 /// The status where a standard stream is closed and can't be held. No file is touched.
 const NO_STREAM: u8 = 4;
 
-/// The names of the files of area A and of area B.
-fn file_names(alloc: Global) -> Result<(String, String), AllocError>
-    ensures a { IfOk result (λ names. string_bytes names.0 ≡ codes "board.a") }
-    ensures b { IfOk result (λ names. string_bytes names.1 ≡ codes "board.b") }
-{
-    let a = String::from_str(alloc, "board.a")?;
-    let b = String::from_str(alloc, "board.b")?;
-    Ok((a, b))
-}
-
 /// The words, and the names of the files.
 fn asked<R: Env + AllocGlobal>(rt: &R) -> Result<(Vec<String>, String, String), AllocError> {
     let words = words::words(rt)?;
-    let (a, b) = file_names(rt.alloc())?;
+    let folder = places::folder(rt)?;
+    let (a, b) = places::file_names(rt.alloc(), folder.as_str())?;
     Ok((words, a, b))
 }
 

@@ -12,4 +12,6 @@ pub use file_calls::FileDisk;
 pub use real_calls::RealCalls;
 
 #[cfg(test)]
+mod move_tests;
+#[cfg(test)]
 mod tests;

@@ -15,7 +15,7 @@ fn disk(rt: &HostRuntime, a: &str, b: &str) -> Result<Tried, Fail> {
 }
 
 // A folder of the test's own, which isn't there yet.
-fn folder(rt: &HostRuntime, test: &str) -> Result<String, Fail> {
+pub(crate) fn folder(rt: &HostRuntime, test: &str) -> Result<String, Fail> {
     let all = std::env::temp_dir(rt)?;
     let id = std::process::id(rt.process());
     Ok(format!(in rt.alloc(); "{}/real_files_{id}_{test}", all.as_str())?)
