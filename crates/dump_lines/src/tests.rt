@@ -476,44 +476,91 @@ const DESIRED: &str =
 const ACTUAL: &str =
     r#"{"process_guid":"web","index":2,"domain":"cf-apps","instance_guid":"web-2","cell_id":"c3","state":"Claimed","since":1700000000000000000,"presence":"Evacuating","crash_count":0}"#;
 
-fn rows_are_read(alloc: Global) -> [bool; 4] {
-    let listed = match read_dump_line(alloc, LISTED.as_bytes()) {
-        Ok(DumpLine::Listed(place)) => {
-            place.cell.as_str() == "c3" && place.zone.as_str() == "z2"
-        }
+fn listed_is_read(alloc: Global) -> bool {
+    match read_dump_line(alloc, LISTED.as_bytes()) {
+        Ok(line) => listed_is_told(&line),
+        Err(_) => false,
+    }
+}
+
+fn listed_is_told(line: &DumpLine) -> bool {
+    match line {
+        DumpLine::Listed(place) => is_the_place(place),
         _ => false,
-    };
-    let task = match read_dump_line(alloc, TASK.as_bytes()) {
-        Ok(DumpLine::Task(row)) => {
-            row.task.as_str() == "t9" && row.waits && asks_for(&row.demand, 128, 512, "gpu")
-        }
+    }
+}
+
+fn is_the_place(place: &Place) -> bool {
+    place.cell.as_str() == "c3" && place.zone.as_str() == "z2"
+}
+
+fn task_is_read(alloc: Global) -> bool {
+    match read_dump_line(alloc, TASK.as_bytes()) {
+        Ok(line) => task_is_told(&line),
+        Err(_) => false,
+    }
+}
+
+fn task_is_told(line: &DumpLine) -> bool {
+    match line {
+        DumpLine::Task(row) => is_the_task(row),
         _ => false,
-    };
-    let desired = match read_dump_line(alloc, DESIRED.as_bytes()) {
-        Ok(DumpLine::Desired(row)) => {
-            row.process.as_str() == "web"
-                && row.instances == 3
-                && asks_for(&row.demand, 256, 1024, "iso")
-                && row.has_volume_drivers
-        }
+    }
+}
+
+fn is_the_task(row: &TaskRow) -> bool {
+    row.task.as_str() == "t9" && row.waits && asks_for(&row.demand, 128, 512, "gpu")
+}
+
+fn desired_is_read(alloc: Global) -> bool {
+    match read_dump_line(alloc, DESIRED.as_bytes()) {
+        Ok(line) => desired_is_told(&line),
+        Err(_) => false,
+    }
+}
+
+fn desired_is_told(line: &DumpLine) -> bool {
+    match line {
+        DumpLine::Desired(row) => is_the_desired(row),
         _ => false,
-    };
-    let actual = match read_dump_line(alloc, ACTUAL.as_bytes()) {
-        Ok(DumpLine::Actual(row)) => {
-            row.instance.process.as_str() == "web"
-                && row.instance.index == 2
-                && row.state == RowState::Claimed
-                && !row.ordinary
-                && is_name(row.cell, "c3")
-        }
+    }
+}
+
+fn is_the_desired(row: &DesiredRow) -> bool {
+    row.process.as_str() == "web"
+        && row.instances == 3
+        && asks_for(&row.demand, 256, 1024, "iso")
+        && row.has_volume_drivers
+}
+
+fn actual_is_read(alloc: Global) -> bool {
+    match read_dump_line(alloc, ACTUAL.as_bytes()) {
+        Ok(line) => actual_is_told(&line),
+        Err(_) => false,
+    }
+}
+
+fn actual_is_told(line: &DumpLine) -> bool {
+    match line {
+        DumpLine::Actual(row) => is_the_actual(row),
         _ => false,
-    };
-    [listed, task, desired, actual]
+    }
+}
+
+fn is_the_actual(row: &ActualRow) -> bool {
+    row.instance.process.as_str() == "web"
+        && row.instance.index == 2
+        && row.state == RowState::Claimed
+        && !row.ordinary
+        && is_name(row.cell, "c3")
 }
 
 #[test]
 fn rows_tell_what_they_say(rt: HostRuntime) -> Result<(), Fail> {
-    assert_eq!(rt; rows_are_read(rt.alloc()), [true; 4]);
+    assert!(rt; listed_is_read(rt.alloc()));
+    assert!(rt; task_is_read(rt.alloc()));
+    assert!(rt; desired_is_read(rt.alloc()));
+    assert!(rt; actual_is_read(rt.alloc()));
     Ok(())
 }
 
@@ -528,15 +575,18 @@ fn is_name_list(names: &[Name], texts: &[&str]) -> bool {
 fn fit_is_new(alloc: Global) -> bool {
     let line = r#"{"ask":"fit","instances":5,"memory":300,"disk":100}"#;
     match read_dump_line(alloc, line.as_bytes()) {
-        Ok(
-            DumpLine::Asks(
-                Question::Fit {
-                    process,
-                    instances,
-                    demand,
-                },
-            ),
-        ) => process.as_str() == "new" && instances == 5 && asks_for(&demand, 300, 100, ""),
+        Ok(DumpLine::Asks(question)) => is_new_fit(&question),
+        _ => false,
+    }
+}
+
+fn is_new_fit(question: &Question) -> bool {
+    match question {
+        Question::Fit {
+            process,
+            instances,
+            demand,
+        } => process.as_str() == "new" && *instances == 5 && asks_for(demand, 300, 100, ""),
         _ => false,
     }
 }
@@ -544,14 +594,21 @@ fn fit_is_new(alloc: Global) -> bool {
 fn turns_are_given(alloc: Global) -> bool {
     let line = r#"{"ask":"lose_in_turn","order":"given","cells":["c2","c1"]}"#;
     match read_dump_line(alloc, line.as_bytes()) {
-        Ok(
-            DumpLine::Asks(
-                Question::LoseInTurn {
-                    order: TurnOrder::Given(cells),
-                    at_least,
-                },
-            ),
-        ) => is_name_list(cells.items(), &["c2", "c1"]) && at_least == 1,
+        Ok(DumpLine::Asks(question)) => are_given_turns(&question),
+        _ => false,
+    }
+}
+
+fn are_given_turns(question: &Question) -> bool {
+    match question {
+        Question::LoseInTurn { order, at_least } => is_given(order) && *at_least == 1,
+        _ => false,
+    }
+}
+
+fn is_given(order: &TurnOrder) -> bool {
+    match order {
+        TurnOrder::Given(cells) => is_name_list(cells.items(), &["c2", "c1"]),
         _ => false,
     }
 }
