@@ -6,6 +6,7 @@ pub mod Processes
 pub mod Lrps
 pub mod Tasks
 pub mod Cells
+pub mod Domains
 pub mod Step
 pub mod Store
 pub mod Valid

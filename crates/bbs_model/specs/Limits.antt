@@ -13,7 +13,7 @@ most_instances = 1000
 abbrev pub most_wanted : ℕ
 most_wanted = 50000
 
--- the most actual rows, ORDINARY and EVACUATING
+-- the most actual rows, of all three presences
 abbrev pub most_actual : ℕ
 most_actual = 100000
 
@@ -25,6 +25,10 @@ most_tasks = 50000
 abbrev pub most_cells : ℕ
 most_cells = 1000
 
+-- the most domains
+abbrev pub most_domains : ℕ
+most_domains = 1000
+
 -- the most transitions in a board's life
 abbrev pub most_transitions : ℕ
-most_transitions = 1000000
+most_transitions = 1099511627776

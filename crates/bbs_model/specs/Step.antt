@@ -4,11 +4,12 @@ use Rattle.crash_backoff.specs.declared.moment.Moment.{Moment}
 use Rattle.lrp_records.specs.declared.lrp_move.LrpMove.TheVariants as lrp
 use Rattle.task_records.specs.declared.move_kind.TaskMove.TheVariants as task
 use Rattle.bbs_model.specs.Cells.{join, renew, drain, vanish}
+use Rattle.bbs_model.specs.Domains.{fresh, forget}
 use Rattle.bbs_model.specs.Found.{found_by}
 use Rattle.bbs_model.specs.Limits.{most_transitions}
-use Rattle.bbs_model.specs.Lrps.{make, move_lrp, move_lrp_by_cell, evacuate, drop_evacuating}
+use Rattle.bbs_model.specs.Lrps.{make, move_lrp, move_lrp_by_cell, evacuate, drop_evacuating, suspect, drop_suspect}
 use Rattle.bbs_model.specs.Processes.{desire, update, undesire}
-use Rattle.bbs_model.specs.Tables.{find_desired, find_actual, find_task, find_cell, put_desired, put_actual, put_task, put_cell, without_desired, without_actual, without_task, without_cell}
+use Rattle.bbs_model.specs.Tables.{find_desired, find_actual, find_task, find_cell, find_domain, put_desired, put_actual, put_task, put_cell, put_domain, without_desired, without_actual, without_task, without_cell, without_domain}
 use Rattle.bbs_model.specs.Tasks.{new_task, move_task, move_task_by_cell}
 use Rattle.bbs_model.specs.declared.attempt.Attempt.{Attempt}
 use Rattle.bbs_model.specs.declared.attempt.Attempt.TheVariants.{Refuse, Keep, Change}
@@ -55,6 +56,10 @@ attempt_at found now (op.Join cell zone tag totals ttl) = join found cell zone t
 attempt_at found now (op.Renew cell epoch ttl) = renew found epoch ttl now
 attempt_at found now (op.Drain cell epoch) = drain found epoch
 attempt_at found now (op.Vanish cell) = vanish found.cell now
+attempt_at found now (op.Fresh domain ttl) = fresh found domain ttl now
+attempt_at found now (op.Forget domain) = forget found now
+attempt_at found now (op.Suspect key instance) = suspect found instance now
+attempt_at found now (op.DropSuspect key instance) = drop_suspect found instance
 
 -- what a command comes to on a board, were its life not at its end
 abbrev pub attempt_of : Rows → Command → Attempt
@@ -81,6 +86,7 @@ with_row rows (row.Desired d) = put_desired rows d
 with_row rows (row.Actual a) = put_actual rows a
 with_row rows (row.Task t) = put_task rows t
 with_row rows (row.Cell c) = put_cell rows c
+with_row rows (row.Domain d) = put_domain rows d
 
 -- the rows without one in the place of this
 abbrev pub without_place_of : Rows → Row → Rows
@@ -88,6 +94,7 @@ without_place_of rows (row.Desired d) = without_desired rows d.process
 without_place_of rows (row.Actual a) = without_actual rows a.key a.presence
 without_place_of rows (row.Task t) = without_task rows t.name
 without_place_of rows (row.Cell c) = without_cell rows c.cell
+without_place_of rows (row.Domain d) = without_domain rows d.domain
 
 -- the rows after an edit
 abbrev pub edited : Rows → Edit → Rows
@@ -119,6 +126,7 @@ has_place_of rows (row.Desired d) = is_some (find_desired rows d.process)
 has_place_of rows (row.Actual a) = is_some (find_actual rows a.key a.presence)
 has_place_of rows (row.Task t) = is_some (find_task rows t.name)
 has_place_of rows (row.Cell c) = is_some (find_cell rows c.cell)
+has_place_of rows (row.Domain d) = is_some (find_domain rows d.domain)
 
 -- what an edit does to a row: the row after it, or the one that it takes away
 abbrev pub event_of : Rows → Edit → Event

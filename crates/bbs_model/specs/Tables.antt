@@ -10,6 +10,7 @@ use Rattle.lrp_records.specs.declared.presence.Presence.{Presence}
 use Rattle.row_tables.specs.Table.{find_row, put_row, without_row}
 use Rattle.task_records.specs.declared.task.Task.{Task}
 use Rattle.bbs_model.specs.declared.counts.Counts.{Counts}
+use Rattle.bbs_model.specs.declared.domain_row.DomainRow.{DomainRow}
 use Rattle.bbs_model.specs.declared.rows.Rows.{Rows}
 
 -- what desired rows are ordered by
@@ -23,6 +24,10 @@ task_name_of row = row.name
 -- what cells are ordered by
 abbrev pub cell_name_of : CellRow → List ℕ
 cell_name_of row = row.cell
+
+-- what domains are ordered by
+abbrev pub domain_name_of : DomainRow → List ℕ
+domain_name_of row = row.domain
 
 -- the row of a process, where it is desired
 abbrev pub find_desired : Rows → List ℕ → Option Desired
@@ -40,6 +45,10 @@ find_task rows name = find_row name_order task_name_of name rows.tasks
 abbrev pub find_cell : Rows → List ℕ → Option CellRow
 find_cell rows cell = find_row name_order cell_name_of cell rows.cells
 
+-- the row of a domain
+abbrev pub find_domain : Rows → List ℕ → Option DomainRow
+find_domain rows domain = find_row name_order domain_name_of domain rows.domains
+
 -- the board with this row in the place of its process
 abbrev pub put_desired : Rows → Desired → Rows
 put_desired rows row = record rows { desired = put_row name_order process_of row rows.desired }
@@ -55,6 +64,10 @@ put_task rows row = record rows { tasks = put_row name_order task_name_of row ro
 -- the board with this row in the place of its cell
 abbrev pub put_cell : Rows → CellRow → Rows
 put_cell rows row = record rows { cells = put_row name_order cell_name_of row rows.cells }
+
+-- the board with this row in the place of its domain
+abbrev pub put_domain : Rows → DomainRow → Rows
+put_domain rows row = record rows { domains = put_row name_order domain_name_of row rows.domains }
 
 -- the board without a row of the process
 abbrev pub without_desired : Rows → List ℕ → Rows
@@ -73,6 +86,10 @@ without_task rows name = record rows { tasks = without_row name_order task_name_
 abbrev pub without_cell : Rows → List ℕ → Rows
 without_cell rows cell = record rows { cells = without_row name_order cell_name_of cell rows.cells }
 
+-- the board without a row of the domain
+abbrev pub without_domain : Rows → List ℕ → Rows
+without_domain rows domain = record rows { domains = without_row name_order domain_name_of domain rows.domains }
+
 -- the instances that all processes want together
 abbrev pub wanted : Rows → ℕ
 wanted rows = sum_by (λ (d : Desired). d.instances) rows.desired
@@ -85,8 +102,9 @@ counts_of rows = record {
   actual = length rows.actual;
   tasks = length rows.tasks;
   cells = length rows.cells;
+  domains = length rows.domains;
 }
 
 -- a board of no rows and no transitions
 abbrev pub no_rows : Rows
-no_rows = record { desired = []; actual = []; tasks = []; cells = []; next = 0 }
+no_rows = record { desired = []; actual = []; tasks = []; cells = []; domains = []; next = 0 }

@@ -9,14 +9,15 @@ use Rattle.lrp_records.specs.States.{holder_of}
 use Rattle.lrp_records.specs.declared.actual.Actual.{Actual}
 use Rattle.lrp_records.specs.declared.desired.Desired.{Desired}
 use Rattle.lrp_records.specs.declared.presence.Presence.{Presence}
-use Rattle.lrp_records.specs.declared.presence.Presence.TheVariants.{Ordinary, Evacuating}
+use Rattle.lrp_records.specs.declared.presence.Presence.TheVariants.{Ordinary, Evacuating, Suspect}
 use Rattle.lrp_records.specs.declared.state.LrpState.{LrpState}
 use Rattle.lrp_records.specs.declared.state.LrpState.TheVariants as lrp
 use Rattle.row_tables.specs.Table.{IsRising}
 use Rattle.task_records.specs.States.{runner_of}
 use Rattle.task_records.specs.declared.task.Task.{Task}
-use Rattle.bbs_model.specs.Limits.{most_processes, most_instances, most_wanted, most_actual, most_tasks, most_cells, most_transitions}
-use Rattle.bbs_model.specs.Tables.{process_of, task_name_of, cell_name_of}
+use Rattle.bbs_model.specs.Limits.{most_processes, most_instances, most_wanted, most_actual, most_tasks, most_cells, most_domains, most_transitions}
+use Rattle.bbs_model.specs.Tables.{process_of, task_name_of, cell_name_of, domain_name_of}
+use Rattle.bbs_model.specs.declared.domain_row.DomainRow.{DomainRow}
 use Rattle.bbs_model.specs.declared.rows.Rows.{Rows}
 
 -- the process has no more instances than one may have
@@ -42,10 +43,11 @@ IsRunning (lrp.Claimed instance cell) = ⊥
 IsRunning (lrp.Running instance cell) = Unit {0}
 IsRunning lrp.Crashed = ⊥
 
--- an EVACUATING row is RUNNING, and has no error
+-- an EVACUATING or SUSPECT row is RUNNING, and has no error
 abbrev pub SuitsPresence : Presence → Actual → Type 0
 SuitsPresence Ordinary row = Unit {0}
 SuitsPresence Evacuating row = IsRunning row.state × (row.error ≡ false)
+SuitsPresence Suspect row = IsRunning row.state × (row.error ≡ false)
 
 -- an actual row of a board with so many transitions
 pub record IsActualRow (next : ℕ) (row : Actual) : Type 0 where
@@ -81,6 +83,11 @@ pub record AreCells (next : ℕ) (rows : List CellRow) : Type 0 where
   pub each : AllByRecursion (HasJoined next) rows
   pub epochs : IsDistinct nat_eq (map (λ (c : CellRow). c.epoch) rows)
 
+-- the domains of a board
+pub record AreDomains (rows : List DomainRow) : Type 0 where
+  pub rising : IsRising name_order domain_name_of rows
+  pub few : length rows ≤ most_domains
+
 -- the rows are those of a board: the keys of each table rise, the limits hold, and epochs and births
 -- are of its own past
 pub record IsValid (rows : Rows) : Type 0 where
@@ -88,4 +95,5 @@ pub record IsValid (rows : Rows) : Type 0 where
   pub actual : AreActual rows.next rows.actual
   pub tasks : AreTasks rows.next rows.tasks
   pub cells : AreCells rows.next rows.cells
+  pub domains : AreDomains rows.domains
   pub next : rows.next ≤ most_transitions

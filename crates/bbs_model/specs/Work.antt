@@ -13,7 +13,7 @@ use Rattle.lrp_records.specs.States.{holder_of}
 use Rattle.lrp_records.specs.declared.actual.Actual.{Actual}
 use Rattle.lrp_records.specs.declared.desired.Desired.{Desired}
 use Rattle.lrp_records.specs.declared.presence.Presence.{Presence}
-use Rattle.lrp_records.specs.declared.presence.Presence.TheVariants.{Ordinary, Evacuating}
+use Rattle.lrp_records.specs.declared.presence.Presence.TheVariants.{Ordinary, Evacuating, Suspect}
 use Rattle.lrp_records.specs.declared.state.LrpState.{LrpState}
 use Rattle.lrp_records.specs.declared.state.LrpState.TheVariants as lrp
 use Rattle.row_tables.specs.Table.{table}
@@ -124,6 +124,7 @@ task_work rows now t = asked_of_task rows now t t.state
 abbrev pub row_work : Rows → Moment → Key → Presence → Option Op
 row_work rows now key Ordinary = ordinary_work rows now key (find_actual rows key Ordinary)
 row_work rows now key Evacuating = evacuating_work rows now key (find_actual rows key Evacuating)
+row_work rows now key Suspect = None
 
 -- what is asked of a place among the actual rows
 abbrev pub place_work : Rows → Moment → Key × Presence → Option Op

@@ -8,13 +8,15 @@ ghost use Rattle.bbs_model.specs.Step.{attempt_at as told_at, judged};
 use crate::{Attempt, BoardRefusal, Command, Edit, Found, MOST_TRANSITIONS, Op, Row, Verdict};
 use cell_records::CellRow;
 use cells::{drain, join, renew, vanish};
+use domains::{forget, fresh};
 use lrp_records::LrpMove;
-use lrps::{drop_evacuating, evacuate, make, move_lrp, move_lrp_by_cell};
+use lrps::{drop_evacuating, drop_suspect, evacuate, make, move_lrp, move_lrp_by_cell, suspect};
 use processes::{desire, undesire, update};
 use task_records::TaskMove;
 use tasks::{move_task, move_task_by_cell, new_task};
 
 mod cells;
+mod domains;
 mod lrps;
 mod processes;
 mod tasks;
@@ -44,6 +46,9 @@ pub fn attempt_at(found: &Found, command: &Command) -> Attempt
         Op::Renew { epoch, ttl, .. } => renew(found, epoch, ttl, now),
         Op::Drain { epoch, .. } => drain(found, epoch),
         Op::Vanish { .. } => vanish(found, now),
+        Op::Fresh { domain, ttl } => fresh(found, domain, ttl, now),
+        Op::Forget { .. } => forget(found, now),
+        Op::DropSuspect { instance, .. } => drop_suspect(found, instance),
         Op::NewTask { .. }
         | Op::StartTask { .. }
         | Op::CompleteTask { .. }
@@ -78,6 +83,7 @@ fn on_instance(found: &Found, command: &Command) -> Attempt
         Op::Remove { instance, .. } => move_lrp(found, &LrpMove::Remove { instance }, now),
         Op::PlaceFail { .. } => move_lrp(found, &LrpMove::PlaceFail, now),
         Op::Evacuate { instance, .. } => evacuate(found, instance, now),
+        Op::Suspect { instance, .. } => suspect(found, instance, now),
         _ => unreachable!(),
     }
 }

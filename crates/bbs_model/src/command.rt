@@ -142,4 +142,25 @@ pub enum Op {
     Vanish {
         cell: Name,
     },
+    /// A client vouches for its list of processes in a domain, for `ttl` seconds, or for ever where
+    /// that is 0.
+    Fresh {
+        domain: Name,
+        ttl: u32,
+    },
+    /// A domain that isn't fresh any more is dropped.
+    Forget {
+        domain: Name,
+    },
+    /// A cell has gone silent: its running instance is kept in a SUSPECT row, and the ORDINARY row is
+    /// placed anew.
+    Suspect {
+        key: Key,
+        instance: Instance,
+    },
+    /// A SUSPECT row is dropped.
+    DropSuspect {
+        key: Key,
+        instance: Instance,
+    },
 }

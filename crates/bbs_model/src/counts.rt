@@ -5,8 +5,9 @@ pub struct Counts {
     pub desired: u32,
     /// The instances that all processes want together.
     pub wanted: u32,
-    /// Actual rows, ORDINARY and EVACUATING.
+    /// Actual rows, of all three presences.
     pub actual: u32,
     pub tasks: u32,
     pub cells: u32,
+    pub domains: u32,
 }

@@ -1,3 +1,4 @@
+use crate::DomainRow;
 use cell_records::CellRow;
 use lrp_records::{Actual, Desired};
 use task_records::Task;
@@ -11,6 +12,7 @@ pub enum Row {
     Actual(Actual),
     Task(Task),
     Cell(CellRow),
+    Domain(DomainRow),
 }
 
 /// What became of a row.
@@ -33,7 +35,8 @@ pub struct Event {
     pub row: Row,
 }
 
-/// The changes that one transition makes: one, or two where an instance evacuates.
+/// The changes that one transition makes: one, or two where an instance evacuates or
+/// is suspected.
 #[derive(Clone, Copy, Debug, PartialEq, Eq)]
 pub struct Events {
     pub first: Event,

@@ -1,9 +1,10 @@
 //! The keys that a command names: what the board has there is all that its step depends on.
 ghost use Rattle.std.specs.Prelude.{◌≡◌};
-ghost use Rattle.bbs_model.specs.Found.{process_in, key_in, evacuating_in, task_in, cell_in};
+ghost use Rattle.bbs_model.specs.Found.{process_in, key_in, evacuating_in, suspect_in, task_in, cell_in, looked_cell, domain_in};
 
 use crate::Op;
 use diego_names::{Key, Name};
+use lrp_records::Actual;
 
 impl Op {
     /// The process that it speaks of, where its step depends on whether that is desired.
@@ -26,7 +27,7 @@ impl Op {
             Op::Make { key } | Op::Restart { key } | Op::PlaceFail { key } => Some(key),
             Op::Claim { key, .. } | Op::Start { key, .. } | Op::Crash { key, .. } => Some(key),
             Op::Unclaim { key, .. } | Op::Remove { key, .. } => Some(key),
-            Op::Evacuate { key, .. } => Some(key),
+            Op::Evacuate { key, .. } | Op::Suspect { key, .. } => Some(key),
             _ => None,
         }
     }
@@ -37,6 +38,16 @@ impl Op {
     {
         match *self {
             Op::Evacuate { key, .. } | Op::DropEvacuating { key, .. } => Some(key),
+            _ => None,
+        }
+    }
+
+    /// The instance whose SUSPECT row it speaks of.
+    pub fn suspect(&self) -> Option<Key>
+        ensures { result ≡ suspect_in self.now }
+    {
+        match *self {
+            Op::Suspect { key, .. } | Op::DropSuspect { key, .. } => Some(key),
             _ => None,
         }
     }
@@ -62,6 +73,28 @@ impl Op {
             Op::Claim { cell, .. } | Op::Start { cell, .. } => Some(cell),
             Op::StartTask { cell, .. } | Op::Join { cell, .. } => Some(cell),
             Op::Renew { cell, .. } | Op::Drain { cell, .. } | Op::Vanish { cell } => Some(cell),
+            _ => None,
+        }
+    }
+
+    /// The cell whose row its step looks at: the one that it names, or that of the ORDINARY row that it
+    /// suspects.
+    pub fn looked_cell(&self, ordinary: &Option<Actual>) -> Option<Name>
+        ensures { result ≡ looked_cell self.now ordinary.now }
+    {
+        match (self, ordinary) {
+            (Op::Suspect { .. }, None) => None,
+            (Op::Suspect { .. }, Some(row)) => row.state.cell(),
+            (_, _) => self.cell(),
+        }
+    }
+
+    /// The domain that it names.
+    pub fn domain(&self) -> Option<Name>
+        ensures { result ≡ domain_in self.now }
+    {
+        match *self {
+            Op::Fresh { domain, .. } | Op::Forget { domain } => Some(domain),
             _ => None,
         }
     }

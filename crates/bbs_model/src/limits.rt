@@ -9,7 +9,7 @@ pub const MOST_INSTANCES: u32 = 1_000;
 /// The most instances that all processes want together.
 pub const MOST_WANTED: u32 = 50_000;
 
-/// The most actual rows, ORDINARY and EVACUATING.
+/// The most actual rows, of all three presences.
 pub const MOST_ACTUAL: u32 = 100_000;
 
 /// The most tasks.
@@ -18,5 +18,8 @@ pub const MOST_TASKS: u32 = 50_000;
 /// The most cells.
 pub const MOST_CELLS: u32 = 1_000;
 
+/// The most domains.
+pub const MOST_DOMAINS: u32 = 1_000;
+
 /// The most transitions in a board's life.
-pub const MOST_TRANSITIONS: u64 = 1_000_000;
+pub const MOST_TRANSITIONS: u64 = 1_099_511_627_776;

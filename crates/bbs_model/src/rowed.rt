@@ -4,8 +4,9 @@ ghost use Rattle.diego_names.proofs.Public.{IsKeyOrder-name_order};
 ghost use Rattle.lrp_records.specs.Place.{place_of};
 ghost use Rattle.lrp_records.proofs.Public.{IsKeyOrder-place_order};
 ghost use Rattle.row_tables.specs.Table.{IsKeyOrder};
-ghost use Rattle.bbs_model.specs.Tables.{process_of, task_name_of, cell_name_of};
+ghost use Rattle.bbs_model.specs.Tables.{process_of, task_name_of, cell_name_of, domain_name_of};
 
+use crate::DomainRow;
 use cell_records::CellRow;
 use diego_names::{Key, Name};
 use lrp_records::{Actual, Desired, Presence};
@@ -72,6 +73,18 @@ impl Rowed for CellRow {
 
     fn key(&self) -> Name {
         self.cell
+    }
+}
+
+impl Rowed for DomainRow {
+    type Key = Name;
+
+    ghost key = { domain_name_of };
+
+    ghost ordered = { IsKeyOrder-name_order };
+
+    fn key(&self) -> Name {
+        self.domain
     }
 }
 

@@ -2,17 +2,17 @@
 ghost use Rattle.std.specs.Prelude.{◌≡◌, ℕ, ◌+◌, ◌≤◌, ◌<◌, ◌^◌, OnOk, IsOk};
 ghost use Rattle.bbs_model.specs.Step.{advanced};
 ghost use Rattle.bbs_model.specs.Store.{HasRoom, TakesRoom};
-ghost use Rattle.bbs_model.specs.Tables.{find_desired, find_actual, find_task, find_cell, counts_of, wanted, put_desired, put_actual, put_task, put_cell, without_desired, without_actual, without_task, without_cell};
+ghost use Rattle.bbs_model.specs.Tables.{find_desired, find_actual, find_task, find_cell, find_domain, counts_of, wanted, put_desired, put_actual, put_task, put_cell, put_domain, without_desired, without_actual, without_task, without_cell, without_domain};
 ghost use Rattle.bbs_model.specs.Valid.{IsValid};
 ghost use Rattle.bbs_model.specs.declared.rows.Rows.{Rows};
 
-use crate::Counts;
+use crate::{Counts, DomainRow};
 use cell_records::CellRow;
 use diego_names::{Key, Name, OutOfMemory};
 use lrp_records::{Actual, Desired, Presence};
 use task_records::Task;
 
-/// The rows of the four tables, changed in place. Room for new rows is made by `reserve`, which alone
+/// The rows of the five tables, changed in place. Room for new rows is made by `reserve`, which alone
 /// takes memory; clauses see it as a number, of rows with new keys that may be put.
 pub trait RowStore {
     // The rows that the store has.
@@ -36,6 +36,10 @@ pub trait RowStore {
     /// The row of a cell.
     fn cell(&self, cell: &Name) -> Option<CellRow>
         ensures { result ≡ find_cell (state self.now) cell.now };
+
+    /// The row of a domain.
+    fn domain(&self, domain: &Name) -> Option<DomainRow>
+        ensures { result ≡ find_domain (state self.now) domain.now };
 
     /// How many rows there are.
     fn counts(&self) -> Counts
@@ -81,6 +85,13 @@ pub trait RowStore {
         ensures spare { TakesRoom (find_cell (state self.old) row.cell)
             (spare self.old) (spare self.new) };
 
+    /// Puts a row in the place of its domain.
+    fn put_domain(&mut self, row: DomainRow)
+        requires { HasRoom (find_domain (state self.old) row.domain) (spare self.old) }
+        ensures state { state self.new ≡ put_domain (state self.old) row }
+        ensures spare { TakesRoom (find_domain (state self.old) row.domain)
+            (spare self.old) (spare self.new) };
+
     /// Takes the row of a process away, if there is one.
     fn remove_desired(&mut self, process: &Name)
         ensures state { state self.new ≡ without_desired (state self.old) process.now }
@@ -99,6 +110,11 @@ pub trait RowStore {
     /// Takes the row of a cell away, if there is one.
     fn remove_cell(&mut self, cell: &Name)
         ensures state { state self.new ≡ without_cell (state self.old) cell.now }
+        ensures spare { spare self.old ≤ spare self.new };
+
+    /// Takes the row of a domain away, if there is one.
+    fn remove_domain(&mut self, domain: &Name)
+        ensures state { state self.new ≡ without_domain (state self.old) domain.now }
         ensures spare { spare self.old ≤ spare self.new };
 
     /// Makes room for `n` rows with new keys. It fails only for want of memory, and then the rows

@@ -24,9 +24,9 @@ pub enum BoardRefusal {
     },
     /// The board has made as many transitions as it may make in its life.
     BoardFull,
-    /// The cell's lease has not ended.
+    /// A lease has not ended: that of a cell, or of the word that vouches for a domain.
     LeaseHolds {
-        /// The second at which it ends.
+        /// The second at which it ends; 2^64 - 1 for one that never ends.
         until: u64,
     },
     /// The instance's row refuses the move.

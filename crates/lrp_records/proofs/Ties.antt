@@ -10,7 +10,7 @@ use Rattle.row_tables.specs.Table.{IsKeyOrder}
 use Rattle.diego_names.proofs.Public.{IsKeyOrder-key_order}
 use Rattle.lrp_records.specs.Place.{place_order}
 use Rattle.lrp_records.specs.Presence.{rank_of, presence_order}
-use Rattle.lrp_records.specs.declared.presence.Presence.TheVariants.{Ordinary, Evacuating}
+use Rattle.lrp_records.specs.declared.presence.Presence.TheVariants.{Ordinary, Evacuating, Suspect}
 
 -- where one order and then another tie, both do
 both_tie : (a b : Ordering) → ordering_then a b ≡ Equal → (a ≡ Equal) × (b ≡ Equal)
@@ -21,8 +21,13 @@ both_tie Greater b e = absurd cc
 presence_order-exact : IsAntisymmetric presence_order
 presence_order-exact Ordinary Ordinary e = refl
 presence_order-exact Ordinary Evacuating e = cc
+presence_order-exact Ordinary Suspect e = cc
 presence_order-exact Evacuating Ordinary e = cc
 presence_order-exact Evacuating Evacuating e = refl
+presence_order-exact Evacuating Suspect e = cc
+presence_order-exact Suspect Ordinary e = cc
+presence_order-exact Suspect Evacuating e = cc
+presence_order-exact Suspect Suspect e = refl
 
 pub IsKeyOrder-presence_order : IsKeyOrder presence_order
 IsKeyOrder-presence_order = record { total = on_total rank_of nat_cmp_total; exact = presence_order-exact }

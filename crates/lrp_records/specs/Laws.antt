@@ -18,6 +18,13 @@ KeepsPlace row Gone = Unit {0}
 KeepsPlace row Same = Unit {0}
 KeepsPlace row (Refused refusal) = Unit {0}
 
+-- a changed row keeps its domain
+abbrev pub KeepsDomain : Actual → MoveEnd → Type 0
+KeepsDomain row (Changed new) = new.domain ≡ row.domain
+KeepsDomain row Gone = Unit {0}
+KeepsDomain row Same = Unit {0}
+KeepsDomain row (Refused refusal) = Unit {0}
+
 -- a crashed row changes by a restart alone, to UNCLAIMED, and so never straight to a container
 pub record ByRestart (asked : LrpMove) (new : Actual) : Type 0 where
   pub move : asked ≡ Restart

@@ -4,7 +4,7 @@ ghost use Rattle.lrp_records.specs.Place.{place_of};
 use crate::presence::Presence;
 use crate::state::LrpState;
 use crash_backoff::Moment;
-use diego_names::Key;
+use diego_names::{Key, Name};
 
 /// What is actual of one instance of a desired process.
 #[derive(Clone, Copy, Debug, PartialEq, Eq)]
@@ -18,6 +18,9 @@ pub struct Actual {
     pub since: Moment,
     /// Whether it could not be placed when that was last tried.
     pub error: bool,
+    /// The domain of its process when the row was made; none where the process was not desired when
+    /// a board of the first format was read.
+    pub domain: Option<Name>,
 }
 
 impl Actual {

@@ -1,7 +1,7 @@
 //! The moves of an instance's ORDINARY row: UNCLAIMED, CLAIMED, RUNNING, and CRASHED for a wait.
 ghost use Rattle.std.specs.Prelude.{◌≡◌};
 ghost use Rattle.lrp_records.specs.Moves as moves;
-ghost use Rattle.lrp_records.specs.Laws.{KeepsPlace, ChangesByRestart, NeverTakesAClaim};
+ghost use Rattle.lrp_records.specs.Laws.{KeepsPlace, KeepsDomain, ChangesByRestart, NeverTakesAClaim};
 ghost use Rattle.lrp_records.specs.declared.state.LrpState.TheVariants.{Crashed};
 
 use crate::actual::Actual;
@@ -17,6 +17,7 @@ use diego_names::Instance;
 pub fn move_of(row: &Actual, mv: &LrpMove, now: Moment) -> MoveEnd
     ensures table { result ≡ moves.lrp_move row.now mv.now now }
     ensures place { KeepsPlace row.now result }
+    ensures domain { KeepsDomain row.now result }
     ensures crashed { row.now.state ≡ Crashed → ChangesByRestart mv.now result }
     ensures claims { NeverTakesAClaim row.now mv.now result }
 {

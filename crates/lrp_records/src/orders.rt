@@ -9,7 +9,7 @@ ghost use Rattle.lrp_records.specs.declared.presence.Presence.{Presence as APres
 use crate::presence::Presence;
 use diego_names::Key;
 
-/// The ORDINARY row comes before the EVACUATING one, and only equal presences tie.
+/// The ORDINARY row comes first, then the EVACUATING one, then the SUSPECT one, and only equal presences tie.
 pub fn presences_are_ordered()
     ensures compared { (a b : APresence) → ⟦<Presence as Ord>⟧.cmp a b ≡ presence_order a b }
     ensures order { IsKeyOrder presence_order }
@@ -43,17 +43,23 @@ mod tests {
             count: 0,
             since: Moment(0),
             error: false,
+            domain: None,
         };
         let second = Actual {
             presence: Presence::Evacuating,
             ..first
         };
         let third = Actual {
+            presence: Presence::Suspect,
+            ..first
+        };
+        let last = Actual {
             key: Key { process, index: 10 },
             ..first
         };
         assert!(rt; first.place() < second.place());
         assert!(rt; second.place() < third.place());
+        assert!(rt; third.place() < last.place());
         Ok(())
     }
 }

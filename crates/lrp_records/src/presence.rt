@@ -9,22 +9,25 @@ ghost use Rattle.std.proofs.Common.{rules};
 use std::cmp::Ordering;
 use std::hash::{Hash, Hasher};
 
-/// Which of an instance's two rows a row is. A cell that is being emptied keeps its instance in an
-/// EVACUATING row, while the ORDINARY row is placed anew. The ORDINARY row comes first.
+/// Which of an instance's three rows a row is. A cell that is being emptied keeps its instance in an
+/// EVACUATING row, and a cell that has gone silent in a SUSPECT row, while the ORDINARY row is placed
+/// anew. The ORDINARY row comes first, and the SUSPECT row last.
 #[derive(Clone, Copy, Debug)]
 pub enum Presence {
     Ordinary,
     Evacuating,
+    Suspect,
 }
 
 impl Presence {
-    /// The place in the order: 0 for ORDINARY, 1 for EVACUATING.
+    /// The place in the order: 0 for ORDINARY, 1 for EVACUATING, 2 for SUSPECT.
     pub fn rank(self) -> u8
         ensures { result ≡ rank_of self }
     {
         match self {
             Presence::Ordinary => 0,
             Presence::Evacuating => 1,
+            Presence::Suspect => 2,
         }
     }
 }
@@ -85,9 +88,11 @@ mod tests {
 
     #[test]
     fn the_ordinary_row_stands_first(rt: HostRuntime) {
-        let rows = (Presence::Ordinary, Presence::Evacuating);
+        let rows = (Presence::Ordinary, Presence::Evacuating, Presence::Suspect);
         assert!(rt; rows.0 < rows.1);
+        assert!(rt; rows.1 < rows.2);
         assert_ne!(rt; rows.0, rows.1);
-        assert_eq!(rt; (rows.0.rank(), rows.1.rank()), (0, 1));
+        assert_ne!(rt; rows.1, rows.2);
+        assert_eq!(rt; (rows.0.rank(), rows.1.rank(), rows.2.rank()), (0, 1, 2));
     }
 }

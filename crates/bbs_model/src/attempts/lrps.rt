@@ -1,14 +1,15 @@
 //! What is asked of the instances of processes.
-ghost use Rattle.std.specs.Prelude.{◌≡◌};
+ghost use Rattle.std.specs.Prelude.{◌≡◌, ◌++◌};
+ghost use Rattle.bbs_model.specs.Attempts.{unless_refused};
 ghost use Rattle.bbs_model.specs.Lrps as told;
 
 use super::{drop_row, if_joined, put, too_many};
 use crate::{Attempt, BoardRefusal, Edit, Found, MOST_ACTUAL, Row};
 use crash_backoff::Moment;
-use diego_names::{Instance, Key};
+use diego_names::{Instance, Key, Name};
 use lrp_records::{Actual, Desired, LrpMove, LrpRefusal, LrpState, MoveEnd, Presence, move_of};
 
-/// A wanted instance gets its ORDINARY row.
+/// A wanted instance gets its ORDINARY row, in the domain of its process.
 pub fn make(found: &Found, key: Key, now: Moment) -> Attempt
     ensures { result ≡ told.make found.now key now }
 {
@@ -21,7 +22,8 @@ pub fn make(found: &Found, key: Key, now: Moment) -> Attempt
     if found.counts.actual >= MOST_ACTUAL {
         return too_many(MOST_ACTUAL);
     }
-    put(Row::Actual(new_row(key, now)))
+    let domain = domain_of(&found.desired);
+    put(Row::Actual(new_row(key, domain, now)))
 }
 
 fn is_wanted(desired: &Option<Desired>, index: u32) -> bool
@@ -33,8 +35,17 @@ fn is_wanted(desired: &Option<Desired>, index: u32) -> bool
     }
 }
 
-fn new_row(key: Key, now: Moment) -> Actual
-    ensures { result ≡ told.new_row key now }
+fn domain_of(desired: &Option<Desired>) -> Option<Name>
+    ensures { result ≡ told.domain_of desired.now }
+{
+    match desired {
+        None => None,
+        Some(desired) => Some(desired.domain),
+    }
+}
+
+fn new_row(key: Key, domain: Option<Name>, now: Moment) -> Actual
+    ensures { result ≡ told.new_row key domain now }
 {
     Actual {
         key,
@@ -43,6 +54,7 @@ fn new_row(key: Key, now: Moment) -> Actual
         count: 0,
         since: now,
         error: false,
+        domain,
     }
 }
 
@@ -77,7 +89,7 @@ fn moved_to(old: &Actual, end: &MoveEnd) -> Attempt
     }
 }
 
-/// An instance that runs is kept in its EVACUATING row, and its ORDINARY row is placed anew.
+/// A cell that is being emptied keeps its instance in an EVACUATING row.
 pub fn evacuate(found: &Found, instance: Instance, now: Moment) -> Attempt
     ensures { result ≡ told.evacuate found.now instance now }
 {
@@ -86,7 +98,9 @@ pub fn evacuate(found: &Found, instance: Instance, now: Moment) -> Attempt
     }
     match found.ordinary {
         None => Attempt::Refuse(BoardRefusal::Unknown),
-        Some(old) if is_running_as(&old.state, instance) => evacuate_row(found, &old, now),
+        Some(old) if is_running_as(&old.state, instance) => {
+            set_aside(Presence::Evacuating, &found.evacuating, found, &old, now)
+        }
         Some(old) => Attempt::Refuse(stays_because(&old.state, instance)),
     }
 }
@@ -95,10 +109,53 @@ pub fn evacuate(found: &Found, instance: Instance, now: Moment) -> Attempt
 pub fn drop_evacuating(found: &Found, instance: Instance) -> Attempt
     ensures { result ≡ told.drop_evacuating found.now instance }
 {
-    match found.evacuating {
+    drop_aside(&found.evacuating, instance)
+}
+
+/// An instance whose cell has gone silent is kept in a SUSPECT row.
+pub fn suspect(found: &Found, instance: Instance, now: Moment) -> Attempt
+    ensures { result ≡ told.suspect found.now instance now }
+{
+    if runs_as(&found.suspect, instance) && !runs_as(&found.ordinary, instance) {
+        return Attempt::Keep;
+    }
+    match found.ordinary {
+        None => Attempt::Refuse(BoardRefusal::Unknown),
+        Some(old) if is_running_as(&old.state, instance) => {
+            suspect_row(found, instance.epoch, &old, now)
+        }
+        Some(old) => Attempt::Refuse(stays_because(&old.state, instance)),
+    }
+}
+
+/// The SUSPECT row of this container is dropped.
+pub fn drop_suspect(found: &Found, instance: Instance) -> Attempt
+    ensures { result ≡ told.drop_suspect found.now instance }
+{
+    drop_aside(&found.suspect, instance)
+}
+
+fn drop_aside(kept: &Option<Actual>, instance: Instance) -> Attempt
+    ensures { result ≡ told.drop_aside kept.now instance }
+{
+    match *kept {
         None => Attempt::Refuse(BoardRefusal::Unknown),
         Some(old) if is_running_as(&old.state, instance) => drop_row(Row::Actual(old)),
         Some(old) => Attempt::Refuse(stays_because(&old.state, instance)),
+    }
+}
+
+/// The row is kept in a SUSPECT one, but where the cell that joined with its epoch holds its lease.
+fn suspect_row(found: &Found, epoch: u64, old: &Actual, now: Moment) -> Attempt
+    ensures { result ≡ unless_refused
+        (told.lease_refusals found.now.cell epoch now ++ told.aside_refusals found.now.suspect found.now)
+        (told.set_aside Presence.Suspect old.now now) }
+{
+    match found.cell {
+        Some(cell) if cell.epoch == epoch && cell.is_present(now) => {
+            Attempt::Refuse(BoardRefusal::LeaseHolds { until: cell.until })
+        }
+        Some(_) | None => set_aside(Presence::Suspect, &found.suspect, found, old, now),
     }
 }
 
@@ -120,14 +177,23 @@ fn runs_as(row: &Option<Actual>, instance: Instance) -> bool
     }
 }
 
-fn evacuate_row(found: &Found, old: &Actual, now: Moment) -> Attempt
-    ensures { result ≡ told.evacuate_row found.now old.now now }
+/// The row is kept with this presence, where `kept` is the one that stands there, and the ORDINARY row
+/// is placed anew.
+fn set_aside(
+    presence: Presence,
+    kept: &Option<Actual>,
+    found: &Found,
+    old: &Actual,
+    now: Moment,
+) -> Attempt
+    ensures { result ≡ unless_refused (told.aside_refusals kept.now found.now)
+        (told.set_aside presence old.now now) }
 {
-    if found.evacuating.is_none() && found.counts.actual >= MOST_ACTUAL {
+    if kept.is_none() && found.counts.actual >= MOST_ACTUAL {
         return too_many(MOST_ACTUAL);
     }
-    let kept = Actual {
-        presence: Presence::Evacuating,
+    let aside = Actual {
+        presence,
         error: false,
         ..*old
     };
@@ -138,7 +204,7 @@ fn evacuate_row(found: &Found, old: &Actual, now: Moment) -> Attempt
         ..*old
     };
     Attempt::Change {
-        first: Edit::Put(Row::Actual(kept)),
+        first: Edit::Put(Row::Actual(aside)),
         second: Some(Edit::Put(Row::Actual(left))),
     }
 }

@@ -26,6 +26,7 @@ fn row(state: LrpState, count: u32, since: u32) -> Result<Actual, NameFault> {
         count,
         since: Moment(since),
         error: true,
+        domain: Some(Name::read(b"apps")?),
     })
 }
 
