@@ -1,8 +1,8 @@
--- What convergence asks of a board at a moment: each cell, each place among the actual rows and each task
--- has at most one command. The seconds are this project's own.
-use Rattle.std.specs.Prelude.{ℕ, ◌+◌, ◌==◌, ◌&&◌, ◌||◌, Bool, false, not, List, ◌++◌, map, nat_le, Option, Some, None, if◌then◌else◌}
+-- What convergence asks of a board at a moment: each cell, each domain, each place among the actual rows and
+-- each task has at most one command. The seconds are this project's own.
+use Rattle.std.specs.Prelude.{ℕ, ◌+◌, ◌==◌, ◌&&◌, ◌||◌, Bool, true, false, not, List, ◌++◌, map, nat_le, Option, Some, None, if◌then◌else◌}
 use Rattle.std.specs.List.{filter_map, flat_map, range_with_len}
-use Rattle.std.specs.Option.{option_map, option_map_or}
+use Rattle.std.specs.Option.{option_and_then, option_map, option_map_or}
 use Rattle.cell_records.specs.Presence.{is_present}
 use Rattle.cell_records.specs.declared.cell_row.CellRow.{CellRow}
 use Rattle.crash_backoff.specs.Backoff.{due_from}
@@ -20,11 +20,13 @@ use Rattle.row_tables.specs.Table.{table}
 use Rattle.task_records.specs.declared.state.TaskState.{TaskState}
 use Rattle.task_records.specs.declared.state.TaskState.TheVariants as task
 use Rattle.task_records.specs.declared.task.Task.{Task}
+use Rattle.bbs_model.specs.Domains.{is_fresh}
 use Rattle.bbs_model.specs.Lrps.{is_wanted}
-use Rattle.bbs_model.specs.Tables.{find_desired, find_actual, find_cell}
+use Rattle.bbs_model.specs.Tables.{find_desired, find_actual, find_cell, find_domain}
 use Rattle.bbs_model.specs.declared.command.Command.{Command}
 use Rattle.bbs_model.specs.declared.command.Op.{Op}
 use Rattle.bbs_model.specs.declared.command.Op.TheVariants as op
+use Rattle.bbs_model.specs.declared.domain_row.DomainRow.{DomainRow}
 use Rattle.bbs_model.specs.declared.rows.Rows.{Rows}
 
 -- the command at this moment
@@ -44,6 +46,18 @@ is_there rows now cell epoch =
 abbrev pub wants : Rows → Key → Bool
 wants rows key = is_wanted (find_desired rows key.process) key.index
 
+-- the domain is fresh: somebody vouches for its list of processes
+abbrev pub fresh_in : Rows → Moment → List ℕ → Bool
+fresh_in rows now domain = is_fresh (find_domain rows domain) now
+
+-- nothing keeps a row that isn't wanted: it has no domain, or one that is fresh
+abbrev pub may_go : Rows → Moment → Actual → Bool
+may_go rows now a = option_map_or (fresh_in rows now) a.domain true
+
+-- the row is to be retired: it isn't wanted, and nothing keeps it
+abbrev pub is_retirable : Rows → Moment → Key → Actual → Bool
+is_retirable rows now key a = not (wants rows key) && may_go rows now a
+
 -- the container of a row's state is on a cell that isn't there
 abbrev pub is_lost : Rows → Moment → LrpState → Bool
 is_lost rows now lrp.Unclaimed = false
@@ -62,13 +76,32 @@ runs_in rows now lrp.Crashed = false
 abbrev pub runs_there : Rows → Moment → Option Actual → Bool
 runs_there rows now row = option_map_or (λ (a : Actual). runs_in rows now a.state) row false
 
+-- the state is RUNNING
+abbrev pub is_running : LrpState → Bool
+is_running lrp.Unclaimed = false
+is_running (lrp.Claimed instance cell) = false
+is_running (lrp.Running instance cell) = true
+is_running lrp.Crashed = false
+
+-- the row is there, and RUNNING
+abbrev pub runs : Option Actual → Bool
+runs row = option_map_or (λ (a : Actual). is_running a.state) row false
+
 -- a cell whose lease has ended is dropped
 abbrev pub cell_work : CellRow → Moment → Option Op
 cell_work c now = asked_if (nat_le c.until now.0) (op.Vanish c.cell)
 
--- the container of a row's state is given back
-abbrev pub unclaim : Key → LrpState → Option Op
-unclaim key state = option_map (op.Unclaim key) (holder_of state)
+-- a domain whose time has ended is dropped
+abbrev pub domain_work : DomainRow → Moment → Option Op
+domain_work d now = option_and_then (λ (until : ℕ). asked_if (nat_le until now.0) (op.Forget d.domain)) d.until
+
+-- the container of a row whose cell isn't there is given back, or suspected where it runs and is wanted
+abbrev pub given_up : Bool → Key → LrpState → Option Op
+given_up wanted key lrp.Unclaimed = None
+given_up wanted key (lrp.Claimed instance cell) = Some (op.Unclaim key instance)
+given_up wanted key (lrp.Running instance cell) =
+    Some (if wanted then op.Suspect key instance else op.Unclaim key instance)
+given_up wanted key lrp.Crashed = None
 
 -- the EVACUATING row of a state's container is dropped
 abbrev pub drop_row_of : Key → LrpState → Option Op
@@ -93,19 +126,44 @@ restart_if_due key a now lrp.Crashed = asked_if (is_due a now) (op.Restart key)
 abbrev pub ordinary_work : Rows → Moment → Key → Option Actual → Option Op
 ordinary_work rows now key None = asked_if (wants rows key) (op.Make key)
 ordinary_work rows now key (Some a) =
-    if not (wants rows key) then Some (op.Remove key (holder_of a.state))
-    else if is_lost rows now a.state then unclaim key a.state
-    else restart_if_due key a now a.state
+    if is_retirable rows now key a then Some (op.Remove key (holder_of a.state))
+    else if is_lost rows now a.state then given_up (wants rows key) key a.state
+    else if wants rows key then restart_if_due key a now a.state
+    else None
 
--- why an EVACUATING row has no use: its instance isn't wanted, is lost, or runs again
+-- why an EVACUATING row has no use: it is to be retired, its instance is lost, or runs again
 abbrev pub is_spent : Rows → Moment → Key → Actual → Bool
 is_spent rows now key a =
-    not (wants rows key) || is_lost rows now a.state || runs_there rows now (find_actual rows key Ordinary)
+    is_retirable rows now key a || is_lost rows now a.state || runs_there rows now (find_actual rows key Ordinary)
 
 -- what is asked of an EVACUATING row
 abbrev pub evacuating_work : Rows → Moment → Key → Option Actual → Option Op
 evacuating_work rows now key None = None
 evacuating_work rows now key (Some a) = if is_spent rows now key a then drop_row_of key a.state else None
+
+-- the cell of a row that is RUNNING has joined anew since
+abbrev pub has_joined_anew : Rows → LrpState → Bool
+has_joined_anew rows lrp.Unclaimed = false
+has_joined_anew rows (lrp.Claimed instance cell) = false
+has_joined_anew rows (lrp.Running instance cell) =
+    option_map_or (λ (c : CellRow). not (c.epoch == instance.epoch)) (find_cell rows cell) false
+has_joined_anew rows lrp.Crashed = false
+
+-- why a SUSPECT row has no use: its instance isn't wanted, runs again, or its cell has joined anew while the
+-- ORDINARY row doesn't run
+abbrev pub is_past : Rows → Moment → Key → Actual → Bool
+is_past rows now key a =
+    not (wants rows key) || runs_there rows now (find_actual rows key Ordinary)
+    || (has_joined_anew rows a.state && not (runs (find_actual rows key Ordinary)))
+
+-- the SUSPECT row of a state's container is dropped
+abbrev pub drop_suspect_of : Key → LrpState → Option Op
+drop_suspect_of key state = option_map (op.DropSuspect key) (holder_of state)
+
+-- what is asked of a SUSPECT row
+abbrev pub suspect_work : Rows → Moment → Key → Option Actual → Option Op
+suspect_work rows now key None = None
+suspect_work rows now key (Some a) = if is_past rows now key a then drop_suspect_of key a.state else None
 
 -- what is asked of a task by its state: it is given up where its cell isn't there, or where no cell took it in
 -- half an hour; a client that doesn't end has 30 seconds; an outcome that nobody takes is kept for two minutes
@@ -124,7 +182,7 @@ task_work rows now t = asked_of_task rows now t t.state
 abbrev pub row_work : Rows → Moment → Key → Presence → Option Op
 row_work rows now key Ordinary = ordinary_work rows now key (find_actual rows key Ordinary)
 row_work rows now key Evacuating = evacuating_work rows now key (find_actual rows key Evacuating)
-row_work rows now key Suspect = None
+row_work rows now key Suspect = suspect_work rows now key (find_actual rows key Suspect)
 
 -- what is asked of a place among the actual rows
 abbrev pub place_work : Rows → Moment → Key × Presence → Option Op
@@ -139,11 +197,12 @@ wanted_places desired = flat_map (λ (d : Desired).
 abbrev pub places : Rows → List (Key × Presence)
 places rows = table place_order (λ p. p) (wanted_places rows.desired ++ map place_of rows.actual)
 
--- what is asked of each cell, then of each place, then of each task
+-- what is asked of each cell, then of each domain, then of each place, then of each task
 abbrev pub asked_of_all : Rows → Moment → List Op
 asked_of_all rows now =
     filter_map (λ (c : CellRow). cell_work c now) rows.cells
-    ++ (filter_map (place_work rows now) (places rows) ++ filter_map (task_work rows now) rows.tasks)
+    ++ (filter_map (λ (d : DomainRow). domain_work d now) rows.domains
+    ++ (filter_map (place_work rows now) (places rows) ++ filter_map (task_work rows now) rows.tasks))
 
 -- what convergence asks of a board at a moment
 abbrev pub work : Rows → Moment → List Command
