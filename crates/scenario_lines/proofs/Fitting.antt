@@ -85,6 +85,7 @@ asked_in-clients client.Task d = as_ask-clients _
 asked_in-clients client.Cancel d = as_ask-clients _
 asked_in-clients client.Resolve d = as_ask-clients _
 asked_in-clients client.Delete d = as_ask-clients _
+asked_in-clients client.Fresh d = as_ask-clients _
 
 -- a client's line
 client_in-fits : (op : ClientOp) (d : Data) → IfOk (client_in op d) IsActLine

@@ -5,7 +5,7 @@ use Rattle.bbs_model.specs.declared.command.Op.{Op}
 use Rattle.bbs_model.specs.declared.command.Op.TheVariants as op
 use Rattle.scenario_lines.specs.Flaws.{◌>>=◌}
 use Rattle.scenario_lines.specs.Names.{name_given, optional_name_in}
-use Rattle.scenario_lines.specs.Values.{key_said, number_given, port_in}
+use Rattle.scenario_lines.specs.Values.{key_said, number_given, port_in, ttl_in}
 use Rattle.scenario_lines.specs.declared.act.Act.{Act}
 use Rattle.scenario_lines.specs.declared.act.Act.TheVariants.{Client}
 use Rattle.scenario_lines.specs.declared.flaw.Flaw.{Flaw}
@@ -73,6 +73,13 @@ resolve_in d = name_given member.Name d >>= λ name. Ok (op.ResolveTask name)
 unfoldable pub delete_in : Data → Result Op Flaw
 delete_in d = name_given member.Name d >>= λ name. Ok (op.DeleteTask name)
 
+-- the list of processes of a domain is vouched for
+unfoldable pub fresh_in : Data → Result Op Flaw
+fresh_in d = do
+  domain ← name_given member.Domain d
+  ttl ← ttl_in d
+  Ok (op.Fresh domain ttl)
+
 -- what a client asks, as an act
 abbrev pub as_ask : Result Op Flaw → Result Act Flaw
 as_ask asked = asked >>= λ op. Ok (Client op)
@@ -87,3 +94,4 @@ asked_in client.Task d = as_ask (task_said d)
 asked_in client.Cancel d = as_ask (cancel_in d)
 asked_in client.Resolve d = as_ask (resolve_in d)
 asked_in client.Delete d = as_ask (delete_in d)
+asked_in client.Fresh d = as_ask (fresh_in d)

@@ -23,7 +23,8 @@ client_op op =
     else (if bytes_eq op (codes "cancel") then Some client.Cancel
     else (if bytes_eq op (codes "resolve") then Some client.Resolve
     else (if bytes_eq op (codes "delete") then Some client.Delete
-    else None)))))))
+    else (if bytes_eq op (codes "fresh") then Some client.Fresh
+    else None))))))))
 
 -- a claim is for a task where it names one, else for an instance
 abbrev pub claim_form : Data → CellOp
@@ -69,6 +70,7 @@ client_needs client.Task = Client ∷ Op ∷ Name ∷ Memory ∷ Disk ∷ []
 client_needs client.Cancel = Client ∷ Op ∷ Name ∷ []
 client_needs client.Resolve = Client ∷ Op ∷ Name ∷ []
 client_needs client.Delete = Client ∷ Op ∷ Name ∷ []
+client_needs client.Fresh = Client ∷ Op ∷ Domain ∷ []
 
 -- the members that it may have besides
 abbrev pub client_allows : ClientOp → List Member
@@ -80,6 +82,7 @@ client_allows client.Task = Lost ∷ Times ∷ Tag ∷ []
 client_allows client.Cancel = Lost ∷ Times ∷ []
 client_allows client.Resolve = Lost ∷ Times ∷ []
 client_allows client.Delete = Lost ∷ Times ∷ []
+client_allows client.Fresh = Lost ∷ Times ∷ Ttl ∷ []
 
 -- the members that a cell's line needs
 abbrev pub cell_needs : CellOp → List Member

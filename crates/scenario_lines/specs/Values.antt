@@ -21,6 +21,10 @@ number_given m d = or_shape (option_and_then number_said (said_for m d))
 unfoldable pub port_in : Data → Result ℕ Flaw
 port_in d = if has member.Port d then or_shape (option_and_then port_of (said_for member.Port d)) else Ok 8080
 
+-- for how many seconds a domain is fresh: for ever where the line doesn't say
+unfoldable pub ttl_in : Data → Result ℕ Flaw
+ttl_in d = if has member.Ttl d then number_given member.Ttl d else Ok 0
+
 -- how often the line is run: once where it doesn't say
 unfoldable pub times_in : Data → Result ℕ Flaw
 times_in d = if has member.Times d then or_shape (option_and_then times_of (said_for member.Times d)) else Ok 1

@@ -4,6 +4,7 @@ ghost use Rattle.scenario_lines.specs.Flaws.{GivesInPlace};
 ghost use Rattle.scenario_lines.specs.Places.{object_of};
 
 mod desire;
+mod fresh;
 mod restart;
 mod task;
 mod task_end;
@@ -28,5 +29,6 @@ pub(crate) fn asked_into(op: ClientOp, members: &Members<'_>, act: &mut Act) -> 
         ClientOp::Cancel => task_end::cancel_in(members, act),
         ClientOp::Resolve => task_end::resolve_in(members, act),
         ClientOp::Delete => task_end::delete_in(members, act),
+        ClientOp::Fresh => fresh::fresh_in(members, act),
     }
 }

@@ -24,6 +24,7 @@ pub enum ClientOp {
     Cancel,
     Resolve,
     Delete,
+    Fresh,
 }
 
 /// What a cell does. A claim and an up have a form for each kind of job.

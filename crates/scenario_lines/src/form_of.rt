@@ -46,6 +46,7 @@ fn client_op(op: &str) -> Option<ClientOp>
         "cancel" => Some(ClientOp::Cancel),
         "resolve" => Some(ClientOp::Resolve),
         "delete" => Some(ClientOp::Delete),
+        "fresh" => Some(ClientOp::Fresh),
         _ => None,
     }
 }

@@ -37,6 +37,7 @@ impl ClientOp {
             ClientOp::Cancel => &[Member::Client, Member::Op, Member::Name],
             ClientOp::Resolve => &[Member::Client, Member::Op, Member::Name],
             ClientOp::Delete => &[Member::Client, Member::Op, Member::Name],
+            ClientOp::Fresh => &[Member::Client, Member::Op, Member::Domain],
         }
     }
 
@@ -58,6 +59,7 @@ impl ClientOp {
             ClientOp::Cancel => &[Member::Lost, Member::Times],
             ClientOp::Resolve => &[Member::Lost, Member::Times],
             ClientOp::Delete => &[Member::Lost, Member::Times],
+            ClientOp::Fresh => &[Member::Lost, Member::Times, Member::Ttl],
         }
     }
 }

@@ -2,7 +2,7 @@
 ghost use Rattle.std.specs.Prelude.{◌≡◌};
 ghost use Rattle.scenario_lines.specs.Flaws.{or_shape};
 ghost use Rattle.scenario_lines.specs.Places.{object_of};
-ghost use Rattle.scenario_lines.specs.Values.{failed_in, key_said, lost_in, number_given, port_in, times_in, totals_in};
+ghost use Rattle.scenario_lines.specs.Values.{failed_in, key_said, lost_in, number_given, port_in, times_in, totals_in, ttl_in};
 
 use crate::act::Loss;
 use crate::flaw::Flaw;
@@ -45,6 +45,18 @@ pub(crate) fn port_in(members: &Members<'_>) -> Result<u16, Flaw>
     match members.said_for(Member::Port) {
         Some(said) => or_shape(port_of(said)),
         None => Ok(PORT),
+    }
+}
+
+/// For how many seconds a domain is fresh: 0, which is for ever, where the line doesn't say.
+#[tactic(auto, unfolding(crate::specs::Values::ttl_in))]
+pub(crate) fn ttl_in(members: &Members<'_>) -> Result<u32, Flaw>
+    ensures { result ≡ ttl_in (object_of members.now.object.now) }
+{
+    if members.has(Member::Ttl) {
+        number_in(members, Member::Ttl)
+    } else {
+        Ok(0)
     }
 }
 
