@@ -35,3 +35,12 @@ asked_more f g xs i x start so lt is at =
     ∙ ap (λ zs. start ++ zs) (sym (map-append g (filter_map f (take i xs)) (filter_map f (x ∷ []))))
     ∙ ap (λ ys. start ++ map g ys) (sym (filter_map-append f (take i xs) (x ∷ [])))
     ∙ ap (λ ys. start ++ map g (filter_map f ys)) (sym (one_more xs i x lt is))
+
+-- four lists one behind the other, each mapped
+pub gathered : {Y Z : Type 0} (g : Y → Z) (a b c d : List Y) → ((map g a ++ map g b) ++ map g c) ++ map g d ≡ map g (a ++ (b ++ (c ++ d)))
+gathered g a b c d =
+    append_assoc (map g a ++ map g b) (map g c) (map g d)
+    ∙ append_assoc (map g a) (map g b) (map g c ++ map g d)
+    ∙ ap (λ zs. map g a ++ (map g b ++ zs)) (sym (map-append g c d))
+    ∙ ap (λ zs. map g a ++ zs) (sym (map-append g b (c ++ d)))
+    ∙ sym (map-append g a (b ++ (c ++ d)))

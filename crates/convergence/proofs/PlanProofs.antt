@@ -45,7 +45,7 @@ about_asked s (Some c) gone ended f g = about_if s (is_uncompleted c.state) None
 about_row : (presence : Presence) (key : Key) (instance : Instance) (c : Option Container) → IsAbout (OfPlace (key, presence)) (planned.row_plan presence key instance c)
 about_row Ordinary key instance c = about_asked (OfPlace (key, Ordinary)) c (op.Unclaim key instance) (op.Crash key instance) refl refl
 about_row Evacuating key instance c = about_asked (OfPlace (key, Evacuating)) c (op.DropEvacuating key instance) (op.DropEvacuating key instance) refl refl
-about_row Suspect key instance c = tt
+about_row Suspect key instance c = about_asked (OfPlace (key, Suspect)) c (op.DropSuspect key instance) (op.DropSuspect key instance) refl refl
 
 about_outcome : (name : List ℕ) (instance : Instance) (state : ContainerState) → IsAbout (OfTask name) (planned.outcome_plan name instance state)
 about_outcome name instance Reserved = tt

@@ -12,12 +12,13 @@ use Rattle.lrp_records.specs.Place.{place_order}
 use Rattle.lrp_records.specs.declared.presence.Presence.{Presence}
 use Rattle.lrp_records.specs.declared.presence.Presence.TheVariants.{Ordinary, Evacuating, Suspect}
 use Rattle.row_tables.specs.Table.{IsRising}
-use Rattle.bbs_model.specs.Tables.{find_cell, find_task}
+use Rattle.bbs_model.specs.Tables.{find_cell, find_domain, find_task}
 use Rattle.bbs_model.specs.Valid.{IsValid}
-use Rattle.bbs_model.specs.Work.{work, cell_work, place_work, task_work}
+use Rattle.bbs_model.specs.Work.{work, cell_work, domain_work, place_work, task_work}
 use Rattle.bbs_model.specs.declared.command.Command.{Command}
 use Rattle.bbs_model.specs.declared.command.Op.{Op}
 use Rattle.bbs_model.specs.declared.command.Op.TheVariants as op
+use Rattle.bbs_model.specs.declared.domain_row.DomainRow.{DomainRow}
 use Rattle.bbs_model.specs.declared.rows.Rows.{Rows}
 
 -- a cell or a domain by its name, a place among the actual rows, a task or a process by its name
@@ -85,10 +86,10 @@ subject_of (op.DropSuspect key instance) = OfPlace (key, Suspect)
 abbrev pub subject_in : Command → Subject
 subject_in command = subject_of command.op
 
--- what convergence asks of a subject: of a domain and a process nothing
+-- what convergence asks of a subject: of a process nothing
 abbrev pub work_on : Rows → Moment → Subject → Option Op
 work_on rows now (OfCell cell) = option_and_then (λ (c : CellRow). cell_work c now) (find_cell rows cell)
-work_on rows now (OfDomain domain) = None
+work_on rows now (OfDomain domain) = option_and_then (λ (d : DomainRow). domain_work d now) (find_domain rows domain)
 work_on rows now (OfPlace place) = place_work rows now place
 work_on rows now (OfTask name) = option_and_then (task_work rows now) (find_task rows name)
 work_on rows now (OfProcess process) = None

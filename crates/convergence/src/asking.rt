@@ -1,10 +1,11 @@
-//! What convergence asks of one cell, one place among the actual rows, or one task, of valid rows.
-ghost use Rattle.std.specs.Prelude.{◌≡◌, ◌+◌, Some, None};
+//! What convergence asks of one cell, one domain, one place among the actual rows, or one task, of valid
+//! rows.
+ghost use Rattle.std.specs.Prelude.{◌≡◌, ◌+◌, ◌&&◌, not, Some, None};
 ghost use Rattle.bbs_model.specs.Valid.{IsValid};
 ghost use Rattle.bbs_model.specs.Work as told;
 
-use crate::sorted::{actual_of, cell_of, desired_of};
-use bbs_model::{Op, Rows};
+use crate::sorted::{actual_of, cell_of, desired_of, domain_of};
+use bbs_model::{DomainRow, Op, Rows};
 use cell_records::CellRow;
 use crash_backoff::{Moment, due_at};
 use diego_names::{Key, Name};
@@ -43,6 +44,34 @@ fn wants(rows: &Rows, key: &Key) -> bool
     }
 }
 
+fn fresh_in(rows: &Rows, now: Moment, domain: &Name) -> bool
+    requires { IsValid rows.now }
+    ensures { result ≡ told.fresh_in rows.now now domain.now }
+{
+    match domain_of(rows, domain) {
+        None => false,
+        Some(row) => row.holds_at(now),
+    }
+}
+
+fn may_go(rows: &Rows, now: Moment, row: &Actual) -> bool
+    requires { IsValid rows.now }
+    ensures { result ≡ told.may_go rows.now now row.now }
+{
+    match row.domain {
+        None => true,
+        Some(domain) => fresh_in(rows, now, &domain),
+    }
+}
+
+/// Whether the row is to be retired, where it is known whether its instance is wanted.
+fn is_retirable(rows: &Rows, now: Moment, wanted: bool, row: &Actual) -> bool
+    requires { IsValid rows.now }
+    ensures { result ≡ (not wanted && told.may_go rows.now now row.now) }
+{
+    !wanted && may_go(rows, now, row)
+}
+
 fn is_lost(rows: &Rows, now: Moment, state: &LrpState) -> bool
     requires { IsValid rows.now }
     ensures { result ≡ told.is_lost rows.now now state.now }
@@ -75,6 +104,24 @@ fn runs_there(rows: &Rows, now: Moment, row: &Option<Actual>) -> bool
     }
 }
 
+fn runs(row: &Option<Actual>) -> bool
+    ensures { result ≡ told.runs row.now }
+{
+    match row {
+        None => false,
+        Some(row) => is_running(&row.state),
+    }
+}
+
+fn is_running(state: &LrpState) -> bool
+    ensures { result ≡ told.is_running state.now }
+{
+    match state {
+        LrpState::Running { .. } => true,
+        LrpState::Unclaimed | LrpState::Claimed { .. } | LrpState::Crashed => false,
+    }
+}
+
 /// What is asked of a cell.
 pub fn cell_work(row: &CellRow, now: Moment) -> Option<Op>
     ensures { result ≡ told.cell_work row.now now }
@@ -83,12 +130,28 @@ pub fn cell_work(row: &CellRow, now: Moment) -> Option<Op>
     asked_if(row.until <= u64::from(now.0), vanish)
 }
 
-fn unclaim(key: Key, state: &LrpState) -> Option<Op>
-    ensures { result ≡ told.unclaim key state.now }
+/// What is asked of a domain.
+pub fn domain_work(row: &DomainRow, now: Moment) -> Option<Op>
+    ensures { result ≡ told.domain_work row.now now }
 {
-    match state.holder() {
+    match row.until {
         None => None,
-        Some(instance) => Some(Op::Unclaim { key, instance }),
+        Some(until) => {
+            let forget = Op::Forget { domain: row.domain };
+            asked_if(until <= u64::from(now.0), forget)
+        }
+    }
+}
+
+fn given_up(wanted: bool, key: Key, state: &LrpState) -> Option<Op>
+    ensures { result ≡ told.given_up wanted key state.now }
+{
+    match *state {
+        LrpState::Unclaimed | LrpState::Crashed => None,
+        LrpState::Running { instance, .. } if wanted => Some(Op::Suspect { key, instance }),
+        LrpState::Claimed { instance, .. } | LrpState::Running { instance, .. } => {
+            Some(Op::Unclaim { key, instance })
+        }
     }
 }
 
@@ -126,12 +189,13 @@ fn ordinary_work(rows: &Rows, now: Moment, key: &Key, row: &Option<Actual>) -> O
     let wanted = wants(rows, key);
     match row {
         None => asked_if(wanted, Op::Make { key: *key }),
-        Some(row) if !wanted => Some(Op::Remove {
+        Some(row) if is_retirable(rows, now, wanted, row) => Some(Op::Remove {
             key: *key,
             instance: row.state.holder(),
         }),
-        Some(row) if is_lost(rows, now, &row.state) => unclaim(*key, &row.state),
-        Some(row) => restart_if_due(*key, row, now),
+        Some(row) if is_lost(rows, now, &row.state) => given_up(wanted, *key, &row.state),
+        Some(row) if wanted => restart_if_due(*key, row, now),
+        Some(_) => None,
     }
 }
 
@@ -140,7 +204,9 @@ fn is_spent(rows: &Rows, now: Moment, key: &Key, row: &Actual) -> bool
     ensures { result ≡ told.is_spent rows.now now key.now row.now }
 {
     let ordinary = actual_of(rows, *key, Presence::Ordinary);
-    !wants(rows, key) || is_lost(rows, now, &row.state) || runs_there(rows, now, &ordinary)
+    is_retirable(rows, now, wants(rows, key), row)
+        || is_lost(rows, now, &row.state)
+        || runs_there(rows, now, &ordinary)
 }
 
 fn evacuating_work(rows: &Rows, now: Moment, key: &Key, row: &Option<Actual>) -> Option<Op>
@@ -154,6 +220,49 @@ fn evacuating_work(rows: &Rows, now: Moment, key: &Key, row: &Option<Actual>) ->
     }
 }
 
+fn has_joined_anew(rows: &Rows, state: &LrpState) -> bool
+    requires { IsValid rows.now }
+    ensures { result ≡ told.has_joined_anew rows.now state.now }
+{
+    match *state {
+        LrpState::Running { instance, cell } => match cell_of(rows, &cell) {
+            None => false,
+            Some(row) => row.epoch != instance.epoch,
+        },
+        LrpState::Unclaimed | LrpState::Claimed { .. } | LrpState::Crashed => false,
+    }
+}
+
+fn is_past(rows: &Rows, now: Moment, key: &Key, row: &Actual) -> bool
+    requires { IsValid rows.now }
+    ensures { result ≡ told.is_past rows.now now key.now row.now }
+{
+    let ordinary = actual_of(rows, *key, Presence::Ordinary);
+    !wants(rows, key)
+        || runs_there(rows, now, &ordinary)
+        || (has_joined_anew(rows, &row.state) && !runs(&ordinary))
+}
+
+fn drop_suspect_of(key: Key, state: &LrpState) -> Option<Op>
+    ensures { result ≡ told.drop_suspect_of key state.now }
+{
+    match state.holder() {
+        None => None,
+        Some(instance) => Some(Op::DropSuspect { key, instance }),
+    }
+}
+
+fn suspect_work(rows: &Rows, now: Moment, key: &Key, row: &Option<Actual>) -> Option<Op>
+    requires { IsValid rows.now }
+    ensures { result ≡ told.suspect_work rows.now now key.now row.now }
+{
+    match row {
+        Some(row) if is_past(rows, now, key, row) => drop_suspect_of(*key, &row.state),
+        Some(_) => None,
+        None => None,
+    }
+}
+
 fn row_work(rows: &Rows, now: Moment, key: &Key, presence: Presence) -> Option<Op>
     requires { IsValid rows.now }
     ensures { result ≡ told.row_work rows.now now key.now presence }
@@ -162,7 +271,7 @@ fn row_work(rows: &Rows, now: Moment, key: &Key, presence: Presence) -> Option<O
     match presence {
         Presence::Ordinary => ordinary_work(rows, now, key, &row),
         Presence::Evacuating => evacuating_work(rows, now, key, &row),
-        Presence::Suspect => None,
+        Presence::Suspect => suspect_work(rows, now, key, &row),
     }
 }
 

@@ -5,7 +5,7 @@ ghost use Rattle.bbs_model.specs.Work.{at};
 ghost use Rattle.convergence.specs.Containers.{site_of, task_site_of};
 ghost use Rattle.convergence.specs.Index.{IsIndexOf};
 ghost use Rattle.convergence.specs.Plans as planned;
-ghost use Rattle.lrp_records.specs.declared.presence.Presence.TheVariants.{Ordinary, Evacuating};
+ghost use Rattle.lrp_records.specs.declared.presence.Presence.TheVariants.{Ordinary, Evacuating, Suspect};
 
 use crate::holding::is_uncompleted;
 use crate::telling::{Index, index_of, told_of};
@@ -122,7 +122,7 @@ fn row_plan(row: &Actual, instance: Instance, container: &Option<Container>) -> 
     match row.presence {
         Presence::Ordinary => ordinary_plan(&row.key, instance, container),
         Presence::Evacuating => evacuating_plan(&row.key, instance, container),
-        Presence::Suspect => None,
+        Presence::Suspect => suspect_plan(&row.key, instance, container),
     }
 }
 
@@ -148,6 +148,20 @@ fn evacuating_plan(key: &Key, instance: Instance, container: &Option<Container>)
         instance,
     };
     let ended = Op::DropEvacuating {
+        key: *key,
+        instance,
+    };
+    asked_by(container, gone, ended)
+}
+
+fn suspect_plan(key: &Key, instance: Instance, container: &Option<Container>) -> Option<Op>
+    ensures { result ≡ planned.row_plan Suspect key.now instance container.now }
+{
+    let gone = Op::DropSuspect {
+        key: *key,
+        instance,
+    };
+    let ended = Op::DropSuspect {
         key: *key,
         instance,
     };

@@ -1,10 +1,10 @@
 //! Rows in a sorted table, by binary search.
 ghost use Rattle.std.specs.Prelude.{◌≡◌};
-ghost use Rattle.bbs_model.specs.Tables.{find_desired, find_actual, find_cell, find_task};
+ghost use Rattle.bbs_model.specs.Tables.{find_desired, find_actual, find_cell, find_domain, find_task};
 ghost use Rattle.bbs_model.specs.Valid.{IsValid};
 ghost use Rattle.row_tables.specs.Table.{find_row, IsRising};
 
-use bbs_model::{Rowed, Rows};
+use bbs_model::{DomainRow, Rowed, Rows};
 use cell_records::CellRow;
 use diego_names::{Key, Name};
 use lrp_records::{Actual, Desired, Presence};
@@ -43,6 +43,14 @@ pub fn cell_of(rows: &Rows, cell: &Name) -> Option<CellRow>
     ensures { result ≡ find_cell rows.now cell.now }
 {
     find_sorted(rows.cells.items(), cell)
+}
+
+/// The row of a domain.
+pub fn domain_of(rows: &Rows, name: &Name) -> Option<DomainRow>
+    requires { IsValid rows.now }
+    ensures { result ≡ find_domain rows.now name.now }
+{
+    find_sorted(rows.domains.items(), name)
 }
 
 /// The row of a task.

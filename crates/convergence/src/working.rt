@@ -4,11 +4,12 @@ ghost use Rattle.std.specs.List.{filter_map};
 ghost use Rattle.std.specs.Option.{option_map, option_to_list};
 ghost use Rattle.bbs_model.specs.Valid.{IsValid};
 ghost use Rattle.bbs_model.specs.Work as told;
+ghost use Rattle.bbs_model.specs.declared.domain_row.DomainRow.{DomainRow as ADomain};
 ghost use Rattle.cell_records.specs.declared.cell_row.CellRow.{CellRow as ACell};
 
-use crate::asking::{cell_work, place_work, task_work};
+use crate::asking::{cell_work, domain_work, place_work, task_work};
 use crate::placing::places;
-use bbs_model::{Command, Op, Rows};
+use bbs_model::{Command, DomainRow, Op, Rows};
 use cell_records::CellRow;
 use crash_backoff::Moment;
 use diego_names::{Key, List, OutOfMemory};
@@ -16,7 +17,7 @@ use lrp_records::Presence;
 use std::alloc::Global;
 use task_records::Task;
 
-/// What convergence asks at a moment, in the order of cells, places and tasks. It takes the time of
+/// What convergence asks at a moment, in the order of cells, domains, places and tasks. It takes the time of
 /// a sort of the places and of a few binary searches for each, and the memory of the places and of
 /// what it asks.
 pub fn work_of(alloc: Global, rows: &Rows, now: Moment) -> Result<List<Command>, OutOfMemory>
@@ -26,6 +27,7 @@ pub fn work_of(alloc: Global, rows: &Rows, now: Moment) -> Result<List<Command>,
     let places = places(alloc, rows)?;
     let mut asked = List::new(alloc);
     ask_cells(&mut asked, rows.cells.items(), now)?;
+    ask_domains(&mut asked, rows.domains.items(), now)?;
     ask_places(&mut asked, rows, now, places.as_slice())?;
     ask_tasks(&mut asked, rows, now, rows.tasks.items())?;
     Ok(asked)
@@ -57,6 +59,20 @@ fn ask_cells(asked: &mut List<Command>, cells: &[CellRow], now: Moment) -> Resul
 {
     for cell in cells {
         add(asked, command_at(now, cell_work(cell, now)))?;
+    }
+    Ok(())
+}
+
+fn ask_domains(
+    asked: &mut List<Command>,
+    domains: &[DomainRow],
+    now: Moment,
+) -> Result<(), OutOfMemory>
+    ensures { OnOk result (asked.new ≡ asked.old
+        ++ map (told.at now) (filter_map (λ (d : ADomain). told.domain_work d now) domains.entry.now)) }
+{
+    for domain in domains {
+        add(asked, command_at(now, domain_work(domain, now)))?;
     }
     Ok(())
 }
