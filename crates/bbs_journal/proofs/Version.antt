@@ -1,15 +1,14 @@
 -- The version behind a header gate, as it is written and as it is read.
 use Rattle.std.specs.Prelude.{if◌then◌else◌, ◌==◌, nat_lt, nat_eq}
 use Rattle.std.specs.List.{starts_with}
-use Rattle.std.proofs.Common.{◌≡◌, ◌⊎◌, ⊎_elim, inl, inr, ℕ, ◌+◌, ◌≤◌, Bool, true, false, Option, Some, None, List, [], ◌∷◌, ◌++◌, length, take, drop, refl, sym, ap, ◌∙◌, subst, arith, length-append, length-drop, take_at, drop_at, take-add}
+use Rattle.std.proofs.Common.{◌≡◌, ◌⊎◌, ⊎_elim, inl, inr, ℕ, ◌+◌, ◌≤◌, Bool, true, false, Option, Some, None, List, ◌++◌, length, take, drop, refl, sym, ap, ◌∙◌, subst, arith, length-append, length-drop, take_at, drop_at, take-add}
 use Rattle.std.specs.Int.{w16, w64, from_be_bytes}
 use Rattle.std.proofs.lemmas.Bool.Decides.{nat_tests, Decides-eqb}
 use Rattle.std.proofs.lemmas.Slice.Eq.{starts_is}
 use Rattle.wire_fields.specs.Field.{field_number}
 use Rattle.wire_fields.proofs.Public.{length-field_number}
 use Rattle.bbs_journal.specs.Header.{IsVersion, magic, mark, version_of, by_version, behind_gate}
-use Rattle.bbs_journal.specs.declared.header.Header.{Header}
-use Rattle.bbs_journal.specs.declared.header.Header.TheVariants.{Closed, Foreign, Cut, Open}
+use Rattle.bbs_journal.specs.declared.header.Header.TheVariants.{Closed, Cut, Open}
 use Rattle.bbs_journal.specs.declared.other_gate.OtherGate.TheVariants.{Loose}
 
 pub length-mark : (version : ℕ) → length (mark version) ≡ 10

@@ -31,7 +31,7 @@ returns-in-B-clause-shows g c c' shows =
     chosen_in c' _ B _ c.in-B.is (active_is c' _ _ _ a b c.choose.ensures.value ∙ c.in-Ok.is) b_is c.gate_in-in-B.ensures a
 
 pub returns-in-A-clause-read : goal.returns-in-A-clause-read
-returns-in-A-clause-read g c = active_version _ _ _ _ _ c.read_header-header_a.ensures c.read_header-header_b.ensures (sym c.choose.ensures.value ∙ c.in-Ok.is)
+returns-in-A-clause-read g c = active_version _ _ c.bytes.result.now c.bytes-2.result.now _ c.read_header-header_a.ensures c.read_header-header_b.ensures (sym c.choose.ensures.value ∙ c.in-Ok.is)
 
 pub returns-in-B-clause-read : goal.returns-in-B-clause-read
-returns-in-B-clause-read g c = active_version _ _ _ _ _ c.read_header-header_a.ensures c.read_header-header_b.ensures (sym c.choose.ensures.value ∙ c.in-Ok.is)
+returns-in-B-clause-read g c = active_version _ _ c.bytes.result.now c.bytes-2.result.now _ c.read_header-header_a.ensures c.read_header-header_b.ensures (sym c.choose.ensures.value ∙ c.in-Ok.is)
