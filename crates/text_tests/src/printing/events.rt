@@ -105,7 +105,9 @@ fn claimed() -> Result<Actual, Fail> {
 }
 
 #[test]
-fn an_event_of_an_instance_tells_its_container_and_not_its_domain(rt: HostRuntime) -> Result<(), Fail> {
+fn an_event_of_an_instance_tells_its_container_and_not_its_domain(
+    rt: HostRuntime,
+) -> Result<(), Fail> {
     for (change, row, want) in [
         (
             Change::Removed,
