@@ -174,18 +174,18 @@ fn the_first_defect_of_a_head_is_told_at_its_place(rt: HostRuntime) -> Result<()
         // A claim by a cell of the next transition.
         (70, 9, 23 + 53),
         // An EVACUATING row that is CLAIMED, a second ORDINARY row of its key, and a presence that there isn't.
-        (102, 1, 23 + 93),
-        (101, 0, 23 + 93),
-        (101, 3, 23 + 93),
+        (101, 1, 23 + 92),
+        (100, 0, 23 + 92),
+        (100, 3, 23 + 92),
         // A task that is born with the next transition, and an outcome of 2.
-        (139, 9, 23 + 128),
-        (141, 2, 23 + 128),
+        (138, 9, 23 + 127),
+        (140, 2, 23 + 127),
         // A cell that isn't counted, and one that is neither emptied nor not.
-        (23, 0, 23 + 158),
-        (193, 2, 23 + 158),
+        (23, 0, 23 + 157),
+        (192, 2, 23 + 157),
         // A domain that isn't counted, and one that is neither for ever nor until a moment.
-        (27, 0, 23 + 194),
-        (199, 2, 23 + 194),
+        (27, 0, 23 + 193),
+        (198, 2, 23 + 193),
     ];
     for (place, value, at) in cases {
         is_told(&rt, alloc, &changed(alloc, &HEAD, place, value)?, at)?;
@@ -204,12 +204,12 @@ fn the_frames_behind_a_head_are_told_at_their_gates(rt: HostRuntime) -> Result<(
     let alloc = rt.alloc();
     let mut twice = DROP.to_vec(alloc)?;
     twice.extend_from_slice(&DROP)?;
-    is_damaged(&rt, alloc, &area(alloc, &HEAD, b"")?, 231)?;
-    is_damaged(&rt, alloc, &area(alloc, &HEAD, &DROP)?, 259)?;
-    is_damaged(&rt, alloc, &area(alloc, &HEAD, &twice)?, 259)?;
+    is_damaged(&rt, alloc, &area(alloc, &HEAD, b"")?, 230)?;
+    is_damaged(&rt, alloc, &area(alloc, &HEAD, &DROP)?, 258)?;
+    is_damaged(&rt, alloc, &area(alloc, &HEAD, &twice)?, 258)?;
     // A head that ends before its rows do, and one that ends behind them.
-    is_damaged(&rt, alloc, &area(alloc, &HEAD[..207], b"\0")?, 23 + 194)?;
+    is_damaged(&rt, alloc, &area(alloc, &HEAD[..206], b"\0")?, 23 + 193)?;
     let mut longer = HEAD.to_vec(alloc)?;
     longer.push(0)?;
-    is_damaged(&rt, alloc, &area(alloc, &longer, b"\0")?, 231)
+    is_damaged(&rt, alloc, &area(alloc, &longer, b"\0")?, 230)
 }
