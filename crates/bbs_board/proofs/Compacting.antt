@@ -1,6 +1,7 @@
 -- A switch and the whole of a checkpoint, where the disk may tell nothing.
-use Rattle.std.proofs.Common.{◌≡◌, ◌⊎◌, inl, inr, ⊎_elim, ℕ, ◌+◌, ◌<◌, ◌-◌, ◌^◌, Bool, true, false, List, length, Option, Some, None, refl, sym, ap, subst, ◌∙◌, arith}
+use Rattle.std.proofs.Common.{◌≡◌, ◌⊎◌, inl, inr, ⊎_elim, ℕ, ◌+◌, ◌<◌, ◌-◌, ◌^◌, Bool, true, false, ◌||◌, ◌==◌, nat_lt, List, length, Option, Some, None, refl, sym, ap, subst, ◌∙◌, arith}
 use Rattle.std.specs.Prelude.{if◌then◌else◌}
+use Rattle.std.proofs.lemmas.Bool.Decides.{nat_tests}
 use Rattle.std.specs.Option.{ForSome}
 use Rattle.disk_trait.specs.Past.{Past, other}
 use Rattle.disk_trait.specs.Runs.{Extends}
@@ -20,13 +21,13 @@ use Rattle.bbs_model.specs.Replay.{replay_log, IsLawful}
 use Rattle.bbs_model.specs.Valid.{IsValid}
 use Rattle.bbs_model.specs.declared.item.Item.{Item}
 use Rattle.bbs_model.specs.declared.rows.Rows.{Rows}
-use Rattle.bbs_board.specs.Checkpoint.{Compacts, Checkpoints, MovesOn, MovedOn}
+use Rattle.bbs_board.specs.Checkpoint.{Compacts, Checkpoints, MovesOn, MovedOn, has_to_compact}
 use Rattle.bbs_board.specs.Puts.{StandsWith, StillStands}
 use Rattle.bbs_board.specs.View.{Holds, LeadsOn, StandsOn}
 use Rattle.bbs_board.proofs.Beside.{calm_nothing}
 use Rattle.bbs_board.proofs.Mending.{by_step, standing}
-use Rattle.bbs_board.proofs.Settling.{few_version}
-use Rattle.bbs_board.proofs.Moving.{not_above, leads, calm_ready, holds_there, holds_here, compacts_not, compacts_none, compacts_by}
+use Rattle.bbs_board.proofs.Filling.{by_tests, not_by_tests, low_generation}
+use Rattle.bbs_board.proofs.Moving.{leads, calm_ready, holds_there, holds_here, compacts_not, compacts_none, compacts_by}
 
 header_calm : (w : Waiting) → w ≡ (if is_waiting w then Header else Nothing) → frame_waits w ≡ false
 header_calm Nothing own = refl
@@ -172,6 +173,15 @@ few_close_calls (Written size) = inl refl
 
 -- ---- the whole of a checkpoint
 
+none_by_tests : (frames version : ℕ) → nat_lt 0 frames || version == 1 ≡ false → (frames ≡ 0) × (version ≡ 1 → ⊥)
+none_by_tests frames version is = (grind (arith, nat_tests), λ old. grind (arith, nat_tests))
+
+compact_by_tests : (frames version : ℕ) → nat_lt 0 frames || version == 1 ≡ true → (0 < frames) ⊎ (version ≡ 1)
+compact_by_tests frames version is = grind (arith, nat_tests)
+
+pub compact_some : {D : Type 0} (j : JournalView D) → has_to_compact j ≡ true → (0 < j.frames) ⊎ (j.version ≡ 1)
+compact_some j is = compact_by_tests j.frames j.version (by_tests (nat_lt 0 j.frames || j.version == 1) j.generation (2 ^ 64 - 1) is).0
+
 checkpoints_both : (t0 t1 : Option Past) (waits ok : Bool) (rows : Rows) → Goes t0 t1 Extends → (waits ≡ false → Goes t0 t1 (Compacts ok rows)) → Goes t0 t1 (Checkpoints ok waits rows)
 checkpoints_both None None waits ok rows extends compacts = tt
 checkpoints_both None (Some q) waits ok rows extends compacts = extends
@@ -190,15 +200,16 @@ module _ {D : Type 0} (told : D → Option Past) (j : JournalView D) (base : Row
   checkpoint_starved = checkpoints_both (told j.disk) (told j.disk) (is_waiting j.waiting) false (replay_log base log) same_extends
       (λ calm. goes_same (told j.disk) (Compacts false (replay_log base log)) (λ p is. compacts_not base log marks since j.area j.version j.generation j.end j.frames j.gate p (calmly calm p is)))
 
-  -- the area has no frames, and the newest version
-  pub checkpoint_none : j.frames ≡ 0 → (j.version ≡ 1 → ⊥) → Goes (told j.disk) (told j.disk) (Checkpoints true (is_waiting j.waiting) (replay_log base log))
-  checkpoint_none none new = checkpoints_both (told j.disk) (told j.disk) (is_waiting j.waiting) true (replay_log base log) same_extends
-      (λ calm. goes_same (told j.disk) (Compacts true (replay_log base log)) (λ p is. compacts_none base log marks since j.area j.version j.generation j.end j.frames j.gate p (calmly calm p is) none new))
-
-  -- no disk that tells its past has the last generation
-  pub checkpoint_never : j.generation ≡ 2 ^ 64 - 1 → IsValid (replay_log base log) → Goes (told j.disk) (told j.disk) (Checkpoints true (is_waiting j.waiting) (replay_log base log))
-  checkpoint_never last valid = goes_same (told j.disk) (Checkpoints true (is_waiting j.waiting) (replay_log base log))
-      (λ p is. absurd (let few = not_above base log marks since j.area j.version j.generation j.end j.frames j.waiting j.gate p (stands p is) in omega (arith, few, few_version j.version (stands p is).goes_with.version_is, last, valid.next)))
+  -- there is nothing to do; no disk that tells its past has the last generation
+  pub checkpoint_idle : has_to_compact j ≡ false → IsValid (replay_log base log) → Goes (told j.disk) (told j.disk) (Checkpoints true (is_waiting j.waiting) (replay_log base log))
+  checkpoint_idle idle valid = goes_same (told j.disk) (Checkpoints true (is_waiting j.waiting) (replay_log base log))
+      (λ p is.
+      let low = low_generation base log marks since j.area j.version j.generation j.end j.frames j.waiting j.gate p (stands p is) valid in
+      let rest = none_by_tests j.frames j.version (not_by_tests (nat_lt 0 j.frames || j.version == 1) j.generation (2 ^ 64 - 1) idle low) in
+      record {
+        extends = extends_same p;
+        compacts = λ calm. compacts_none base log marks since j.area j.version j.generation j.end j.frames j.gate p (calmly calm p is) rest.0 rest.1;
+      })
 
   -- it was tried
   pub checkpoint_tried : (later : JournalView D) (ok : Bool) (head : List ℕ) → IsLawful base log → (0 < j.frames) ⊎ (j.version ≡ 1) → FitsHead newest (replay_log base log) → head ≡ head_spelled newest (replay_log base log) → MovesOn told ok head j later

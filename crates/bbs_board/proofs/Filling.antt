@@ -34,11 +34,11 @@ use Rattle.bbs_board.proofs.Storing.{adds_behind, reads_due, goes_both}
 
 -- ---- whether a checkpoint is due
 
-by_tests : (due : Bool) (generation top : ℕ) → due && nat_lt generation top ≡ true → (due ≡ true) × (generation < top)
+pub by_tests : (due : Bool) (generation top : ℕ) → due && nat_lt generation top ≡ true → (due ≡ true) × (generation < top)
 by_tests true generation top is = (refl, grind (arith, nat_tests))
 by_tests false generation top is = absurd (cc (is))
 
-not_by_tests : (due : Bool) (generation top : ℕ) → due && nat_lt generation top ≡ false → generation < top → due ≡ false
+pub not_by_tests : (due : Bool) (generation top : ℕ) → due && nat_lt generation top ≡ false → generation < top → due ≡ false
 not_by_tests true generation top is low = absurd (let over : top ≤ generation = grind (arith, nat_tests) in omega (arith, over, low))
 not_by_tests false generation top is low = refl
 

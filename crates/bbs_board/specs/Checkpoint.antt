@@ -1,6 +1,6 @@
 -- What a checkpoint does: the rows stand as a head in the other area, in place of the frames that led to them, and in
 -- the newest version.
-use Rattle.std.specs.Prelude.{◌≡◌, ◌⊎◌, ℕ, ◌+◌, ◌<◌, ◌≤◌, Bool, true, false, List, Option, Result, Ok, Err, if◌then◌else◌}
+use Rattle.std.specs.Prelude.{◌≡◌, ◌⊎◌, ℕ, ◌+◌, ◌-◌, ◌^◌, ◌<◌, ◌≤◌, ◌&&◌, ◌||◌, ◌==◌, nat_lt, Bool, true, false, List, Option, Result, Ok, Err, if◌then◌else◌}
 use Rattle.disk_trait.specs.Past.{Past, Image, Images, ImagesSince}
 use Rattle.disk_trait.specs.Runs.{Extends}
 use Rattle.disk_trait.specs.Steps.{Goes}
@@ -35,6 +35,10 @@ pub record Checkpoints (ok waits : Bool) (rows : Rows) (p q : Past) : Type 0 whe
 -- a checkpoint is made, or its disk failed at this place of the log, or it wanted memory
 abbrev pub EndsCheckpoint : ℕ → Result (Unit {0}) CallFault → Type 0
 EndsCheckpoint place end = (end ≡ Ok tt) ⊎ ((end ≡ Err (fault.Disk place)) ⊎ (end ≡ Err fault.OutOfMemory))
+
+-- it makes away with something, frames or an old version, and there is a next generation
+abbrev pub has_to_compact : {D : Type 0} → JournalView D → Bool
+has_to_compact j = (nat_lt 0 j.frames || j.version == 1) && nat_lt j.generation (2 ^ 64 - 1)
 
 -- the disk failed in it
 abbrev pub is_checkpoint_fault : Result (Unit {0}) CallFault → Bool
@@ -71,12 +75,12 @@ pub record SwitchTakes (ok waits : Bool) (before after : ℕ) : Type 0 where
 -- more, and its room, which is no less; where nothing waited and it was made, nothing waits
 pub record StaysCompacted {D : Type 0} (ok : Bool) (old new : View D) : Type 0 where
   pub same : new ≡ record old {
-      disk = new.disk;
-      waits = new.waits;
-      version = new.version;
-      frames = new.frames;
-      spare = new.spare;
-    }
+    disk = new.disk;
+    waits = new.waits;
+    version = new.version;
+    frames = new.frames;
+    spare = new.spare;
+  }
   pub frames : new.frames ≤ old.frames
   pub room : old.spare ≤ new.spare
   pub calm : ok ≡ true → old.waits ≡ false → new.waits ≡ false

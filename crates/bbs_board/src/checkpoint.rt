@@ -1,16 +1,16 @@
 //! Checkpoints: the rows in place of the frames that led to them, so that a load has few frames to do again, and
 //! in the newest version.
-ghost use Rattle.std.specs.Prelude.{◌≡◌, ◌⊎◌, ◌-◌, ◌<◌, ◌^◌, true, false, length, is_ok, is_err};
+ghost use Rattle.std.specs.Prelude.{◌≡◌, ◌-◌, ◌<◌, ◌^◌, true, false, length, is_ok, is_err};
 ghost use Rattle.byte_ports.specs.Cause.{HasCause};
 ghost use Rattle.disk_trait.specs.Steps.{Goes};
 ghost use Rattle.bbs_journal.specs.View.{is_waiting};
-ghost use Rattle.bbs_board.specs.Checkpoint.{Checkpoints, CheckpointTakes, EndsCheckpoint, MovedOn, MovesOn, StaysCompacted, SwitchTakes, is_checkpoint_fault};
+ghost use Rattle.bbs_board.specs.Checkpoint.{Checkpoints, CheckpointTakes, EndsCheckpoint, MovedOn, MovesOn, StaysCompacted, SwitchTakes, has_to_compact, is_checkpoint_fault};
 ghost use Rattle.bbs_board.specs.Doubts.{CountsFaults, RoseForEach};
 ghost use Rattle.bbs_board.specs.View.{rows_of};
 
 use crate::Board;
 use crate::draft::row_count;
-use crate::storage::OLD;
+use crate::storage::is_old;
 use bbs_journal::{DiskFault, Journal};
 use bbs_model::CallFault;
 use bbs_snapshot::switch;
@@ -43,11 +43,10 @@ pub fn move_on<D: Disk>(journal: &mut Journal<D>, head: &[u8]) -> Result<(), Dis
 }
 
 /// Whether a checkpoint makes away with something, frames or an old version, and there is a next generation.
-fn may_compact<D: Disk>(journal: &Journal<D>) -> bool
-    ensures { result ≡ true → ((0 < journal.now.frames) ⊎ (journal.now.version ≡ 1))
-        × (journal.now.generation < 2 ^ 64 - 1) }
+fn has_to_compact<D: Disk>(journal: &Journal<D>) -> bool
+    ensures { result ≡ has_to_compact journal.now }
 {
-    (journal.frames() > 0 || journal.version() == OLD) && journal.generation() < u64::MAX
+    (journal.frames() > 0 || is_old(journal)) && journal.generation() < u64::MAX
 }
 
 impl<D: Disk> Board<D> {
@@ -66,7 +65,7 @@ impl<D: Disk> Board<D> {
         ensures faults { CountsFaults (is_checkpoint_fault result) self.old.waits self.new.waits
             (D.fault_count self.old.disk) (D.fault_count self.new.disk) }
     {
-        if !may_compact(&self.journal) {
+        if !has_to_compact(&self.journal) {
             return Ok(());
         }
         let place = self.history.place();

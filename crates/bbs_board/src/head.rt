@@ -81,12 +81,7 @@ fn index_of(alloc: Global, version: u16, rows: Rows) -> Result<Index, OutOfMemor
 }
 
 /// The rows of the head of an area of this version under an index, or the first defect of the head.
-pub fn rows_in(
-    alloc: Global,
-    version: u16,
-    area: Area,
-    head: &[u8],
-) -> Result<Index, LoadFault>
+pub fn rows_in(alloc: Global, version: u16, area: Area, head: &[u8]) -> Result<Index, LoadFault>
     requires read { (version ≡ 1) ⊎ (version ≡ 2) }
     requires within { 23 + length head.now < 2 ^ 64 }
     ensures gives { Gives result (rows_in version area head.now) }

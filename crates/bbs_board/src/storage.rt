@@ -1,5 +1,5 @@
 //! Storing a payload: where the area is full or old, in the other one behind a checkpoint.
-ghost use Rattle.std.specs.Prelude.{◌≡◌, ◌<◌, ◌^◌, true, false, length, is_ok, is_err};
+ghost use Rattle.std.specs.Prelude.{◌≡◌, ◌==◌, ◌<◌, ◌^◌, true, false, length, is_ok, is_err};
 ghost use Rattle.byte_ports.specs.Cause.{HasCause};
 ghost use Rattle.bbs_journal.specs.Frames.{IsPayload};
 ghost use Rattle.bbs_journal.specs.Header.{IsVersion};
@@ -20,13 +20,22 @@ const MOST_FRAMES: u64 = 4096;
 /// rows to an area of the newest version first.
 pub(crate) const OLD: u16 = 1;
 
+/// Whether the area of a journal is of that version.
+pub(crate) fn is_old<D: Disk>(journal: &Journal<D>) -> bool
+    ensures value { result ≡ (journal.now.version == 1) }
+    ensures read { IsVersion journal.now.version }
+{
+    journal.version() == OLD
+}
+
 /// Whether the next frame goes behind a checkpoint. No disk that tells its content comes to the
 /// last generation.
 pub fn wants_checkpoint<D: Disk>(journal: &Journal<D>) -> bool
     ensures due { result ≡ wants_checkpoint journal.now }
     ensures read { IsVersion journal.now.version }
 {
-    (MOST_FRAMES <= journal.frames() || journal.version() == OLD) && journal.generation() < u64::MAX
+    let is_old = is_old(journal);
+    (MOST_FRAMES <= journal.frames() || is_old) && journal.generation() < u64::MAX
 }
 
 /// Stores a payload: where a checkpoint is due behind one with this head, else behind the frames that

@@ -35,7 +35,12 @@ fn claimed() -> Result<Actual, Fail> {
         instance: container(1),
         cell: Name::read(b"c1")?,
     };
-    let row = instance(b"web", Presence::Ordinary, state, Some(Name::read(b"apps")?))?;
+    let row = instance(
+        b"web",
+        Presence::Ordinary,
+        state,
+        Some(Name::read(b"apps")?),
+    )?;
     Ok(Actual { error: true, ..row })
 }
 

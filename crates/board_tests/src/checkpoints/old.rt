@@ -90,12 +90,7 @@ fn is_left_there(rt: &impl Abort, left: &Opened, frames: u64, call: u64, torn: T
     is_number_at(rt, call, left.rows.next, next);
 }
 
-fn leaves_one(
-    rt: &impl Abort,
-    alloc: Global,
-    disk: &MemoryDisk,
-    frames: u64,
-) -> Result<(), Fail> {
+fn leaves_one(rt: &impl Abort, alloc: Global, disk: &MemoryDisk, frames: u64) -> Result<(), Fail> {
     is_number(rt, disk.clock(), CALLS + 12);
     for call in 8..20u64 {
         for torn in TORN {
