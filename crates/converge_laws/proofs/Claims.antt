@@ -26,7 +26,7 @@ use Rattle.bbs_model.specs.Step.{verdict_of}
 use Rattle.bbs_model.specs.Tables.{task_name_of, find_actual, find_task}
 use Rattle.bbs_model.specs.Valid.{IsValid}
 use Rattle.task_records.specs.States.{runner_of}
-use Rattle.bbs_model.specs.Work.{at, is_there, wants, is_due}
+use Rattle.bbs_model.specs.Work.{at, is_there, wants, may_go, is_due, is_running, runs}
 use Rattle.bbs_model.specs.declared.command.Command.{Command}
 use Rattle.bbs_model.specs.declared.command.Op.{Op}
 use Rattle.bbs_model.specs.declared.command.Op.TheVariants as op
@@ -35,7 +35,7 @@ use Rattle.convergence.specs.Containers.{is_answer_of, answer_from, is_container
 use Rattle.convergence.specs.Subjects.{Subject, OfPlace, OfTask, subject_of, subject_in, ordinary_of}
 use Rattle.convergence.proofs.Public.{find-passes, find-some, same_cell}
 use Rattle.converge_laws.specs.Accepted.{IsAccepted, AreAccepted, IsOfRound, AreApart}
-use Rattle.converge_laws.specs.Converged.{is_held, IsStateHeld, HasItsPlace, IsInstanceSettled, is_running, runs, IsKeptAside, IsTaskSettled, IsConverged}
+use Rattle.converge_laws.specs.Converged.{is_held, IsStateHeld, HasItsPlace, HasItsContainer, IsUnwantedKept, IsInstanceSettled, IsKeptAside, IsSuspected, IsTaskSettled, IsConverged}
 use Rattle.converge_laws.specs.Laws.{AreOfRound, KeepsGround}
 use Rattle.converge_laws.specs.Stages.{IsSameCell, IsClaimOf, IsClaimed, IsWith, AreWith, MayBePlaced, IsPlaceable, MayTaskBePlaced, IsTaskPlaceable, IsCleared, PlacesAll}
 use Rattle.converge_laws.proofs.Frames.{stays-ordinary, stays-evacuating, stays-task}
