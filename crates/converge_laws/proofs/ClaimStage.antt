@@ -48,7 +48,7 @@ use Rattle.converge_laws.proofs.Runs.{about_some, run-other, run-took, run-groun
 use Rattle.converge_laws.proofs.StopStage.{alike}
 use Rattle.converge_laws.proofs.TaskMoves.{IsNowRunning, task_left_by, after-start, started}
 use Rattle.converge_laws.proofs.Claims.{subject_for, claim-about, same_job_as, same_task_as, not_aside, IsClaiming, of_round, ground, there-before, runs-there, held-any, held-more, held-new, claim-is}
-use Rattle.converge_laws.proofs.ClaimRows.{settled-ground, settled-rows, aside-done, aside-same, suspect-same, names-still, names-claimed}
+use Rattle.converge_laws.proofs.ClaimRows.{settled-ground, settled-rows, aside-done, suspect-done, aside-same, suspect-same, names-still, names-claimed}
 use Rattle.converge_laws.proofs.ClaimTasks.{IsTaskAt, task-done, task-names-still, task-names-claimed}
 
 module _ (rows : Rows) (before after : List Answer) (now : Moment) (cs : List Command) (g : IsClaiming rows before after now cs) where
@@ -88,6 +88,7 @@ module _ (rows : Rows) (before after : List Answer) (now : Moment) (cs : List Co
   claims-converge = record {
     ordinary = λ key. (settled-ground rows before after now cs g) key (find_actual new key Ordinary) ((settled-rows rows before after now cs g) key);
     aside = λ key. (aside-done rows before after now cs g) key;
+    suspected = λ key. (suspect-done rows before after now cs g) key;
     tasks = λ t inside. subst ((IsTaskAt rows before after now cs g) t.name) (find_row-Contains name_order task_name_of IsKeyOrder-name_order t new.tasks valid-new.tasks.rising inside) ((task-done rows before after now cs g) t.name);
     containers = all-named;
   }

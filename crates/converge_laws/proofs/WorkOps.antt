@@ -135,7 +135,7 @@ work_of_round rows now valid = record {
   moments = λ c inside. ((work_is_by_subject rows now c valid).0 inside).0;
 }
 
-same_some : {X : Type 0} (x y : X) → Some x ≡ Some y → x ≡ y
+pub same_some : {X : Type 0} (x y : X) → Some x ≡ Some y → x ≡ y
 same_some x y e = cc
 
 -- a wanted row isn't to be retired
@@ -146,7 +146,7 @@ kept-wanted rows now key a wanted = ap (λ (b : Bool). not b && told.may_go rows
 pub kept-alike : (rows : Rows) (now : Moment) (key : Key) (a b : Actual) → b.domain ≡ a.domain → told.is_retirable rows now key a ≡ false → told.is_retirable rows now key b ≡ false
 kept-alike rows now key a b same kept = ap (λ (d : Option (List ℕ)). not (told.wants rows key) && option_map_or (told.fresh_in rows now) d true) same ∙ kept
 
-none_either : (b : Bool) → cond b (None : Option Op) None ≡ None
+none_either : {X : Type 0} (b : Bool) → cond b None None ≡ (let none : Option X = None in none)
 none_either true = refl
 none_either false = refl
 
