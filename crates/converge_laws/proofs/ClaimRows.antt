@@ -1,6 +1,7 @@
 -- What becomes of rows once those that wait are claimed.
 use Rattle.std.proofs.Common.{◌≡◌, ◌≢◌, ◌⊎◌, ℕ, Bool, true, false, ◌||◌, List, Option, Some, None, IsSome, refl, ap, sym, ◌∙◌, subst, inl, inr, ⊎_elim}
 use Rattle.std.specs.List.{AllZip, Contains}
+use Rattle.std.specs.Option.{option_map_or}
 use Rattle.cell_records.specs.declared.answer.Answer.{Answer}
 use Rattle.cell_records.specs.declared.container.Container.{Container}
 use Rattle.cell_records.specs.declared.job_name.JobName.{JobName}
@@ -21,12 +22,13 @@ use Rattle.row_tables.proofs.Public.{find_row-Contains, key-find_row}
 use Rattle.task_records.specs.declared.state.TaskState.{TaskState}
 use Rattle.task_records.specs.declared.state.TaskState.TheVariants as task
 use Rattle.task_records.specs.declared.task.Task.{Task}
+use Rattle.bbs_model.specs.Found.{suspect_in}
 use Rattle.bbs_model.specs.Runs.{state_after, state_after_all}
 use Rattle.bbs_model.specs.Step.{verdict_of}
 use Rattle.bbs_model.specs.Tables.{task_name_of, find_actual, find_task}
 use Rattle.bbs_model.specs.Valid.{IsValid}
 use Rattle.task_records.specs.States.{runner_of}
-use Rattle.bbs_model.specs.Work.{at, is_there, wants, is_due}
+use Rattle.bbs_model.specs.Work.{at, is_there, wants, fresh_in, may_go, is_due, is_running, runs}
 use Rattle.bbs_model.specs.declared.command.Command.{Command}
 use Rattle.bbs_model.specs.declared.command.Op.{Op}
 use Rattle.bbs_model.specs.declared.command.Op.TheVariants as op
@@ -35,11 +37,12 @@ use Rattle.convergence.specs.Containers.{is_answer_of, answer_from, is_container
 use Rattle.convergence.specs.Subjects.{Subject, OfPlace, OfTask, subject_of, subject_in, ordinary_of}
 use Rattle.convergence.proofs.Public.{find-passes, find-some, same_cell}
 use Rattle.converge_laws.specs.Accepted.{IsAccepted, AreAccepted, IsOfRound, AreApart}
-use Rattle.converge_laws.specs.Converged.{is_held, IsStateHeld, HasItsPlace, IsInstanceSettled, is_running, runs, IsKeptAside, IsTaskSettled, IsConverged}
+use Rattle.converge_laws.specs.Converged.{is_held, IsStateHeld, HasItsPlace, HasItsContainer, IsUnwantedKept, IsInstanceSettled, IsKeptAside, IsSuspected, IsTaskSettled, IsConverged}
 use Rattle.converge_laws.specs.Laws.{AreOfRound, KeepsGround}
 use Rattle.converge_laws.specs.Stages.{IsSameCell, IsClaimOf, IsClaimed, IsWith, AreWith, MayBePlaced, IsPlaceable, MayTaskBePlaced, IsTaskPlaceable, IsCleared, PlacesAll}
 use Rattle.converge_laws.proofs.Frames.{stays-ordinary, stays-evacuating, stays-suspect, stays-task}
 use Rattle.converge_laws.proofs.Held.{it_is, held-from, held-in, held-ground, row-key}
+use Rattle.converge_laws.proofs.Kept.{suspected-any, unwanted-ground, reason-ground}
 use Rattle.converge_laws.proofs.Lists.{zip_back, zip_find}
 use Rattle.converge_laws.proofs.MoveEnds.{IsNowClaimed, claimed}
 use Rattle.converge_laws.proofs.Moves.{left_by, after-claim}
@@ -47,7 +50,7 @@ use Rattle.converge_laws.proofs.Naming.{or_left, or_right, instance_itself, same
 use Rattle.converge_laws.proofs.Runs.{about_some, run-other, run-took, run-ground, run-valid}
 use Rattle.converge_laws.proofs.StopStage.{alike}
 use Rattle.converge_laws.proofs.TaskMoves.{IsNowRunning, task_left_by, after-start, started}
-use Rattle.converge_laws.proofs.Claims.{subject_for, claim-about, same_job_as, same_task_as, not_aside, not_suspect, IsClaiming, of_round, ground, there-before, runs-there, held-any, held-more, held-new, claim-is}
+use Rattle.converge_laws.proofs.Claims.{subject_for, claim-about, claim-unsuspected, same_job_as, same_task_as, not_aside, IsClaiming, of_round, ground, there-before, runs-there, held-any, held-more, held-new, claim-is}
 
 module _ (rows : Rows) (before after : List Answer) (now : Moment) (cs : List Command) (g : IsClaiming rows before after now cs) where
   abbrev new : Rows
@@ -72,8 +75,8 @@ module _ (rows : Rows) (before after : List Answer) (now : Moment) (cs : List Co
     row-claimed : (c : Command) (instance : Instance) (cell : List ℕ) → Contains cs c → c.op ≡ op.Claim key instance cell
         → (old : Actual) × (ordinary rows ≡ Some old) × IsNowClaimed old instance cell (ordinary new)
     row-claimed c instance cell inside claims =
-        run-took ordinary (ordinary_of key) (λ r d h other. stays-ordinary r d h key other)
-        (λ (r : Option Actual). (old : Actual) × (ordinary rows ≡ Some old) × IsNowClaimed old instance cell r) c rows cs (of_round rows before after now cs g).ops g.apart g.taken inside (ap subject_of claims)
+        run-took ordinary (λ (d : Command). subject_in d ≢ ordinary_of key) (λ r d h other. stays-ordinary r d h key other)
+        (λ (r : Option Actual). (old : Actual) × (ordinary rows ≡ Some old) × IsNowClaimed old instance cell r) c rows cs (of_round rows before after now cs g).ops g.apart g.taken inside (λ d in_d other same. other (same ∙ sym (ap subject_of claims)))
         (λ start same h.
         let command : c ≡ at now (op.Claim key instance cell) = (claim-is rows before after now cs g) c (op.Claim key instance cell) inside claims in
         let accepted : IsAccepted (verdict_of start (at now (op.Claim key instance cell))) = subst (λ (d : Command). IsAccepted (verdict_of start d)) command h in
@@ -95,10 +98,10 @@ module _ (rows : Rows) (before after : List Answer) (now : Moment) (cs : List Co
         let r = row-claimed found.0 p.1 p.2 found.1 claims in
         inl (record { command = found.0; instance = p.1; cell = p.2; inside = found.1; claims = claims; there = p.4; old = r.0; was = r.1; now_claimed = r.2 }))
         (λ (none : (c : Command) → Contains cs c → subject_in c ≢ ordinary_of key).
-        inr (run-other ordinary (ordinary_of key) (λ r d h other. stays-ordinary r d h key other) rows cs (of_round rows before after now cs g).ops none, none))
+        inr (run-other ordinary (λ (d : Command). subject_in d ≢ ordinary_of key) (λ r d h other. stays-ordinary r d h key other) rows cs (of_round rows before after now cs g).ops none, none))
         (about_some (ordinary_of key) cs)
 
-    placeable : (a : Actual) → ordinary rows ≡ Some a → (wants rows key ≡ true) × MayBePlaced rows before now a a.state
+    placeable : (a : Actual) → ordinary rows ≡ Some a → ((wants rows key ≡ true) × MayBePlaced rows before now a a.state) ⊎ IsUnwantedKept rows before now key a
     placeable a is = subst (IsPlaceable rows before now key) is (g.cleared.planned.ordinary key)
 
     -- a row that has its place keeps it
@@ -108,8 +111,19 @@ module _ (rows : Rows) (before after : List Answer) (now : Moment) (cs : List Co
     place-kept a (lrp.Running instance cell) state claimed' h = (held-more rows before after now cs g) (job.Lrp a.key) instance cell h
     place-kept a lrp.Crashed state claimed' h = h
 
-    settled-kept : (a : Actual) → ordinary rows ≡ Some a → (a.state ≡ lrp.Unclaimed → ⊥) → IsInstanceSettled rows after now key (Some a)
-    settled-kept a is claimed' = let p = placeable a is in (p.0, place-kept a a.state refl claimed' p.1)
+    -- and one that isn't wanted its container
+    container-kept : (a : Actual) (s : LrpState) → HasItsContainer rows before now a s → HasItsContainer rows after now a s
+    container-kept a lrp.Unclaimed h = tt
+    container-kept a (lrp.Claimed instance cell) h = (held-more rows before after now cs g) (job.Lrp a.key) instance cell h
+    container-kept a (lrp.Running instance cell) h = (held-more rows before after now cs g) (job.Lrp a.key) instance cell h
+    container-kept a lrp.Crashed h = tt
+
+    settled-kept : (a : Actual) → ordinary rows ≡ Some a → (wants rows key ≡ true → a.state ≡ lrp.Unclaimed → ⊥) → IsInstanceSettled rows after now key (Some a)
+    settled-kept a is claimed' =
+        ⊎_elim
+        (λ (wanted : (wants rows key ≡ true) × MayBePlaced rows before now a a.state). inl (wanted.0, place-kept a a.state refl (claimed' wanted.0) wanted.1))
+        (λ (stale : IsUnwantedKept rows before now key a). inr (stale.0, stale.1, container-kept a a.state stale.2))
+        (placeable a is)
 
     not_unclaimed : (a : Actual) (held : Instance) (where' : List ℕ) → a.state ≡ lrp.Claimed held where' → a.state ≡ lrp.Unclaimed → ⊥
     not_unclaimed a held where' is other = cc
@@ -119,14 +133,19 @@ module _ (rows : Rows) (before after : List Answer) (now : Moment) (cs : List Co
         let n = c.now_claimed in
         subst (IsInstanceSettled rows after now key) (sym n.is)
         (⊎_elim
-        (λ (fresh : (c.old.state ≡ lrp.Unclaimed) × (n.new.state ≡ lrp.Claimed c.instance c.cell) × (n.new.key ≡ c.old.key)).
+        (λ (fresh : (c.old.state ≡ lrp.Unclaimed) × (n.new.state ≡ lrp.Claimed c.instance c.cell) × (n.new.key ≡ c.old.key) × (n.new.domain ≡ c.old.domain)).
         let place : key ≡ n.new.key = sym (fresh.2 ∙ row-key rows key Ordinary c.old c.was) in
         let held : is_held rows after now (job.Lrp n.new.key) c.instance c.cell ≡ true =
         subst (λ (k : Key). is_held rows after now (job.Lrp k) c.instance c.cell ≡ true) place ((held-new rows before after now cs g) c.command (job.Lrp key) c.instance c.cell c.inside c.claims c.there) in
-        let settled : IsInstanceSettled rows after now key (Some n.new) = ((placeable c.old c.was).0, subst (HasItsPlace rows after now n.new) (sym fresh.1) held) in
+        let settled : IsInstanceSettled rows after now key (Some n.new) =
+        ⊎_elim
+        (λ (wanted : (wants rows key ≡ true) × MayBePlaced rows before now c.old c.old.state). inl (wanted.0, subst (HasItsPlace rows after now n.new) (sym fresh.1) held))
+        (λ (stale : IsUnwantedKept rows before now key c.old).
+        inr (stale.0, ap (λ (d : Option (List ℕ)). option_map_or (fresh_in rows now) d true) fresh.3 ∙ stale.1, subst (HasItsContainer rows after now n.new) (sym fresh.1) held))
+        (placeable c.old c.was) in
         settled)
         (λ (own : (n.new ≡ c.old) × (held : Instance) × (where' : List ℕ) × (c.old.state ≡ lrp.Claimed held where') × (is_same_instance c.instance held ≡ true)).
-        subst (λ (a : Actual). IsInstanceSettled rows after now key (Some a)) (sym own.0) (settled-kept c.old c.was (not_unclaimed c.old own.1 own.2 own.3)))
+        subst (λ (a : Actual). IsInstanceSettled rows after now key (Some a)) (sym own.0) (settled-kept c.old c.was (λ wanted. not_unclaimed c.old own.1 own.2 own.3)))
         n.how)
 
     pub settled-rows : IsInstanceSettled rows after now key (ordinary new)
@@ -136,7 +155,7 @@ module _ (rows : Rows) (before after : List Answer) (now : Moment) (cs : List Co
         subst (IsInstanceSettled rows after now key) (sym other.0)
         (elim (ordinary rows) as (λ (r : Option Actual). ordinary rows ≡ r → IsPlaceable rows before now key r → IsInstanceSettled rows after now key r) [
           | None ↦ λ is h. h
-          | (Some a) ↦ λ is h. settled-kept a is (λ state. let p = g.places.rows_placed key a is state in other.1 p.0 p.1 p.2)
+          | (Some a) ↦ λ is h. settled-kept a is (λ wanted state. let p = g.places.rows_placed key a is state wanted in other.1 p.0 p.1 p.2)
         ] refl (g.cleared.planned.ordinary key)))
         row-fate
 
@@ -148,7 +167,11 @@ module _ (rows : Rows) (before after : List Answer) (now : Moment) (cs : List Co
 
     pub settled-ground : (r : Option Actual) → IsInstanceSettled rows after now key r → IsInstanceSettled new after now key r
     settled-ground None h = (ground rows before after now cs g).wanted key ∙ h
-    settled-ground (Some a) h = ((ground rows before after now cs g).wanted key ∙ h.0, place-ground a a.state h.1)
+    settled-ground (Some a) h =
+        ⊎_elim
+        (λ (wanted : (wants rows key ≡ true) × HasItsPlace rows after now a a.state). inl ((ground rows before after now cs g).wanted key ∙ wanted.0, place-ground a a.state wanted.1))
+        (λ (stale : IsUnwantedKept rows after now key a). inr (unwanted-ground rows new after now (ground rows before after now cs g) key a stale))
+        h
 
     -- a row that didn't run doesn't run
     idle-row : runs (ordinary rows) ≡ false → runs (ordinary new) ≡ false
@@ -157,7 +180,7 @@ module _ (rows : Rows) (before after : List Answer) (now : Moment) (cs : List Co
         (λ (c : IsRowClaimed).
         ap runs c.now_claimed.is
         ∙ ⊎_elim
-        (λ (fresh : (c.old.state ≡ lrp.Unclaimed) × (c.now_claimed.new.state ≡ lrp.Claimed c.instance c.cell) × (c.now_claimed.new.key ≡ c.old.key)). ap is_running fresh.1)
+        (λ (fresh : (c.old.state ≡ lrp.Unclaimed) × (c.now_claimed.new.state ≡ lrp.Claimed c.instance c.cell) × (c.now_claimed.new.key ≡ c.old.key) × (c.now_claimed.new.domain ≡ c.old.domain)). ap is_running fresh.1)
         (λ (own : (c.now_claimed.new ≡ c.old) × (held : Instance) × (where' : List ℕ) × (c.old.state ≡ lrp.Claimed held where') × (is_same_instance c.instance held ≡ true)).
         ap (λ (a : Actual). is_running a.state) own.0 ∙ ap is_running own.3)
         c.now_claimed.how)
@@ -167,14 +190,22 @@ module _ (rows : Rows) (before after : List Answer) (now : Moment) (cs : List Co
     -- the EVACUATING row stays
     pub aside-same : find_actual new key Evacuating ≡ find_actual rows key Evacuating
     aside-same =
-        run-other (λ (r : Rows). find_actual r key Evacuating) (OfPlace (key, Evacuating)) (λ r d h other. stays-evacuating r d h key other) rows cs (of_round rows before after now cs g).ops
+        run-other (λ (r : Rows). find_actual r key Evacuating) (λ (d : Command). subject_in d ≢ OfPlace (key, Evacuating)) (λ r d h other. stays-evacuating r d h key other) rows cs (of_round rows before after now cs g).ops
         (λ c inside same. let p = g.places.claims c inside in not_aside p.0 key (sym (claim-about p.0 p.1 p.2 c.op p.3) ∙ same))
 
     -- and so does the SUSPECT row
     pub suspect-same : find_actual new key Suspect ≡ find_actual rows key Suspect
     suspect-same =
-        run-other (λ (r : Rows). find_actual r key Suspect) (OfPlace (key, Suspect)) (λ r d h other. stays-suspect r d h key) rows cs (of_round rows before after now cs g).ops
-        (λ c inside same. let p = g.places.claims c inside in not_suspect p.0 key (sym (claim-about p.0 p.1 p.2 c.op p.3) ∙ same))
+        run-other (λ (r : Rows). find_actual r key Suspect) (λ (d : Command). suspect_in d.op ≢ Some key) (λ r d h other. stays-suspect r d h key other) rows cs (of_round rows before after now cs g).ops
+        (λ c inside changes. let p = g.places.claims c inside in let none : suspect_in c.op ≡ None = claim-unsuspected p.0 p.1 p.2 c.op p.3 in absurd cc)
+
+    pub suspect-done : IsSuspected new key (find_actual new key Suspect)
+    suspect-done =
+        subst (IsSuspected new key) (sym suspect-same)
+        (elim (find_actual rows key Suspect) as (λ (r : Option Actual). IsSuspected rows key r → IsSuspected new key r) [
+          | None ↦ λ h. tt
+          | (Some a) ↦ λ h. suspected-any new key ((ground rows before after now cs g).wanted key ∙ h.0) (idle-row h.1) (Some a)
+        ] (g.cleared.planned.suspected key))
 
     aside-state : (s : LrpState) → IsStateHeld rows before now key s → IsStateHeld new after now key s
     aside-state lrp.Unclaimed h = h
@@ -184,7 +215,7 @@ module _ (rows : Rows) (before after : List Answer) (now : Moment) (cs : List Co
 
     aside-row : (r : Option Actual) → IsKeptAside rows before now key r → IsKeptAside new after now key r
     aside-row None h = tt
-    aside-row (Some a) h = ((ground rows before after now cs g).wanted key ∙ h.0, aside-state a.state h.1, idle-row h.2)
+    aside-row (Some a) h = (reason-ground rows new after now (ground rows before after now cs g) key a h.0, aside-state a.state h.1, idle-row h.2)
 
     pub aside-done : IsKeptAside new after now key (find_actual new key Evacuating)
     aside-done = subst (IsKeptAside new after now key) (sym aside-same) (aside-row (find_actual rows key Evacuating) (g.cleared.planned.aside key))
@@ -197,7 +228,7 @@ module _ (rows : Rows) (before after : List Answer) (now : Moment) (cs : List Co
         let old : is_holder (holder_of c.old.state) instance ≡ true = ap (λ (r : Option Actual). row_names r instance) (sym c.was) ∙ named in
         ap (λ (r : Option Actual). row_names r instance) c.now_claimed.is
         ∙ ⊎_elim
-        (λ (fresh : (c.old.state ≡ lrp.Unclaimed) × (c.now_claimed.new.state ≡ lrp.Claimed c.instance c.cell) × (c.now_claimed.new.key ≡ c.old.key)).
+        (λ (fresh : (c.old.state ≡ lrp.Unclaimed) × (c.now_claimed.new.state ≡ lrp.Claimed c.instance c.cell) × (c.now_claimed.new.key ≡ c.old.key) × (c.now_claimed.new.domain ≡ c.old.domain)).
         let none : is_holder (holder_of c.old.state) instance ≡ false = ap (λ (s : LrpState). is_holder (holder_of s) instance) fresh.0 in
         absurd cc)
         (λ (own : (c.now_claimed.new ≡ c.old) × (held : Instance) × (where' : List ℕ) × (c.old.state ≡ lrp.Claimed held where') × (is_same_instance c.instance held ≡ true)).
@@ -213,7 +244,7 @@ module _ (rows : Rows) (before after : List Answer) (now : Moment) (cs : List Co
         let n = r.2 in
         ap (λ (o : Option Actual). row_names o instance) n.is
         ∙ ⊎_elim
-        (λ (fresh : (r.0.state ≡ lrp.Unclaimed) × (n.new.state ≡ lrp.Claimed instance cell) × (n.new.key ≡ r.0.key)).
+        (λ (fresh : (r.0.state ≡ lrp.Unclaimed) × (n.new.state ≡ lrp.Claimed instance cell) × (n.new.key ≡ r.0.key) × (n.new.domain ≡ r.0.domain)).
         ap (λ (s : LrpState). is_holder (holder_of s) instance) fresh.1 ∙ instance_itself instance)
         (λ (own : (n.new ≡ r.0) × (held : Instance) × (where' : List ℕ) × (r.0.state ≡ lrp.Claimed held where') × (is_same_instance instance held ≡ true)).
         ap (λ (a : Actual). is_holder (holder_of a.state) instance) own.0 ∙ ap (λ (s : LrpState). is_holder (holder_of s) instance) own.3 ∙ own.4)

@@ -26,7 +26,7 @@ use Rattle.bbs_model.specs.Step.{verdict_of}
 use Rattle.bbs_model.specs.Tables.{task_name_of, find_actual, find_task}
 use Rattle.bbs_model.specs.Valid.{IsValid}
 use Rattle.task_records.specs.States.{runner_of}
-use Rattle.bbs_model.specs.Work.{at, is_there, wants, is_due}
+use Rattle.bbs_model.specs.Work.{at, is_there, wants, may_go, is_due, is_running, runs}
 use Rattle.bbs_model.specs.declared.command.Command.{Command}
 use Rattle.bbs_model.specs.declared.command.Op.{Op}
 use Rattle.bbs_model.specs.declared.command.Op.TheVariants as op
@@ -35,7 +35,7 @@ use Rattle.convergence.specs.Containers.{is_answer_of, answer_from, is_container
 use Rattle.convergence.specs.Subjects.{Subject, OfPlace, OfTask, subject_of, subject_in, ordinary_of}
 use Rattle.convergence.proofs.Public.{find-passes, find-some, same_cell}
 use Rattle.converge_laws.specs.Accepted.{IsAccepted, AreAccepted, IsOfRound, AreApart}
-use Rattle.converge_laws.specs.Converged.{is_held, IsStateHeld, HasItsPlace, IsInstanceSettled, is_running, runs, IsKeptAside, IsTaskSettled, IsConverged}
+use Rattle.converge_laws.specs.Converged.{is_held, IsStateHeld, HasItsPlace, HasItsContainer, IsUnwantedKept, IsInstanceSettled, IsKeptAside, IsSuspected, IsTaskSettled, IsConverged}
 use Rattle.converge_laws.specs.Laws.{AreOfRound, KeepsGround}
 use Rattle.converge_laws.specs.Stages.{IsSameCell, IsClaimOf, IsClaimed, IsWith, AreWith, MayBePlaced, IsPlaceable, MayTaskBePlaced, IsTaskPlaceable, IsCleared, PlacesAll}
 use Rattle.converge_laws.proofs.Frames.{stays-ordinary, stays-evacuating, stays-task}
@@ -48,7 +48,7 @@ use Rattle.converge_laws.proofs.Runs.{about_some, run-other, run-took, run-groun
 use Rattle.converge_laws.proofs.StopStage.{alike}
 use Rattle.converge_laws.proofs.TaskMoves.{IsNowRunning, task_left_by, after-start, started}
 use Rattle.converge_laws.proofs.Claims.{subject_for, claim-about, same_job_as, same_task_as, not_aside, IsClaiming, of_round, ground, there-before, runs-there, held-any, held-more, held-new, claim-is}
-use Rattle.converge_laws.proofs.ClaimRows.{settled-ground, settled-rows, aside-done, aside-same, suspect-same, names-still, names-claimed}
+use Rattle.converge_laws.proofs.ClaimRows.{settled-ground, settled-rows, aside-done, suspect-done, aside-same, suspect-same, names-still, names-claimed}
 use Rattle.converge_laws.proofs.ClaimTasks.{IsTaskAt, task-done, task-names-still, task-names-claimed}
 
 module _ (rows : Rows) (before after : List Answer) (now : Moment) (cs : List Command) (g : IsClaiming rows before after now cs) where
@@ -88,6 +88,7 @@ module _ (rows : Rows) (before after : List Answer) (now : Moment) (cs : List Co
   claims-converge = record {
     ordinary = λ key. (settled-ground rows before after now cs g) key (find_actual new key Ordinary) ((settled-rows rows before after now cs g) key);
     aside = λ key. (aside-done rows before after now cs g) key;
+    suspected = λ key. (suspect-done rows before after now cs g) key;
     tasks = λ t inside. subst ((IsTaskAt rows before after now cs g) t.name) (find_row-Contains name_order task_name_of IsKeyOrder-name_order t new.tasks valid-new.tasks.rising inside) ((task-done rows before after now cs g) t.name);
     containers = all-named;
   }

@@ -26,7 +26,7 @@ use Rattle.bbs_model.specs.Step.{verdict_of}
 use Rattle.bbs_model.specs.Tables.{task_name_of, find_actual, find_task}
 use Rattle.bbs_model.specs.Valid.{IsValid}
 use Rattle.task_records.specs.States.{runner_of}
-use Rattle.bbs_model.specs.Work.{at, is_there, wants, is_due}
+use Rattle.bbs_model.specs.Work.{at, is_there, wants, may_go, is_due, is_running, runs}
 use Rattle.bbs_model.specs.declared.command.Command.{Command}
 use Rattle.bbs_model.specs.declared.command.Op.{Op}
 use Rattle.bbs_model.specs.declared.command.Op.TheVariants as op
@@ -35,7 +35,7 @@ use Rattle.convergence.specs.Containers.{is_answer_of, answer_from, is_container
 use Rattle.convergence.specs.Subjects.{Subject, OfPlace, OfTask, subject_of, subject_in, ordinary_of}
 use Rattle.convergence.proofs.Public.{find-passes, find-some, same_cell}
 use Rattle.converge_laws.specs.Accepted.{IsAccepted, AreAccepted, IsOfRound, AreApart}
-use Rattle.converge_laws.specs.Converged.{is_held, IsStateHeld, HasItsPlace, IsInstanceSettled, is_running, runs, IsKeptAside, IsTaskSettled, IsConverged}
+use Rattle.converge_laws.specs.Converged.{is_held, IsStateHeld, HasItsPlace, HasItsContainer, IsUnwantedKept, IsInstanceSettled, IsKeptAside, IsSuspected, IsTaskSettled, IsConverged}
 use Rattle.converge_laws.specs.Laws.{AreOfRound, KeepsGround}
 use Rattle.converge_laws.specs.Stages.{IsSameCell, IsClaimOf, IsClaimed, IsWith, AreWith, MayBePlaced, IsPlaceable, MayTaskBePlaced, IsTaskPlaceable, IsCleared, PlacesAll}
 use Rattle.converge_laws.proofs.Frames.{stays-ordinary, stays-evacuating, stays-task}
@@ -72,8 +72,8 @@ module _ (rows : Rows) (before after : List Answer) (now : Moment) (cs : List Co
     task-claimed : (c : Command) (instance : Instance) (cell : List ℕ) → Contains cs c → c.op ≡ op.StartTask name instance cell
         → (old : Task) × (the_task rows ≡ Some old) × IsNowRunning old instance cell (the_task new)
     task-claimed c instance cell inside claims =
-        run-took the_task (OfTask name) (λ r d h other. stays-task r d h name other)
-        (λ (r : Option Task). (old : Task) × (the_task rows ≡ Some old) × IsNowRunning old instance cell r) c rows cs (of_round rows before after now cs g).ops g.apart g.taken inside (ap subject_of claims)
+        run-took the_task (λ (d : Command). subject_in d ≢ OfTask name) (λ r d h other. stays-task r d h name other)
+        (λ (r : Option Task). (old : Task) × (the_task rows ≡ Some old) × IsNowRunning old instance cell r) c rows cs (of_round rows before after now cs g).ops g.apart g.taken inside (λ d in_d other same. other (same ∙ sym (ap subject_of claims)))
         (λ start same h.
         let command : c ≡ at now (op.StartTask name instance cell) = (claim-is rows before after now cs g) c (op.StartTask name instance cell) inside claims in
         let accepted : IsAccepted (verdict_of start (at now (op.StartTask name instance cell))) = subst (λ (d : Command). IsAccepted (verdict_of start d)) command h in
@@ -94,7 +94,7 @@ module _ (rows : Rows) (before after : List Answer) (now : Moment) (cs : List Co
         let r = task-claimed found.0 p.1 p.2 found.1 claims in
         inl (record { command = found.0; instance = p.1; cell = p.2; inside = found.1; claims = claims; there = p.4; old = r.0; was = r.1; now_running = r.2 }))
         (λ (none : (c : Command) → Contains cs c → subject_in c ≢ OfTask name).
-        inr (run-other the_task (OfTask name) (λ r d h other. stays-task r d h name other) rows cs (of_round rows before after now cs g).ops none, none))
+        inr (run-other the_task (λ (d : Command). subject_in d ≢ OfTask name) (λ r d h other. stays-task r d h name other) rows cs (of_round rows before after now cs g).ops none, none))
         (about_some (OfTask name) cs)
 
     -- the task, if there is one, is settled

@@ -21,12 +21,13 @@ use Rattle.row_tables.proofs.Public.{find_row-Contains, key-find_row}
 use Rattle.task_records.specs.declared.state.TaskState.{TaskState}
 use Rattle.task_records.specs.declared.state.TaskState.TheVariants as task
 use Rattle.task_records.specs.declared.task.Task.{Task}
+use Rattle.bbs_model.specs.Found.{suspect_in}
 use Rattle.bbs_model.specs.Runs.{state_after, state_after_all}
 use Rattle.bbs_model.specs.Step.{verdict_of}
 use Rattle.bbs_model.specs.Tables.{task_name_of, find_actual, find_task}
 use Rattle.bbs_model.specs.Valid.{IsValid}
 use Rattle.task_records.specs.States.{runner_of}
-use Rattle.bbs_model.specs.Work.{at, is_there, wants, is_due}
+use Rattle.bbs_model.specs.Work.{at, is_there, wants, may_go, is_due, is_running, runs}
 use Rattle.bbs_model.specs.declared.command.Command.{Command}
 use Rattle.bbs_model.specs.declared.command.Op.{Op}
 use Rattle.bbs_model.specs.declared.command.Op.TheVariants as op
@@ -35,7 +36,7 @@ use Rattle.convergence.specs.Containers.{is_answer_of, answer_from, is_container
 use Rattle.convergence.specs.Subjects.{Subject, OfPlace, OfTask, subject_of, subject_in, ordinary_of}
 use Rattle.convergence.proofs.Public.{find-passes, find-some, same_cell}
 use Rattle.converge_laws.specs.Accepted.{IsAccepted, AreAccepted, IsOfRound, AreApart}
-use Rattle.converge_laws.specs.Converged.{is_held, IsStateHeld, HasItsPlace, IsInstanceSettled, is_running, runs, IsKeptAside, IsTaskSettled, IsConverged}
+use Rattle.converge_laws.specs.Converged.{is_held, IsStateHeld, HasItsPlace, HasItsContainer, IsUnwantedKept, IsInstanceSettled, IsKeptAside, IsSuspected, IsTaskSettled, IsConverged}
 use Rattle.converge_laws.specs.Laws.{AreOfRound, KeepsGround}
 use Rattle.converge_laws.specs.Stages.{IsSameCell, IsClaimOf, IsClaimed, IsWith, AreWith, MayBePlaced, IsPlaceable, MayTaskBePlaced, IsTaskPlaceable, IsCleared, PlacesAll}
 use Rattle.converge_laws.proofs.Frames.{stays-ordinary, stays-evacuating, stays-task}
@@ -78,10 +79,10 @@ pub not_aside : (j : JobName) (key : Key) → subject_for j ≢ OfPlace (key, Ev
 not_aside (job.Lrp k) key e = let other : Ordinary ≡ Evacuating = ap (λ (s : Subject). (place_in (key, Ordinary) s).1) e in absurd cc
 not_aside (job.Task n) key e = cc
 
--- nor about a SUSPECT row
-pub not_suspect : (j : JobName) (key : Key) → subject_for j ≢ OfPlace (key, Suspect)
-not_suspect (job.Lrp k) key e = let other : Ordinary ≡ Suspect = ap (λ (s : Subject). (place_in (key, Ordinary) s).1) e in absurd cc
-not_suspect (job.Task n) key e = cc
+-- nor changes a SUSPECT row
+pub claim-unsuspected : (j : JobName) (instance : Instance) (cell : List ℕ) (o : Op) → IsClaimOf j instance cell o → suspect_in o ≡ None
+claim-unsuspected (job.Lrp key) instance cell o e = ap suspect_in e
+claim-unsuspected (job.Task name) instance cell o e = ap suspect_in e
 
 -- what a claim of all that waits is made of
 pub record IsClaiming (rows : Rows) (before after : List Answer) (now : Moment) (cs : List Command) : Type 0 where

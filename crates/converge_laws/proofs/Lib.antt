@@ -7,6 +7,8 @@ pub mod Grounds
 pub mod WorkOps
 pub mod WorkStage
 pub mod Held
+pub mod Rests
+pub mod Kept
 pub mod PlanOps
 pub mod PlanStage
 pub mod Lists

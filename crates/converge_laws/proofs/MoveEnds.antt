@@ -155,7 +155,7 @@ module _ (old : Actual) (now : Moment) where
 pub record IsNowClaimed (old : Actual) (instance : Instance) (cell : List ℕ) (row : Option Actual) : Type 0 where
   pub new : Actual
   pub is : row ≡ Some new
-  pub how : ((old.state ≡ state.Unclaimed) × (new.state ≡ state.Claimed instance cell) × (new.key ≡ old.key))
+  pub how : ((old.state ≡ state.Unclaimed) × (new.state ≡ state.Claimed instance cell) × (new.key ≡ old.key) × (new.domain ≡ old.domain))
       ⊎ ((new ≡ old) × (held : Instance) × (where' : List ℕ) × (old.state ≡ state.Claimed held where') × (is_same_instance instance held ≡ true))
 
 module _ (old : Actual) (now : Moment) (instance : Instance) (cell : List ℕ) where
@@ -176,7 +176,7 @@ module _ (old : Actual) (now : Moment) (instance : Instance) (cell : List ℕ) w
   claimed-state state.Unclaimed is h = record {
     new = record old { state = state.Claimed instance cell; since = now; error = false };
     is = refl;
-    how = inl (is, refl, refl);
+    how = inl (is, refl, refl, refl);
   }
   claimed-state (state.Claimed held where') is h = claimed-own held where' is h
   claimed-state (state.Running held where') is h = absurd (claimed-other held h)

@@ -1,5 +1,5 @@
 -- What an accepted command leaves of its row.
-use Rattle.std.proofs.Common.{◌≡◌, ◌⊎◌, ℕ, ◌+◌, ◌*◌, ◌^◌, ◌-◌, ◌<◌, Bool, true, false, cond, List, Option, Some, None, nat_le, refl, ap, sym, subst, ◌∙◌, inl, inr, arith}
+use Rattle.std.proofs.Common.{◌≡◌, ◌⊎◌, ℕ, ◌+◌, ◌*◌, ◌^◌, ◌-◌, ◌<◌, ◌++◌, not, ◌&&◌, Bool, true, false, cond, List, Option, Some, None, nat_le, refl, ap, sym, subst, ◌∙◌, inl, inr, arith}
 use Rattle.std.proofs.lemmas.Bool.Decides.{nat_tests}
 use Rattle.std.proofs.lemmas.Nat.{pow_pos}
 use Rattle.std.specs.Option.{option_map_or}
@@ -12,8 +12,8 @@ use Rattle.diego_names.proofs.Public.{IsKeyOrder-name_order}
 use Rattle.diego_names.specs.Order.{name_order}
 use Rattle.diego_names.specs.declared.instance.Instance.{Instance}
 use Rattle.diego_names.specs.declared.key.Key.{Key}
-use Rattle.lrp_records.proofs.Public.{KeepsPlace-lrp_move, IsKeyOrder-place_order}
-use Rattle.lrp_records.specs.Laws.{KeepsPlace}
+use Rattle.lrp_records.proofs.Public.{KeepsPlace-lrp_move, KeepsDomain-lrp_move, IsKeyOrder-place_order}
+use Rattle.lrp_records.specs.Laws.{KeepsPlace, KeepsDomain}
 use Rattle.lrp_records.specs.Moves.{lrp_move, from_state}
 use Rattle.lrp_records.specs.Place.{place_of, place_order}
 use Rattle.lrp_records.specs.States.{holder_of, is_same_instance}
@@ -23,7 +23,7 @@ use Rattle.lrp_records.specs.declared.lrp_move.LrpMove.{LrpMove}
 use Rattle.lrp_records.specs.declared.lrp_move.LrpMove.TheVariants as lrp
 use Rattle.lrp_records.specs.declared.move_end.MoveEnd.{MoveEnd}
 use Rattle.lrp_records.specs.declared.move_end.MoveEnd.TheVariants as end
-use Rattle.lrp_records.specs.declared.presence.Presence.TheVariants.{Ordinary, Evacuating}
+use Rattle.lrp_records.specs.declared.presence.Presence.TheVariants.{Ordinary, Evacuating, Suspect}
 use Rattle.lrp_records.specs.declared.refusal.LrpRefusal.{LrpRefusal}
 use Rattle.lrp_records.specs.declared.refusal.LrpRefusal.TheVariants as why
 use Rattle.lrp_records.specs.declared.state.LrpState.{LrpState}
@@ -32,7 +32,7 @@ use Rattle.row_tables.specs.Table.{find_row, put_row, without_row}
 use Rattle.row_tables.proofs.Public.{key-find_row, find_row-put_row_same, find_row-without_row_same}
 use Rattle.bbs_model.specs.Attempts.{if_known, if_joined, unless_refused, put, drop_row}
 use Rattle.bbs_model.specs.Found.{found_by}
-use Rattle.bbs_model.specs.Lrps.{moved_to, make_refusals, new_row, domain_of, is_running_as, stays_because}
+use Rattle.bbs_model.specs.Lrps.{moved_to, make_refusals, new_row, domain_of, is_running_as, runs_as, stays_because, aside_row, left_row, lease_refusals, aside_refusals, set_aside, keeps_aside}
 use Rattle.bbs_model.specs.Runs.{state_after}
 use Rattle.bbs_model.specs.Step.{attempt_of, changed_by, verdict_of}
 use Rattle.bbs_model.specs.Tables.{find_actual, find_cell, find_task}
@@ -46,7 +46,7 @@ use Rattle.bbs_model.specs.declared.rows.Rows.{Rows}
 use Rattle.bbs_model.specs.declared.verdict.BoardRefusal.{BoardRefusal}
 use Rattle.bbs_laws.proofs.Public.{by_passing, by_knowing, by_joining, by_test}
 use Rattle.converge_laws.specs.Accepted.{IsAccepted}
-use Rattle.converge_laws.proofs.Frames.{IsTried, tried, state_is}
+use Rattle.converge_laws.proofs.Frames.{IsTried, tried, state_is, and_false}
 
 -- the row after the end of a move
 abbrev pub left_by : Actual → MoveEnd → Option Actual
@@ -54,6 +54,16 @@ left_by old (end.Changed new) = Some new
 left_by old end.Gone = None
 left_by old end.Same = Some old
 left_by old (end.Refused because) = Some old
+
+-- the row that a move leaves has the domain that it had
+domain-end : (old new : Actual) (e : MoveEnd) → KeepsDomain old e → left_by old e ≡ Some new → new.domain ≡ old.domain
+domain-end old new (end.Changed row') keeps is = let same : row' ≡ new = cc in ap (λ (a : Actual). a.domain) (sym same) ∙ keeps
+domain-end old new end.Gone keeps is = absurd cc
+domain-end old new end.Same keeps is = let same : old ≡ new = cc in ap (λ (a : Actual). a.domain) (sym same)
+domain-end old new (end.Refused because) keeps is = let same : old ≡ new = cc in ap (λ (a : Actual). a.domain) (sym same)
+
+pub domain-left : (old new : Actual) (move : LrpMove) (now : Moment) → left_by old (lrp_move old move now) ≡ Some new → new.domain ≡ old.domain
+domain-left old new move now is = domain-end old new (lrp_move old move now) (KeepsDomain-lrp_move old move now) is
 
 -- the move isn't refused
 abbrev pub IsTaken : MoveEnd → Type 0
@@ -146,6 +156,42 @@ module _ (rows : Rows) (now : Moment) (key : Key) where
       (by_passing (IfTried (λ attempt. find_actual (changed_by rows attempt) key Ordinary ≡ Some beginning)) (λ because f. absurd f)
       (make_refusals (found_by rows (op.Make key)) key) (put (row.Actual beginning))
       (λ passed f. find_row-put_row_same place_order place_of IsKeyOrder-place_order beginning rows.actual))
+
+  -- a suspected instance that runs is placed anew
+  pub after-suspect : (instance : Instance) (a : Actual) → find_actual rows key Ordinary ≡ Some a → is_running_as a.state instance ≡ true
+      → IsAccepted (verdict_of rows (at now (op.Suspect key instance))) → find_actual (state_after rows (at now (op.Suspect key instance))) key Ordinary ≡ Some (left_row a now)
+  after-suspect instance a found runs h =
+      let c : Command = at now (op.Suspect key instance) in
+      let f = found_by rows (op.Suspect key instance) in
+      let Q : Rows → Type 0 = λ new. find_actual new key Ordinary ≡ Some (left_row a now) in
+      let P = IfTried (λ attempt. Q (changed_by rows attempt)) in
+      let refusals = lease_refusals f.cell instance.epoch now ++ aside_refusals f.suspect f in
+      let place : place_of a ≡ (key, Ordinary) = key-find_row place_order place_of IsKeyOrder-place_order (key, Ordinary) a rows.actual found in
+      let set : Q (changed_by rows (set_aside Suspect a now)) =
+      subst (λ p. find_row place_order place_of p (put_row place_order place_of (left_row a now) (put_row place_order place_of (aside_row Suspect a) rows.actual)) ≡ Some (left_row a now)) place
+      (find_row-put_row_same place_order place_of IsKeyOrder-place_order (left_row a now) (put_row place_order place_of (aside_row Suspect a) rows.actual)) in
+      let passes : P (unless_refused refusals (set_aside Suspect a now)) = by_passing P (λ because g. absurd g) refusals (set_aside Suspect a now) (λ passed g. set) in
+      let runs' : runs_as (find_actual rows key Ordinary) instance ≡ true = ap (λ (o : Option Actual). runs_as o instance) found ∙ runs in
+      let test : (runs_as f.suspect instance && not (runs_as f.ordinary instance)) ≡ false = ap (λ (b : Bool). runs_as f.suspect instance && not b) runs' ∙ and_false (runs_as f.suspect instance) in
+      let same : keeps_aside Suspect f.suspect refusals f instance now ≡ unless_refused refusals (set_aside Suspect a now) =
+      ap (λ (b : Bool). cond b Keep (if_known f.ordinary (λ old. cond (is_running_as old.state instance) (unless_refused refusals (set_aside Suspect old now)) (Refuse (stays_because old.state instance))))) test
+      ∙ ap (λ (o : Option Actual). if_known o (λ old. cond (is_running_as old.state instance) (unless_refused refusals (set_aside Suspect old now)) (Refuse (stays_because old.state instance)))) found
+      ∙ ap (λ (b : Bool). cond b (unless_refused refusals (set_aside Suspect a now)) (Refuse (stays_because a.state instance))) runs in
+      by_attempt Q rows c h (subst P (sym same) passes)
+
+  -- a SUSPECT row is gone
+  pub after-drop_suspect : (instance : Instance) → IsAccepted (verdict_of rows (at now (op.DropSuspect key instance))) → find_actual (state_after rows (at now (op.DropSuspect key instance))) key Suspect ≡ None
+  after-drop_suspect instance h =
+      let c : Command = at now (op.DropSuspect key instance) in
+      let P = IfTried (λ attempt. find_actual (changed_by rows attempt) key Suspect ≡ None) in
+      by_attempt (λ new. find_actual new key Suspect ≡ None) rows c h
+      (by_knowing P (λ because f. absurd f) (find_actual rows key Suspect) (λ old. cond (is_running_as old.state instance) (drop_row (row.Actual old)) (Refuse (stays_because old.state instance))) (λ old found.
+      by_test P (λ because f. absurd f) (is_running_as old.state instance) (drop_row (row.Actual old)) (Refuse (stays_because old.state instance))
+      (λ runs f.
+      let place : place_of old ≡ (key, Suspect) = key-find_row place_order place_of IsKeyOrder-place_order (key, Suspect) old rows.actual found in
+      subst (λ p. find_row place_order place_of p (without_row place_order place_of (place_of old) rows.actual) ≡ None) place
+      (find_row-without_row_same place_order place_of IsKeyOrder-place_order (place_of old) rows.actual))
+      (λ other f. absurd f)))
 
   -- an EVACUATING row is gone
   pub after-drop : (instance : Instance) → IsAccepted (verdict_of rows (at now (op.DropEvacuating key instance))) → find_actual (state_after rows (at now (op.DropEvacuating key instance))) key Evacuating ≡ None

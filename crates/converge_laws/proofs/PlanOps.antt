@@ -31,6 +31,7 @@ use Rattle.bbs_model.specs.Step.{verdict_of}
 use Rattle.bbs_model.specs.Tables.{task_name_of, find_actual, find_task}
 use Rattle.bbs_model.specs.Valid.{IsValid, IsActualRow, IsRunning, SuitsPresence}
 use Rattle.bbs_model.specs.Work as told
+use Rattle.bbs_model.specs.Work.{is_running, runs}
 use Rattle.bbs_model.specs.declared.command.Command.{Command}
 use Rattle.bbs_model.specs.declared.command.Op.{Op}
 use Rattle.bbs_model.specs.declared.command.Op.TheVariants as op
@@ -40,116 +41,73 @@ use Rattle.convergence.specs.Plans as planned
 use Rattle.convergence.specs.PlanLaws.{plan_on}
 use Rattle.convergence.specs.Subjects.{Subject, OfCell, OfDomain, OfPlace, OfTask, OfProcess, subject_of, subject_in, work_on, ordinary_of}
 use Rattle.convergence.proofs.Public.{about_is, about_plan, plan_rises, plan_is_by_subject}
-use Rattle.converge_laws.specs.Accepted.{IsAccepted, AreAccepted, IsOfRound}
-use Rattle.converge_laws.specs.Converged.{is_held, is_running, runs, IsStateHeld, IsKeptAside}
+use Rattle.converge_laws.specs.Accepted.{IsAccepted, AreAccepted, IsOfRound, AreApart}
+use Rattle.converge_laws.specs.Converged.{is_held, HasItsContainer, IsUnwantedKept, IsStateHeld, IsKeptAside}
 use Rattle.converge_laws.specs.Laws.{AreOfRound, KeepsGround}
 use Rattle.converge_laws.specs.Stages.{IsWorked, HaveAnswered, MayBePlaced, IsPlaceable, MayTaskBePlaced, IsTaskPlaceable, IsPlanned}
-use Rattle.converge_laws.proofs.Frames.{stays-ordinary, stays-evacuating, stays-task}
+use Rattle.converge_laws.proofs.Frames.{IsNoSuspicion, stays-ordinary, stays-evacuating, stays-task}
 use Rattle.converge_laws.proofs.Held.{found-there, held-from, held-ground, find_row-each}
+use Rattle.converge_laws.proofs.Kept.{placeable-as}
 use Rattle.converge_laws.proofs.MoveEnds.{IsUnclaimed, IsToWait, unclaimed, has-crashed}
 use Rattle.converge_laws.proofs.Moves.{after-unclaim, after-crash, after-drop}
-use Rattle.converge_laws.proofs.Runs.{apart_from_rising, run-other, run-took, run-ground}
+use Rattle.converge_laws.proofs.Rests.{MayStand}
+use Rattle.converge_laws.proofs.Runs.{alone_unsuspected, apart_from_rising, run-other, run-took, run-ground}
 use Rattle.converge_laws.proofs.TaskMoves.{HasEnded, after-complete, has-completed}
 use Rattle.converge_laws.proofs.WorkOps.{IfAsked, asked_either, asked-then, cancel-ends}
-use Rattle.converge_laws.proofs.WorkStage.{all_false}
 
--- what a plan asks is of a round
-round-asked : (c : Option Container) (gone ended : Op) → IsOfRound gone → IsOfRound ended → IfAsked IsOfRound (planned.asked_of_told c gone ended)
+-- it is of a round, and suspects nothing
+abbrev pub IsOfPlan : Op → Type 0
+IsOfPlan o = IsOfRound o × IsNoSuspicion o
+
+-- so is what a plan asks
+round-asked : (c : Option Container) (gone ended : Op) → IsOfPlan gone → IsOfPlan ended → IfAsked IsOfPlan (planned.asked_of_told c gone ended)
 round-asked None gone ended f g = f
-round-asked (Some c) gone ended f g = asked_either IsOfRound (is_uncompleted c.state) None (Some ended) tt g
+round-asked (Some c) gone ended f g = asked_either IsOfPlan (is_uncompleted c.state) None (Some ended) tt g
 
-round-row : (presence : Presence) (key : Key) (instance : Instance) (c : Option Container) → IfAsked IsOfRound (planned.row_plan presence key instance c)
-round-row Ordinary key instance c = round-asked c (op.Unclaim key instance) (op.Crash key instance) tt tt
-round-row Evacuating key instance c = round-asked c (op.DropEvacuating key instance) (op.DropEvacuating key instance) tt tt
-round-row Suspect key instance c = tt
+round-row : (presence : Presence) (key : Key) (instance : Instance) (c : Option Container) → IfAsked IsOfPlan (planned.row_plan presence key instance c)
+round-row Ordinary key instance c = round-asked c (op.Unclaim key instance) (op.Crash key instance) (tt, tt) (tt, tt)
+round-row Evacuating key instance c = round-asked c (op.DropEvacuating key instance) (op.DropEvacuating key instance) (tt, tt) (tt, tt)
+round-row Suspect key instance c = round-asked c (op.DropSuspect key instance) (op.DropSuspect key instance) (tt, tt) (tt, tt)
 
-round-outcome : (name : List ℕ) (instance : Instance) (s : ContainerState) → IfAsked IsOfRound (planned.outcome_plan name instance s)
+round-outcome : (name : List ℕ) (instance : Instance) (s : ContainerState) → IfAsked IsOfPlan (planned.outcome_plan name instance s)
 round-outcome name instance Reserved = tt
 round-outcome name instance Running = tt
-round-outcome name instance (Completed failed) = tt
+round-outcome name instance (Completed failed) = (tt, tt)
 
-round-task_row : (name : List ℕ) (instance : Instance) (c : Option Container) → IfAsked IsOfRound (planned.task_row_plan name instance c)
-round-task_row name instance None = tt
+round-task_row : (name : List ℕ) (instance : Instance) (c : Option Container) → IfAsked IsOfPlan (planned.task_row_plan name instance c)
+round-task_row name instance None = (tt, tt)
 round-task_row name instance (Some c) = round-outcome name instance c.state
 
-round-plan : (rows : Rows) (answers : List Answer) (s : Subject) → IfAsked IsOfRound (plan_on rows answers s)
+round-plan : (rows : Rows) (answers : List Answer) (s : Subject) → IfAsked IsOfPlan (plan_on rows answers s)
 round-plan rows answers (OfCell name) = tt
 round-plan rows answers (OfDomain name) = tt
 round-plan rows answers (OfPlace p) =
-    asked-then IsOfRound (planned.actual_plan answers) (find_actual rows p.0 p.1) (λ a.
-    asked-then IsOfRound (λ (site : Site). option_and_then (planned.row_plan a.presence a.key site.0) (planned.told_of answers (job.Lrp a.key) site)) (site_of a.state) (λ site.
-    asked-then IsOfRound (planned.row_plan a.presence a.key site.0) (planned.told_of answers (job.Lrp a.key) site) (round-row a.presence a.key site.0)))
+    asked-then IsOfPlan (planned.actual_plan answers) (find_actual rows p.0 p.1) (λ a.
+    asked-then IsOfPlan (λ (site : Site). option_and_then (planned.row_plan a.presence a.key site.0) (planned.told_of answers (job.Lrp a.key) site)) (site_of a.state) (λ site.
+    asked-then IsOfPlan (planned.row_plan a.presence a.key site.0) (planned.told_of answers (job.Lrp a.key) site) (round-row a.presence a.key site.0)))
 round-plan rows answers (OfTask name) =
-    asked-then IsOfRound (planned.task_plan answers) (find_task rows name) (λ t.
-    asked-then IsOfRound (λ (site : Site). option_and_then (planned.task_row_plan t.name site.0) (planned.told_of answers (job.Task t.name) site)) (task_site_of t.state) (λ site.
-    asked-then IsOfRound (planned.task_row_plan t.name site.0) (planned.told_of answers (job.Task t.name) site) (round-task_row t.name site.0)))
+    asked-then IsOfPlan (planned.task_plan answers) (find_task rows name) (λ t.
+    asked-then IsOfPlan (λ (site : Site). option_and_then (planned.task_row_plan t.name site.0) (planned.told_of answers (job.Task t.name) site)) (task_site_of t.state) (λ site.
+    asked-then IsOfPlan (planned.task_row_plan t.name site.0) (planned.told_of answers (job.Task t.name) site) (round-task_row t.name site.0)))
 round-plan rows answers (OfProcess name) = tt
+
+plan-op : (rows : Rows) (answers : List Answer) (now : Moment) → IsValid rows → (c : Command) → Contains (planned.plan_of_answers rows answers now) c → IsOfPlan c.op
+plan-op rows answers now valid c inside = subst (IfAsked IsOfPlan) ((plan_is_by_subject rows answers now c valid).0 inside).1 (round-plan rows answers (subject_in c))
+
+pub plan-unsuspected : (rows : Rows) (answers : List Answer) (now : Moment) → IsValid rows → (c : Command) → Contains (planned.plan_of_answers rows answers now) c → IsNoSuspicion c.op
+plan-unsuspected rows answers now valid c inside = (plan-op rows answers now valid c inside).1
+
+-- its commands are apart
+pub plan-apart : (rows : Rows) (answers : List Answer) (now : Moment) → IsValid rows → AreApart (planned.plan_of_answers rows answers now)
+plan-apart rows answers now valid =
+    apart_from_rising (planned.plan_of_answers rows answers now) (plan_rises rows answers now valid)
+    (alone_unsuspected (planned.plan_of_answers rows answers now) (plan-unsuspected rows answers now valid))
 
 pub plan_of_round : (rows : Rows) (answers : List Answer) (now : Moment) → IsValid rows → AreOfRound now (planned.plan_of_answers rows answers now)
 plan_of_round rows answers now valid = record {
-  ops = λ c inside. subst (IfAsked IsOfRound) ((plan_is_by_subject rows answers now c valid).0 inside).1 (round-plan rows answers (subject_in c));
+  ops = λ c inside. (plan-op rows answers now valid c inside).0;
   moments = λ c inside. ((plan_is_by_subject rows answers now c valid).0 inside).0;
 }
-
--- what rests once work is done
-abbrev pub RestsIn : Rows → Moment → Actual → LrpState → Type 0
-RestsIn rows now a lrp.Unclaimed = Unit {0}
-RestsIn rows now a (lrp.Claimed instance cell) = told.is_there rows now cell instance.epoch ≡ true
-RestsIn rows now a (lrp.Running instance cell) = told.is_there rows now cell instance.epoch ≡ true
-RestsIn rows now a lrp.Crashed = told.is_due a now ≡ false
-
-module _ (rows : Rows) (now : Moment) (key : Key) where
-  there-unless_lost : (b : Bool) (given again : Option Op) (o : Op) → given ≡ Some o → cond (not b) given again ≡ None → b ≡ true
-  there-unless_lost true given again o is e = refl
-  there-unless_lost false given again o is e = absurd cc
-
-  rests-state : (a : Actual) (s : LrpState) → cond (told.is_lost rows now s) (told.unclaim key s) (told.restart_if_due key a now s) ≡ None → RestsIn rows now a s
-  rests-state a lrp.Unclaimed e = tt
-  rests-state a (lrp.Claimed instance cell) e = there-unless_lost (told.is_there rows now cell instance.epoch) (Some (op.Unclaim key instance)) None (op.Unclaim key instance) refl e
-  rests-state a (lrp.Running instance cell) e = there-unless_lost (told.is_there rows now cell instance.epoch) (Some (op.Unclaim key instance)) None (op.Unclaim key instance) refl e
-  rests-state a lrp.Crashed e =
-      elim (told.is_due a now) as (λ (b : Bool). told.asked_if b (op.Restart key) ≡ None → b ≡ false) [ true ↦ λ f. absurd cc | false ↦ λ f. refl ] e
-
-  pub rests-row : (a : Actual) → told.ordinary_work rows now key (Some a) ≡ None → (told.wants rows key ≡ true) × RestsIn rows now a a.state
-  rests-row a e =
-      elim (told.wants rows key) as (λ (b : Bool). cond (not b) (Some (op.Remove key (holder_of a.state))) (cond (told.is_lost rows now a.state) (told.unclaim key a.state) (told.restart_if_due key a now a.state)) ≡ None
-      → (b ≡ true) × RestsIn rows now a a.state) [
-        | true ↦ λ f. (refl, rests-state a a.state f)
-        | false ↦ λ f. absurd cc
-      ] e
-
-  pub rests-none : told.ordinary_work rows now key None ≡ None → told.wants rows key ≡ false
-  rests-none e = elim (told.wants rows key) as (λ (b : Bool). told.asked_if b (op.Make key) ≡ None → b ≡ false) [ true ↦ λ f. absurd cc | false ↦ λ f. refl ] e
-
-  -- a row that rests and isn't RUNNING on a cell that is there isn't RUNNING
-  idle-state : (a : Actual) (s : LrpState) → RestsIn rows now a s → told.runs_in rows now s ≡ false → is_running s ≡ false
-  idle-state a lrp.Unclaimed h e = refl
-  idle-state a (lrp.Claimed instance cell) h e = refl
-  idle-state a (lrp.Running instance cell) h e = sym h ∙ e
-  idle-state a lrp.Crashed h e = refl
-
-  pub idle-row : (r : Option Actual) → told.ordinary_work rows now key r ≡ None → told.runs_there rows now r ≡ false → runs r ≡ false
-  idle-row None e rests = refl
-  idle-row (Some a) e rests = idle-state a a.state (rests-row a e).1 rests
-
--- what an EVACUATING row that rests comes to
-module _ (rows : Rows) (now : Moment) (key : Key) where
-  pub running-holder : (s : LrpState) → IsRunning s → (instance : Instance) × (cell : List ℕ) × (s ≡ lrp.Running instance cell)
-  running-holder lrp.Unclaimed h = absurd h
-  running-holder (lrp.Claimed instance cell) h = absurd h
-  running-holder (lrp.Running instance cell) h = (instance, cell, refl)
-  running-holder lrp.Crashed h = absurd h
-
-  pub unspent-row : (a : Actual) (instance : Instance) (cell : List ℕ) → a.state ≡ lrp.Running instance cell → told.evacuating_work rows now key (Some a) ≡ None → told.is_spent rows now key a ≡ false
-  unspent-row a instance cell is e =
-      elim (told.is_spent rows now key a) as (λ (b : Bool). cond b (told.drop_row_of key a.state) None ≡ None → b ≡ false) [
-        | true ↦ λ f. let some : told.drop_row_of key a.state ≡ Some (op.DropEvacuating key instance) = ap (told.drop_row_of key) is in absurd cc
-        | false ↦ λ f. refl
-      ] e
-
-pub not_false : (b : Bool) → not b ≡ false → b ≡ true
-not_false true e = refl
-not_false false e = absurd cc
 
 module _ (rows : Rows) (got stores : List Answer) (now : Moment) (heard : HaveAnswered rows got stores now) where
   -- what a cell that is there tells of a row's container
@@ -228,19 +186,18 @@ module _ (rows : Rows) (got stores : List Answer) (now : Moment) (heard : HaveAn
 abbrev pub IsDone : Rows → List Answer → Moment → Key → Option Actual → Option Actual → Type 0
 IsDone rows stores now key before after = IsPlaceable rows stores now key after × ((after ≡ before) ⊎ (runs after ≡ false))
 
-module _ (rows : Rows) (stores : List Answer) (now : Moment) (key : Key) (before after : Option Actual) (wanted : told.wants rows key ≡ true) where
+-- the row that is left is in this domain, and may stand there
+module _ (rows : Rows) (stores : List Answer) (now : Moment) (key : Key) (before after : Option Actual) (domain : Option (List ℕ)) (reason : MayStand rows now key domain)
+    (same : (a : Actual) → after ≡ Some a → a.domain ≡ domain) where
+  placed : (a : Actual) → after ≡ Some a → MayBePlaced rows stores now a a.state → IsPlaceable rows stores now key after
+  placed a is h = subst (IsPlaceable rows stores now key) (sym is) (placeable-as rows stores now key a (subst (MayStand rows now key) (sym (same a is)) reason) h)
+
   pub done-unclaimed : IsUnclaimed after → IsDone rows stores now key before after
-  done-unclaimed (a, is, state) = (
-    subst (IsPlaceable rows stores now key) (sym is) (wanted, subst (MayBePlaced rows stores now a) (sym state) tt),
-    inr (ap runs is ∙ ap is_running state),
-  )
+  done-unclaimed (a, is, state) = (placed a is (subst (MayBePlaced rows stores now a) (sym state) tt), inr (ap runs is ∙ ap is_running state))
 
   pub done-waits : IsToWait now after → IsDone rows stores now key before after
   done-waits (a, is, how) =
       ⊎_elim
       (λ (state : a.state ≡ lrp.Unclaimed). done-unclaimed (a, is, state))
-      (λ (h : (a.state ≡ lrp.Crashed) × (told.is_due a now ≡ false)). (
-        subst (IsPlaceable rows stores now key) (sym is) (wanted, subst (MayBePlaced rows stores now a) (sym h.0) h.1),
-        inr (ap runs is ∙ ap is_running h.0),
-      ))
+      (λ (h : (a.state ≡ lrp.Crashed) × (told.is_due a now ≡ false)). (placed a is (subst (MayBePlaced rows stores now a) (sym h.0) h.1), inr (ap runs is ∙ ap is_running h.0)))
       how

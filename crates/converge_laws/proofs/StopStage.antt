@@ -1,5 +1,5 @@
 -- Once all strays are stopped none is left, and no row lost its container.
-use Rattle.std.proofs.Common.{◌≡◌, ℕ, Bool, true, false, ◌&&◌, ◌||◌, ◌==◌, not, filter, List, Option, Some, None, nat_eq, refl, ap, sym, ◌∙◌, subst}
+use Rattle.std.proofs.Common.{◌≡◌, ◌⊎◌, inl, inr, ⊎_elim, ℕ, Bool, true, false, ◌&&◌, ◌||◌, ◌==◌, not, filter, List, Option, Some, None, nat_eq, refl, ap, sym, ◌∙◌, subst}
 use Rattle.std.specs.Cmp.Lexicographic.{pointwise}
 use Rattle.std.specs.List.{AllZip, Contains, flat_map}
 use Rattle.std.specs.Option.{unwrap_or}
@@ -24,12 +24,12 @@ use Rattle.task_records.specs.declared.task.Task.{Task}
 use Rattle.bbs_model.specs.Tables.{find_actual, find_task}
 use Rattle.row_tables.specs.Table.{IsRising}
 use Rattle.task_records.specs.States.{runner_of}
-use Rattle.bbs_model.specs.Work.{is_there}
+use Rattle.bbs_model.specs.Work.{is_there, wants}
 use Rattle.bbs_model.specs.declared.rows.Rows.{Rows}
 use Rattle.convergence.specs.Containers.{is_answer_of, answer_from, is_container_of, container_in, is_named_for, is_named}
 use Rattle.convergence.specs.Strays.{is_stray, strays_in, stray_order, strays}
 use Rattle.convergence.proofs.Public.{find-passes, find-some, Contains-table, Contains-from_table, IsKeyOrder-stray_order, same_cell}
-use Rattle.converge_laws.specs.Converged.{is_held, IsStateHeld, IsKeptAside}
+use Rattle.converge_laws.specs.Converged.{is_held, HasItsContainer, IsUnwantedKept, IsStateHeld, IsKeptAside}
 use Rattle.converge_laws.specs.Stages.{HaveAnswered, IsSameCell, IsWithout, AreWithout, MayBePlaced, IsPlaceable, MayTaskBePlaced, IsTaskPlaceable, IsPlanned, NoStrays, IsCleared}
 use Rattle.converge_laws.proofs.Held.{found-there, held-from, held-in, row-key}
 use Rattle.converge_laws.proofs.Lists.{inside_map, from_map, inside_flat_map, from_flat_map, inside_filter, from_filter, zip_back, zip_find}
@@ -108,6 +108,12 @@ module _ (rows : Rows) (got before after : List Answer) (now : Moment) (heard : 
       (held-stays (job.Lrp key) instance cell (named-ordinary rows key a instance is (ap holder_of state)) (subst (λ (k : Key). is_held rows before now (job.Lrp k) instance cell ≡ true) place h))
   state-stays key a lrp.Crashed is state place h = h
 
+  container-stays : (key : Key) (a : Actual) (s : LrpState) → find_actual rows key Ordinary ≡ Some a → a.state ≡ s → a.key ≡ key → HasItsContainer rows before now a s → HasItsContainer rows after now a s
+  container-stays key a lrp.Unclaimed is state place h = tt
+  container-stays key a (lrp.Claimed instance cell) is state place h = state-stays key a (lrp.Claimed instance cell) is state place h
+  container-stays key a (lrp.Running instance cell) is state place h = state-stays key a (lrp.Running instance cell) is state place h
+  container-stays key a lrp.Crashed is state place h = tt
+
   aside-stays : (key : Key) (a : Actual) (s : LrpState) → find_actual rows key Evacuating ≡ Some a → a.state ≡ s → IsStateHeld rows before now key s → IsStateHeld rows after now key s
   aside-stays key a lrp.Unclaimed is state h = h
   aside-stays key a (lrp.Claimed instance cell) is state h = held-stays (job.Lrp key) instance cell (named-evacuating rows key a instance is (ap holder_of state)) h
@@ -140,7 +146,12 @@ module _ (rows : Rows) (got before after : List Answer) (now : Moment) (heard : 
   module _ (planned : IsPlanned rows before now) where
     placeable-stays : (key : Key) (r : Option Actual) → find_actual rows key Ordinary ≡ r → IsPlaceable rows before now key r → IsPlaceable rows after now key r
     placeable-stays key None is h = h
-    placeable-stays key (Some a) is h = (h.0, state-stays key a a.state is refl (row-key rows key Ordinary a is) h.1)
+    placeable-stays key (Some a) is h =
+        let place : a.key ≡ key = row-key rows key Ordinary a is in
+        ⊎_elim
+        (λ (wanted : (wants rows key ≡ true) × MayBePlaced rows before now a a.state). inl (wanted.0, state-stays key a a.state is refl place wanted.1))
+        (λ (stale : IsUnwantedKept rows before now key a). inr (stale.0, stale.1, container-stays key a a.state is refl place stale.2))
+        h
 
     kept-stays : (key : Key) (r : Option Actual) → find_actual rows key Evacuating ≡ r → IsKeptAside rows before now key r → IsKeptAside rows after now key r
     kept-stays key None is h = h
@@ -155,6 +166,7 @@ module _ (rows : Rows) (got before after : List Answer) (now : Moment) (heard : 
       planned = record {
         ordinary = λ key. placeable-stays key (find_actual rows key Ordinary) refl (planned.ordinary key);
         aside = λ key. kept-stays key (find_actual rows key Evacuating) refl (planned.aside key);
+        suspected = planned.suspected;
         tasks = λ name. task_placeable-stays name (find_task rows name) refl (planned.tasks name);
       };
       clear = no_strays;

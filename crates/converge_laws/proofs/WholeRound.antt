@@ -21,7 +21,7 @@ use Rattle.converge_laws.proofs.Lists.{zip_find}
 use Rattle.converge_laws.proofs.PlanStage.{plan-ground, plan-leaves_held}
 use Rattle.converge_laws.proofs.Runs.{run-valid}
 use Rattle.converge_laws.proofs.StopStage.{alike, stops-leave_none}
-use Rattle.converge_laws.proofs.WorkStage.{work-ground, work-leaves_nothing}
+use Rattle.converge_laws.proofs.WorkStage.{work-ground, work-leaves_suspicions}
 
 -- who has answered has answered where the same cells are there
 pub answered-ground : (old new : Rows) (got stores : List Answer) (now : Moment) → KeepsGround now old new → HaveAnswered old got stores now → HaveAnswered new got stores now
@@ -51,7 +51,7 @@ module _ (rows : Rows) (got before left after : List Answer) (now : Moment) (cs 
   heard-worked = answered-ground rows (after_work rows now) got before now (work-ground rows now valid worked) heard
 
   is-worked : IsWorked (after_work rows now) now
-  is-worked = work-leaves_nothing rows now valid worked
+  is-worked = work-leaves_suspicions rows now valid worked
 
   is-planned : IsPlanned (after_plan rows got now) before now
   is-planned = plan-leaves_held (after_work rows now) got before now valid-worked is-worked heard-worked planned

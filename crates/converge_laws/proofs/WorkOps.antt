@@ -1,15 +1,15 @@
 -- What the commands that rows ask for do to their rows.
-use Rattle.std.proofs.Common.{◌≡◌, ◌≢◌, ◌⊎◌, ℕ, ◌+◌, Bool, true, false, cond, not, ◌||◌, List, Option, Some, None, nat_le, nat_lt, refl, ap, sym, subst, ◌∙◌, inl, inr, ⊎_elim, arith}
+use Rattle.std.proofs.Common.{◌≡◌, ◌≢◌, ◌⊎◌, ℕ, ◌+◌, Bool, true, false, cond, not, ◌&&◌, ◌||◌, List, Option, Some, None, nat_le, nat_lt, refl, ap, sym, subst, ◌∙◌, inl, inr, ⊎_elim, arith}
 use Rattle.std.proofs.lemmas.Bool.Decides.{nat_tests}
 use Rattle.std.specs.List.{Contains}
-use Rattle.std.specs.Option.{option_and_then, option_map}
+use Rattle.std.specs.Option.{option_and_then, option_map, option_map_or}
 use Rattle.cell_records.specs.declared.cell_row.CellRow.{CellRow}
 use Rattle.crash_backoff.specs.declared.moment.Moment.{Moment}
 use Rattle.diego_names.proofs.Public.{IsKeyOrder-name_order}
 use Rattle.diego_names.specs.Order.{name_order}
 use Rattle.diego_names.specs.declared.instance.Instance.{Instance}
 use Rattle.diego_names.specs.declared.key.Key.{Key}
-use Rattle.lrp_records.specs.States.{holder_of}
+use Rattle.lrp_records.specs.States.{holder_of, is_same_instance}
 use Rattle.lrp_records.specs.declared.actual.Actual.{Actual}
 use Rattle.lrp_records.specs.declared.presence.Presence.{Presence}
 use Rattle.lrp_records.specs.declared.presence.Presence.TheVariants.{Ordinary, Evacuating, Suspect}
@@ -23,11 +23,13 @@ use Rattle.row_tables.proofs.Public.{key-find_row, find_row-without_row_same}
 use Rattle.task_records.specs.declared.state.TaskState.{TaskState}
 use Rattle.task_records.specs.declared.state.TaskState.TheVariants as task
 use Rattle.task_records.specs.declared.task.Task.{Task}
-use Rattle.bbs_model.specs.Attempts.{drop_row}
+use Rattle.bbs_model.specs.Attempts.{if_known, drop_row}
 use Rattle.bbs_model.specs.Cells.{vanish}
+use Rattle.bbs_model.specs.Domains.{forget, holds_at, told_end}
+use Rattle.bbs_model.specs.Lrps.{is_running_as, left_row}
 use Rattle.bbs_model.specs.Runs.{state_after, state_after_all}
 use Rattle.bbs_model.specs.Step.{changed_by, verdict_of}
-use Rattle.bbs_model.specs.Tables.{cell_name_of, task_name_of, find_actual, find_cell, find_task}
+use Rattle.bbs_model.specs.Tables.{cell_name_of, domain_name_of, task_name_of, find_actual, find_cell, find_domain, find_task}
 use Rattle.bbs_model.specs.Valid.{IsValid}
 use Rattle.bbs_model.specs.Work as told
 use Rattle.bbs_model.specs.declared.attempt.Attempt.{Attempt}
@@ -35,18 +37,20 @@ use Rattle.bbs_model.specs.declared.attempt.Attempt.TheVariants.{Refuse}
 use Rattle.bbs_model.specs.declared.command.Command.{Command}
 use Rattle.bbs_model.specs.declared.command.Op.{Op}
 use Rattle.bbs_model.specs.declared.command.Op.TheVariants as op
+use Rattle.bbs_model.specs.declared.domain_row.DomainRow.{DomainRow}
 use Rattle.bbs_model.specs.declared.event.Row.TheVariants as row
 use Rattle.bbs_model.specs.declared.rows.Rows.{Rows}
 use Rattle.bbs_model.specs.declared.verdict.BoardRefusal.TheVariants.{LeaseHolds}
 use Rattle.convergence.specs.Subjects.{Subject, OfCell, OfDomain, OfPlace, OfTask, OfProcess, subject_of, subject_in, work_on, ordinary_of}
 use Rattle.convergence.proofs.Public.{about_is, about_work, work_rises, work_is_by_subject}
+use Rattle.converge_laws.proofs.Naming.{instance_itself}
 use Rattle.converge_laws.specs.Accepted.{IsAccepted, AreAccepted, IsOfRound}
 use Rattle.converge_laws.specs.Laws.{AreOfRound, KeepsGround}
 use Rattle.converge_laws.specs.Stages.{IsWorked}
 use Rattle.converge_laws.proofs.Frames.{IsTried, stays-ordinary, stays-evacuating, stays-task, stays-cell}
 use Rattle.converge_laws.proofs.Grounds.{lost-ground, runs_there-ground, ordinary-ground, task-ground}
 use Rattle.converge_laws.proofs.MoveEnds.{IsUnclaimed, removed, unclaimed, restarted, late}
-use Rattle.converge_laws.proofs.Moves.{beginning, IfTried, IsMoved, IsTaken, left_by, by_attempt, after-make, after-remove, after-unclaim, after-restart, after-drop}
+use Rattle.converge_laws.proofs.Moves.{beginning, IfTried, IsMoved, IsTaken, left_by, domain-left, by_attempt, after-make, after-remove, after-unclaim, after-restart, after-suspect, after-drop_suspect, after-drop}
 use Rattle.converge_laws.proofs.Runs.{apart_from_rising, run-other, run-took, run-ground}
 use Rattle.converge_laws.proofs.TaskMoves.{HasEnded, IsTaskMoved, task_left_by, after-cancel, after-kick, after-expire, has-cancelled, has-kicked, has-expired}
 
@@ -60,17 +64,24 @@ asked_either P true x y f g = f
 asked_either P false x y f g = g
 
 -- what is asked by the rows alone is of a round
-round-unclaim : (key : Key) (s : LrpState) → IfAsked IsOfRound (told.unclaim key s)
-round-unclaim key lrp.Unclaimed = tt
-round-unclaim key (lrp.Claimed instance cell) = tt
-round-unclaim key (lrp.Running instance cell) = tt
-round-unclaim key lrp.Crashed = tt
+round-given_up : (wanted : Bool) (key : Key) (s : LrpState) → IfAsked IsOfRound (told.given_up wanted key s)
+round-given_up wanted key lrp.Unclaimed = tt
+round-given_up wanted key (lrp.Claimed instance cell) = tt
+round-given_up true key (lrp.Running instance cell) = tt
+round-given_up false key (lrp.Running instance cell) = tt
+round-given_up wanted key lrp.Crashed = tt
 
 round-drop : (key : Key) (s : LrpState) → IfAsked IsOfRound (told.drop_row_of key s)
 round-drop key lrp.Unclaimed = tt
 round-drop key (lrp.Claimed instance cell) = tt
 round-drop key (lrp.Running instance cell) = tt
 round-drop key lrp.Crashed = tt
+
+round-drop_suspect : (key : Key) (s : LrpState) → IfAsked IsOfRound (told.drop_suspect_of key s)
+round-drop_suspect key lrp.Unclaimed = tt
+round-drop_suspect key (lrp.Claimed instance cell) = tt
+round-drop_suspect key (lrp.Running instance cell) = tt
+round-drop_suspect key lrp.Crashed = tt
 
 round-restart : (key : Key) (a : Actual) (now : Moment) (s : LrpState) → IfAsked IsOfRound (told.restart_if_due key a now s)
 round-restart key a now lrp.Unclaimed = tt
@@ -81,13 +92,19 @@ round-restart key a now lrp.Crashed = asked_either IsOfRound (told.is_due a now)
 round-ordinary : (rows : Rows) (now : Moment) (key : Key) (o : Option Actual) → IfAsked IsOfRound (told.ordinary_work rows now key o)
 round-ordinary rows now key None = asked_either IsOfRound (told.wants rows key) (Some (op.Make key)) None tt tt
 round-ordinary rows now key (Some a) =
-    let again = cond (told.is_lost rows now a.state) (told.unclaim key a.state) (told.restart_if_due key a now a.state) in
-    asked_either IsOfRound (not (told.wants rows key)) (Some (op.Remove key (holder_of a.state))) again tt
-    (asked_either IsOfRound (told.is_lost rows now a.state) (told.unclaim key a.state) (told.restart_if_due key a now a.state) (round-unclaim key a.state) (round-restart key a now a.state))
+    let again = cond (told.wants rows key) (told.restart_if_due key a now a.state) None in
+    let given = told.given_up (told.wants rows key) key a.state in
+    asked_either IsOfRound (told.is_retirable rows now key a) (Some (op.Remove key (holder_of a.state))) (cond (told.is_lost rows now a.state) given again) tt
+    (asked_either IsOfRound (told.is_lost rows now a.state) given again (round-given_up (told.wants rows key) key a.state)
+    (asked_either IsOfRound (told.wants rows key) (told.restart_if_due key a now a.state) None (round-restart key a now a.state) tt))
 
 round-evacuating : (rows : Rows) (now : Moment) (key : Key) (o : Option Actual) → IfAsked IsOfRound (told.evacuating_work rows now key o)
 round-evacuating rows now key None = tt
 round-evacuating rows now key (Some a) = asked_either IsOfRound (told.is_spent rows now key a) (told.drop_row_of key a.state) None (round-drop key a.state) tt
+
+round-suspect : (rows : Rows) (now : Moment) (key : Key) (o : Option Actual) → IfAsked IsOfRound (told.suspect_work rows now key o)
+round-suspect rows now key None = tt
+round-suspect rows now key (Some a) = asked_either IsOfRound (told.is_past rows now key a) (told.drop_suspect_of key a.state) None (round-drop_suspect key a.state) tt
 
 round-state : (rows : Rows) (now : Moment) (t : Task) (s : TaskState) → IfAsked IsOfRound (told.asked_of_task rows now t s)
 round-state rows now t task.Pending = asked_either IsOfRound (told.has_passed 1800 t.since now) (Some (op.CancelTask t.name)) None tt tt
@@ -102,10 +119,13 @@ asked-then P f (Some x) h = h x
 round-work : (rows : Rows) (now : Moment) (s : Subject) → IfAsked IsOfRound (work_on rows now s)
 round-work rows now (OfCell name) =
     asked-then IsOfRound (λ (c : CellRow). told.cell_work c now) (find_cell rows name) (λ c. asked_either IsOfRound (nat_le c.until now.0) (Some (op.Vanish c.cell)) None tt tt)
-round-work rows now (OfDomain name) = tt
+round-work rows now (OfDomain name) =
+    asked-then IsOfRound (λ (d : DomainRow). told.domain_work d now) (find_domain rows name) (λ d.
+    asked-then IsOfRound (λ (until : ℕ). told.asked_if (nat_le until now.0) (op.Forget d.domain)) d.until (λ until.
+    asked_either IsOfRound (nat_le until now.0) (Some (op.Forget d.domain)) None tt tt))
 round-work rows now (OfPlace (key, Ordinary)) = round-ordinary rows now key (find_actual rows key Ordinary)
 round-work rows now (OfPlace (key, Evacuating)) = round-evacuating rows now key (find_actual rows key Evacuating)
-round-work rows now (OfPlace (key, Suspect)) = tt
+round-work rows now (OfPlace (key, Suspect)) = round-suspect rows now key (find_actual rows key Suspect)
 round-work rows now (OfTask name) = asked-then IsOfRound (told.task_work rows now) (find_task rows name) (λ t. round-state rows now t t.state)
 round-work rows now (OfProcess name) = tt
 
@@ -115,22 +135,37 @@ work_of_round rows now valid = record {
   moments = λ c inside. ((work_is_by_subject rows now c valid).0 inside).0;
 }
 
-same_some : {X : Type 0} (x y : X) → Some x ≡ Some y → x ≡ y
+pub same_some : {X : Type 0} (x y : X) → Some x ≡ Some y → x ≡ y
 same_some x y e = cc
 
--- a wanted UNCLAIMED row is asked for nothing
-pub rests-unclaimed : (rows : Rows) (now : Moment) (key : Key) (a : Actual) → told.wants rows key ≡ true → a.state ≡ lrp.Unclaimed → told.ordinary_work rows now key (Some a) ≡ None
-rests-unclaimed rows now key a wanted is =
-    ap (λ (s : LrpState). cond (not (told.wants rows key)) (Some (op.Remove key (holder_of s))) (cond (told.is_lost rows now s) (told.unclaim key s) (told.restart_if_due key a now s))) is
-    ∙ ap (λ (b : Bool). cond (not b) (Some (op.Remove key None)) None) wanted
+-- a wanted row isn't to be retired
+pub kept-wanted : (rows : Rows) (now : Moment) (key : Key) (a : Actual) → told.wants rows key ≡ true → told.is_retirable rows now key a ≡ false
+kept-wanted rows now key a wanted = ap (λ (b : Bool). not b && told.may_go rows now a) wanted
+
+-- nor is a row with the domain of one that isn't
+pub kept-alike : (rows : Rows) (now : Moment) (key : Key) (a b : Actual) → b.domain ≡ a.domain → told.is_retirable rows now key a ≡ false → told.is_retirable rows now key b ≡ false
+kept-alike rows now key a b same kept = ap (λ (d : Option (List ℕ)). not (told.wants rows key) && option_map_or (told.fresh_in rows now) d true) same ∙ kept
+
+none_either : {X : Type 0} (b : Bool) → cond b None None ≡ (let none : Option X = None in none)
+none_either true = refl
+none_either false = refl
+
+-- an UNCLAIMED row that isn't to be retired is asked for nothing
+pub rests-unclaimed : (rows : Rows) (now : Moment) (key : Key) (a : Actual) → told.is_retirable rows now key a ≡ false → a.state ≡ lrp.Unclaimed → told.ordinary_work rows now key (Some a) ≡ None
+rests-unclaimed rows now key a kept is =
+    ap (λ (b : Bool). cond b (Some (op.Remove key (holder_of a.state)))
+    (cond (told.is_lost rows now a.state) (told.given_up (told.wants rows key) key a.state) (cond (told.wants rows key) (told.restart_if_due key a now a.state) None))) kept
+    ∙ ap (λ (s : LrpState). cond (told.is_lost rows now s) (told.given_up (told.wants rows key) key s) (cond (told.wants rows key) (told.restart_if_due key a now s) None)) is
+    ∙ none_either (told.wants rows key)
 
 -- what work does to an ORDINARY row: nothing is asked of it, and it is as it was or doesn't run
 abbrev pub IsDone : Rows → Moment → Key → Option Actual → Option Actual → Type 0
 IsDone rows now key before after = (told.ordinary_work rows now key after ≡ None) × ((after ≡ before) ⊎ (told.runs_there rows now after ≡ false))
 
-done-unclaimed : (rows : Rows) (now : Moment) (key : Key) (before after : Option Actual) → told.wants rows key ≡ true → IsUnclaimed after → IsDone rows now key before after
-done-unclaimed rows now key before after wanted (a, is, state) = (
-  ap (told.ordinary_work rows now key) is ∙ rests-unclaimed rows now key a wanted state,
+done-unclaimed : (rows : Rows) (now : Moment) (key : Key) (before after : Option Actual) (a : Actual) → after ≡ Some a → a.state ≡ lrp.Unclaimed → told.is_retirable rows now key a ≡ false
+    → IsDone rows now key before after
+done-unclaimed rows now key before after a is state kept = (
+  ap (told.ordinary_work rows now key) is ∙ rests-unclaimed rows now key a kept state,
   inr (ap (told.runs_there rows now) is ∙ ap (told.runs_in rows now) state),
 )
 
@@ -139,50 +174,72 @@ module _ (rows : Rows) (now : Moment) (key : Key) (before : Rows) where
   Steps r o = IsAccepted (verdict_of before (told.at now o)) → IsDone rows now key r (find_actual (state_after before (told.at now o)) key Ordinary)
 
   make-step : find_actual before key Ordinary ≡ None → told.wants rows key ≡ true → Steps None (op.Make key)
-  make-step is wanted h = done-unclaimed rows now key None (find_actual (state_after before (told.at now (op.Make key))) key Ordinary) wanted (beginning before now key, after-make before now key h, refl)
+  make-step is wanted h =
+      done-unclaimed rows now key None (find_actual (state_after before (told.at now (op.Make key))) key Ordinary) (beginning before now key) (after-make before now key h) refl
+      (kept-wanted rows now key (beginning before now key) wanted)
 
-  remove-step : (a : Actual) → find_actual before key Ordinary ≡ Some a → told.wants rows key ≡ false → Steps (Some a) (op.Remove key (holder_of a.state))
-  remove-step a is unwanted h =
-      let m = after-remove before now key (holder_of a.state) h in
-      let same : m.old ≡ a = same_some m.old a (sym m.found ∙ is) in
-      let taken : IsTaken (lrp_move a (move.Remove (holder_of a.state)) now) = subst (λ (x : Actual). IsTaken (lrp_move x (move.Remove (holder_of a.state)) now)) same m.taken in
-      let gone : find_actual (state_after before (told.at now (op.Remove key (holder_of a.state)))) key Ordinary ≡ None =
-      m.after ∙ ap (λ (x : Actual). left_by x (lrp_move x (move.Remove (holder_of a.state)) now)) same ∙ removed a now taken in
-      (ap (told.ordinary_work rows now key) gone ∙ ap (λ (b : Bool). told.asked_if b (op.Make key)) unwanted, inr (ap (told.runs_there rows now) gone))
+  module _ (a : Actual) (is : find_actual before key Ordinary ≡ Some a) where
+    remove-step : told.wants rows key ≡ false → Steps (Some a) (op.Remove key (holder_of a.state))
+    remove-step unwanted h =
+        let m = after-remove before now key (holder_of a.state) h in
+        let same : m.old ≡ a = same_some m.old a (sym m.found ∙ is) in
+        let taken : IsTaken (lrp_move a (move.Remove (holder_of a.state)) now) = subst (λ (x : Actual). IsTaken (lrp_move x (move.Remove (holder_of a.state)) now)) same m.taken in
+        let gone : find_actual (state_after before (told.at now (op.Remove key (holder_of a.state)))) key Ordinary ≡ None =
+        m.after ∙ ap (λ (x : Actual). left_by x (lrp_move x (move.Remove (holder_of a.state)) now)) same ∙ removed a now taken in
+        (ap (told.ordinary_work rows now key) gone ∙ ap (λ (b : Bool). told.asked_if b (op.Make key)) unwanted, inr (ap (told.runs_there rows now) gone))
 
-  unclaim-step : (r : Option Actual) (instance : Instance) → told.wants rows key ≡ true → Steps r (op.Unclaim key instance)
-  unclaim-step r instance wanted h =
-      let m = after-unclaim before now key instance h in
-      done-unclaimed rows now key r (find_actual (state_after before (told.at now (op.Unclaim key instance))) key Ordinary) wanted
-      (subst IsUnclaimed (sym m.after) (unclaimed m.old now instance m.taken))
+    -- a row that a move leaves UNCLAIMED rests
+    left-unclaimed : (asked : LrpMove) (new : Rows) → IsMoved before key asked now new → ((old : Actual) → IsTaken (lrp_move old asked now) → IsUnclaimed (left_by old (lrp_move old asked now)))
+        → told.is_retirable rows now key a ≡ false → IsDone rows now key (Some a) (find_actual new key Ordinary)
+    left-unclaimed asked new m ends kept =
+        let u = ends m.old m.taken in
+        let same : m.old ≡ a = same_some m.old a (sym m.found ∙ is) in
+        let domain : u.0.domain ≡ a.domain = domain-left m.old u.0 asked now u.1 ∙ ap (λ (x : Actual). x.domain) same in
+        done-unclaimed rows now key (Some a) (find_actual new key Ordinary) u.0 (m.after ∙ u.1) u.2 (kept-alike rows now key a u.0 domain kept)
 
-  restart-step : (r : Option Actual) → told.wants rows key ≡ true → Steps r (op.Restart key)
-  restart-step r wanted h =
-      let m = after-restart before now key h in
-      done-unclaimed rows now key r (find_actual (state_after before (told.at now (op.Restart key))) key Ordinary) wanted
-      (subst IsUnclaimed (sym m.after) (restarted m.old now m.taken))
+    unclaim-step : (instance : Instance) → told.is_retirable rows now key a ≡ false → Steps (Some a) (op.Unclaim key instance)
+    unclaim-step instance kept h =
+        left-unclaimed (move.Unclaim instance) (state_after before (told.at now (op.Unclaim key instance))) (after-unclaim before now key instance h) (λ old taken. unclaimed old now instance taken) kept
 
-  given-step : (r : Option Actual) (holder : Option Instance) (o : Op) → told.wants rows key ≡ true → option_map (op.Unclaim key) holder ≡ Some o → Steps r o
-  given-step r None o wanted e = absurd cc
-  given-step r (Some instance) o wanted e = subst (Steps r) (same_some (op.Unclaim key instance) o e) (unclaim-step r instance wanted)
+    restart-step : told.is_retirable rows now key a ≡ false → Steps (Some a) (op.Restart key)
+    restart-step kept h = left-unclaimed move.Restart (state_after before (told.at now (op.Restart key))) (after-restart before now key h) (λ old taken. restarted old now taken) kept
 
-  again-step : (r : Option Actual) (a : Actual) (s : LrpState) (o : Op) → told.wants rows key ≡ true → told.restart_if_due key a now s ≡ Some o → Steps r o
-  again-step r a lrp.Unclaimed o wanted e = absurd cc
-  again-step r a (lrp.Claimed instance cell) o wanted e = absurd cc
-  again-step r a (lrp.Running instance cell) o wanted e = absurd cc
-  again-step r a lrp.Crashed o wanted e =
-      elim (told.is_due a now) as (λ (b : Bool). told.asked_if b (op.Restart key) ≡ Some o → Steps r o) [
-        | true ↦ λ f. subst (Steps r) (same_some (op.Restart key) o f) (restart-step r wanted)
-        | false ↦ λ f. absurd cc
-      ] e
+    suspect-step : (instance : Instance) (cell : List ℕ) → a.state ≡ lrp.Running instance cell → told.is_retirable rows now key a ≡ false → Steps (Some a) (op.Suspect key instance)
+    suspect-step instance cell state kept h =
+        let runs : is_running_as a.state instance ≡ true = ap (λ (s : LrpState). is_running_as s instance) state ∙ instance_itself instance in
+        done-unclaimed rows now key (Some a) (find_actual (state_after before (told.at now (op.Suspect key instance))) key Ordinary) (left_row a now)
+        (after-suspect before now key instance a is runs h) refl (kept-alike rows now key a (left_row a now) refl kept)
 
-  wanted-step : (a : Actual) (o : Op) → told.wants rows key ≡ true
-      → cond (told.is_lost rows now a.state) (told.unclaim key a.state) (told.restart_if_due key a now a.state) ≡ Some o → Steps (Some a) o
-  wanted-step a o wanted e =
-      elim (told.is_lost rows now a.state) as (λ (b : Bool). cond b (told.unclaim key a.state) (told.restart_if_due key a now a.state) ≡ Some o → Steps (Some a) o) [
-        | true ↦ λ f. given-step (Some a) (holder_of a.state) o wanted f
-        | false ↦ λ f. again-step (Some a) a a.state o wanted f
-      ] e
+    given-step : (wanted : Bool) (s : LrpState) (o : Op) → a.state ≡ s → told.is_retirable rows now key a ≡ false → told.given_up wanted key s ≡ Some o → Steps (Some a) o
+    given-step wanted lrp.Unclaimed o state kept e = absurd cc
+    given-step wanted (lrp.Claimed instance cell) o state kept e = subst (Steps (Some a)) (same_some (op.Unclaim key instance) o e) (unclaim-step instance kept)
+    given-step true (lrp.Running instance cell) o state kept e = subst (Steps (Some a)) (same_some (op.Suspect key instance) o e) (suspect-step instance cell state kept)
+    given-step false (lrp.Running instance cell) o state kept e = subst (Steps (Some a)) (same_some (op.Unclaim key instance) o e) (unclaim-step instance kept)
+    given-step wanted lrp.Crashed o state kept e = absurd cc
+
+    again-step : (s : LrpState) (o : Op) → told.is_retirable rows now key a ≡ false → told.restart_if_due key a now s ≡ Some o → Steps (Some a) o
+    again-step lrp.Unclaimed o kept e = absurd cc
+    again-step (lrp.Claimed instance cell) o kept e = absurd cc
+    again-step (lrp.Running instance cell) o kept e = absurd cc
+    again-step lrp.Crashed o kept e =
+        elim (told.is_due a now) as (λ (b : Bool). told.asked_if b (op.Restart key) ≡ Some o → Steps (Some a) o) [
+          | true ↦ λ f. subst (Steps (Some a)) (same_some (op.Restart key) o f) (restart-step kept)
+          | false ↦ λ f. absurd cc
+        ] e
+
+    kept-step : (o : Op) → told.is_retirable rows now key a ≡ false
+        → cond (told.is_lost rows now a.state) (told.given_up (told.wants rows key) key a.state) (cond (told.wants rows key) (told.restart_if_due key a now a.state) None) ≡ Some o → Steps (Some a) o
+    kept-step o kept e =
+        elim (told.is_lost rows now a.state) as (λ (b : Bool). cond b (told.given_up (told.wants rows key) key a.state) (cond (told.wants rows key) (told.restart_if_due key a now a.state) None) ≡ Some o → Steps (Some a) o) [
+          | true ↦ λ f. given-step (told.wants rows key) a.state o refl kept f
+          | false ↦ λ f. elim (told.wants rows key) as (λ (b : Bool). cond b (told.restart_if_due key a now a.state) None ≡ Some o → Steps (Some a) o) [
+            | true ↦ λ g. again-step a.state o kept g
+            | false ↦ λ g. absurd cc
+          ] f
+        ] e
+
+  unwanted_of : (a : Actual) → told.is_retirable rows now key a ≡ true → told.wants rows key ≡ false
+  unwanted_of a e = elim (told.wants rows key) as (λ (b : Bool). (not b && told.may_go rows now a) ≡ true → b ≡ false) [ true ↦ λ f. absurd cc | false ↦ λ f. refl ] e
 
   -- what is asked of an ORDINARY row does it
   pub ordinary-step : (r : Option Actual) (o : Op) → find_actual before key Ordinary ≡ r → told.ordinary_work rows now key r ≡ Some o → Steps r o
@@ -192,11 +249,24 @@ module _ (rows : Rows) (now : Moment) (key : Key) (before : Rows) where
         | false ↦ λ w f. absurd cc
       ] refl e
   ordinary-step (Some a) o is e =
-      let again = cond (told.is_lost rows now a.state) (told.unclaim key a.state) (told.restart_if_due key a now a.state) in
-      elim (told.wants rows key) as (λ (b : Bool). told.wants rows key ≡ b → cond (not b) (Some (op.Remove key (holder_of a.state))) (cond (told.is_lost rows now a.state) (told.unclaim key a.state) (told.restart_if_due key a now a.state)) ≡ Some o → Steps (Some a) o) [
-        | true ↦ λ w f. wanted-step a o w f
-        | false ↦ λ w f. subst (Steps (Some a)) (same_some (op.Remove key (holder_of a.state)) o f) (remove-step a is w)
+      elim (told.is_retirable rows now key a) as (λ (b : Bool). told.is_retirable rows now key a ≡ b → cond b (Some (op.Remove key (holder_of a.state)))
+      (cond (told.is_lost rows now a.state) (told.given_up (told.wants rows key) key a.state) (cond (told.wants rows key) (told.restart_if_due key a now a.state) None)) ≡ Some o → Steps (Some a) o) [
+        | true ↦ λ w f. subst (Steps (Some a)) (same_some (op.Remove key (holder_of a.state)) o f) (remove-step a is (unwanted_of a w))
+        | false ↦ λ w f. kept-step a is o w f
       ] refl e
+
+-- a SUSPECT row of which something is asked is dropped
+pub suspect-dropped : (rows : Rows) (now : Moment) (key : Key) (before : Rows) (r : Option Actual) (o : Op) → told.suspect_work rows now key r ≡ Some o
+    → IsAccepted (verdict_of before (told.at now o)) → find_actual (state_after before (told.at now o)) key Suspect ≡ None
+suspect-dropped rows now key before None o e = absurd cc
+suspect-dropped rows now key before (Some a) o e =
+    elim (told.is_past rows now key a) as (λ (b : Bool). cond b (told.drop_suspect_of key a.state) None ≡ Some o → IsAccepted (verdict_of before (told.at now o)) → find_actual (state_after before (told.at now o)) key Suspect ≡ None) [
+      | true ↦ λ f. elim (holder_of a.state) as (λ (h : Option Instance). option_map (op.DropSuspect key) h ≡ Some o → IsAccepted (verdict_of before (told.at now o)) → find_actual (state_after before (told.at now o)) key Suspect ≡ None) [
+        | None ↦ λ g. absurd cc
+        | (Some instance) ↦ λ g. subst (λ (x : Op). IsAccepted (verdict_of before (told.at now x)) → find_actual (state_after before (told.at now x)) key Suspect ≡ None) (same_some (op.DropSuspect key instance) o g) (after-drop_suspect before now key instance)
+      ] f
+      | false ↦ λ f. absurd cc
+    ] e
 
 -- an EVACUATING row of which something is asked is dropped
 pub evacuating-step : (rows : Rows) (now : Moment) (key : Key) (before : Rows) (r : Option Actual) (o : Op) → told.evacuating_work rows now key r ≡ Some o
@@ -233,6 +303,34 @@ cell-step now before name c o same e =
       | true ↦ λ f. subst (λ (x : Op). IsAccepted (verdict_of before (told.at now x)) → find_cell (state_after before (told.at now x)) name ≡ None)
           (ap (λ (n : List ℕ). op.Vanish n) (sym same) ∙ same_some (op.Vanish c.cell) o f) (after-vanish before now name)
       | false ↦ λ f. absurd cc
+    ] e
+
+-- a domain of which something is asked is gone
+after-forget : (before : Rows) (now : Moment) (name : List ℕ) → IsAccepted (verdict_of before (told.at now (op.Forget name))) → find_domain (state_after before (told.at now (op.Forget name))) name ≡ None
+after-forget before now name h =
+    let attempt_on = λ (d : Option DomainRow). if_known d (λ old. cond (holds_at old now) (Refuse (LeaseHolds (told_end old.until))) (drop_row (row.Domain old))) in
+    by_attempt (λ (new : Rows). find_domain new name ≡ None) before (told.at now (op.Forget name)) h
+    (elim (find_domain before name) as (λ (d : Option DomainRow). find_domain before name ≡ d → IsTried (attempt_on d) → find_domain (changed_by before (attempt_on d)) name ≡ None) [
+      | None ↦ λ is f. absurd f
+      | (Some old) ↦ λ is. elim (holds_at old now) as (λ (b : Bool). IsTried (cond b (Refuse (LeaseHolds (told_end old.until))) (drop_row (row.Domain old)))
+          → find_domain (changed_by before (cond b (Refuse (LeaseHolds (told_end old.until))) (drop_row (row.Domain old)))) name ≡ None) [
+            | true ↦ λ f. absurd f
+            | false ↦ λ f. subst (λ (n : List ℕ). find_row name_order domain_name_of n (without_row name_order domain_name_of old.domain before.domains) ≡ None)
+                (key-find_row name_order domain_name_of IsKeyOrder-name_order name old before.domains is) (find_row-without_row_same name_order domain_name_of IsKeyOrder-name_order old.domain before.domains)
+          ]
+    ] refl)
+
+pub domain-step : (now : Moment) (before : Rows) (name : List ℕ) (d : DomainRow) (o : Op) → d.domain ≡ name → told.domain_work d now ≡ Some o
+    → IsAccepted (verdict_of before (told.at now o)) → find_domain (state_after before (told.at now o)) name ≡ None
+domain-step now before name d o same e =
+    elim d.until as (λ (until : Option ℕ). option_and_then (λ (u : ℕ). told.asked_if (nat_le u now.0) (op.Forget d.domain)) until ≡ Some o
+    → IsAccepted (verdict_of before (told.at now o)) → find_domain (state_after before (told.at now o)) name ≡ None) [
+      | None ↦ λ f. absurd cc
+      | (Some u) ↦ λ f. elim (nat_le u now.0) as (λ (b : Bool). told.asked_if b (op.Forget d.domain) ≡ Some o → IsAccepted (verdict_of before (told.at now o)) → find_domain (state_after before (told.at now o)) name ≡ None) [
+        | true ↦ λ g. subst (λ (x : Op). IsAccepted (verdict_of before (told.at now x)) → find_domain (state_after before (told.at now x)) name ≡ None)
+            (ap (λ (n : List ℕ). op.Forget n) (sym same) ∙ same_some (op.Forget d.domain) o g) (after-forget before now name)
+        | false ↦ λ g. absurd cc
+      ] f
     ] e
 
 -- a task of which something is asked has ended

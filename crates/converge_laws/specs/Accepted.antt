@@ -1,6 +1,9 @@
 -- The commands of a round, and that none of them is refused.
-use Rattle.std.specs.Prelude.{◌≢◌, List, [], ◌∷◌}
+use Rattle.std.specs.Prelude.{◌≡◌, ◌≢◌, List, [], ◌∷◌, Some}
 use Rattle.std.specs.List.{Contains}
+use Rattle.diego_names.specs.declared.key.Key.{Key}
+use Rattle.lrp_records.specs.declared.presence.Presence.TheVariants.{Suspect}
+use Rattle.bbs_model.specs.Found.{suspect_in}
 use Rattle.bbs_model.specs.Runs.{state_after}
 use Rattle.bbs_model.specs.Step.{verdict_of}
 use Rattle.bbs_model.specs.declared.command.Command.{Command}
@@ -9,7 +12,7 @@ use Rattle.bbs_model.specs.declared.command.Op.TheVariants as op
 use Rattle.bbs_model.specs.declared.rows.Rows.{Rows}
 use Rattle.bbs_model.specs.declared.verdict.Verdict.{Verdict}
 use Rattle.bbs_model.specs.declared.verdict.Verdict.TheVariants.{Ok, Same, Refused}
-use Rattle.convergence.specs.Subjects.{subject_in}
+use Rattle.convergence.specs.Subjects.{OfPlace, subject_in}
 
 -- the command is done, or had been
 abbrev pub IsAccepted : Verdict → Type 0
@@ -22,7 +25,7 @@ abbrev pub AreAccepted : Rows → List Command → Type 0
 AreAccepted rows [] = Unit {0}
 AreAccepted rows (c ∷ cs) = IsAccepted (verdict_of rows c) × AreAccepted (state_after rows c) cs
 
--- a round asks for it; it changes at most the row that it is about
+-- a round asks for it; it changes at most the row that it is about, and a suspicion makes a SUSPECT row besides
 abbrev pub IsOfRound : Op → Type 0
 IsOfRound (op.Make key) = Unit {0}
 IsOfRound (op.Claim key instance cell) = Unit {0}
@@ -38,9 +41,18 @@ IsOfRound (op.CancelTask name) = Unit {0}
 IsOfRound (op.KickTask name) = Unit {0}
 IsOfRound (op.ExpireTask name) = Unit {0}
 IsOfRound (op.Vanish cell) = Unit {0}
+IsOfRound (op.Forget domain) = Unit {0}
+IsOfRound (op.Suspect key instance) = Unit {0}
+IsOfRound (op.DropSuspect key instance) = Unit {0}
 IsOfRound other = ⊥
 
--- no two of these commands are about one row
+-- the later of two commands is about no row that the earlier one changes: neither the one that this is about, nor
+-- a SUSPECT row that it makes
+pub record IsApart (earlier later : Command) : Type 0 where
+  pub subject : subject_in later ≢ subject_in earlier
+  pub suspect : (key : Key) → suspect_in earlier.op ≡ Some key → subject_in later ≢ OfPlace (key, Suspect)
+
+-- no two of these commands are about one row, and none is about a SUSPECT row that one before it makes
 abbrev pub AreApart : List Command → Type 0
 AreApart [] = Unit {0}
-AreApart (c ∷ cs) = ((d : Command) → Contains cs d → subject_in d ≢ subject_in c) × AreApart cs
+AreApart (c ∷ cs) = ((d : Command) → Contains cs d → IsApart c d) × AreApart cs

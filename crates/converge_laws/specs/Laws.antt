@@ -10,7 +10,7 @@ use Rattle.diego_names.specs.declared.instance.Instance.{Instance}
 use Rattle.diego_names.specs.declared.key.Key.{Key}
 use Rattle.bbs_model.specs.Runs.{state_after_all}
 use Rattle.bbs_model.specs.Valid.{IsValid}
-use Rattle.bbs_model.specs.Work.{is_there, wants, work}
+use Rattle.bbs_model.specs.Work.{is_there, wants, fresh_in, work}
 use Rattle.bbs_model.specs.declared.command.Command.{Command}
 use Rattle.bbs_model.specs.declared.rows.Rows.{Rows}
 use Rattle.converge_laws.specs.Accepted.{AreAccepted, IsOfRound, AreApart}
@@ -22,10 +22,12 @@ pub record AreOfRound (now : Moment) (cs : List Command) : Type 0 where
   pub ops : (c : Command) → Contains cs c → IsOfRound c.op
   pub moments : (c : Command) → Contains cs c → c.now ≡ now
 
--- which cells are there and which instances are wanted stays through the commands of a round
+-- which cells are there, which instances are wanted and which domains are fresh stays through the commands of a
+-- round
 pub record KeepsGround (now : Moment) (old new : Rows) : Type 0 where
   pub there : (cell : List ℕ) (epoch : ℕ) → is_there new now cell epoch ≡ is_there old now cell epoch
   pub wanted : (key : Key) → wants new key ≡ wants old key
+  pub fresh : (domain : List ℕ) → fresh_in new now domain ≡ fresh_in old now domain
 
 -- what the rows alone ask for is of a round
 abbrev pub WorkIsOfRound : Type 0
@@ -35,13 +37,15 @@ WorkIsOfRound = (rows : Rows) (now : Moment) → IsValid rows → AreOfRound now
 abbrev pub PlanIsOfRound : Type 0
 PlanIsOfRound = (rows : Rows) (got : List Answer) (now : Moment) → IsValid rows → AreOfRound now (plan_of_answers rows got now)
 
--- the commands of a round leave which cells are there and which instances are wanted
+-- the commands of a round leave which cells are there, which instances are wanted and which domains are fresh
 abbrev pub RoundsKeepGround : Type 0
 RoundsKeepGround = (rows : Rows) (now : Moment) (cs : List Command) → AreOfRound now cs → KeepsGround now rows (state_after_all rows cs)
 
--- work that is accepted leaves nothing to ask at that moment
-abbrev pub WorkLeavesNothing : Type 0
-WorkLeavesNothing = (rows : Rows) (now : Moment) → IsValid rows → AreAccepted rows (work rows now) →
+-- work that is accepted leaves nothing to ask at that moment but of SUSPECT rows. There it may: where a cell joined
+-- anew while its instance was RUNNING under the old epoch, the instance is suspected, and then its SUSPECT row is of
+-- a cell with another epoch, while its ORDINARY row doesn't run. So that row is dropped at the next round
+abbrev pub WorkLeavesNothingButSuspicions : Type 0
+WorkLeavesNothingButSuspicions = (rows : Rows) (now : Moment) → IsValid rows → AreAccepted rows (work rows now) →
     IsWorked (state_after_all rows (work rows now)) now
 
 -- a plan that is accepted leaves the containers of all rows held but those of SUSPECT ones

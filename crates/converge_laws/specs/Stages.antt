@@ -9,12 +9,12 @@ use Rattle.cell_records.specs.declared.job_name.JobName.TheVariants as job
 use Rattle.container_store.specs.Changes.{is_uncompleted}
 use Rattle.container_store.specs.Store.{number_of}
 use Rattle.convergence.specs.Containers.{answer_from, is_named}
-use Rattle.convergence.specs.Subjects.{Subject, work_on, subject_in, ordinary_of, OfTask}
+use Rattle.convergence.specs.Subjects.{Subject, work_on, subject_in, ordinary_of, OfPlace, OfTask}
 use Rattle.crash_backoff.specs.declared.moment.Moment.{Moment}
 use Rattle.diego_names.specs.declared.instance.Instance.{Instance}
 use Rattle.diego_names.specs.declared.key.Key.{Key}
 use Rattle.lrp_records.specs.declared.actual.Actual.{Actual}
-use Rattle.lrp_records.specs.declared.presence.Presence.TheVariants.{Ordinary, Evacuating}
+use Rattle.lrp_records.specs.declared.presence.Presence.TheVariants.{Ordinary, Evacuating, Suspect}
 use Rattle.lrp_records.specs.declared.state.LrpState.{LrpState}
 use Rattle.lrp_records.specs.declared.state.LrpState.TheVariants as lrp
 use Rattle.row_tables.specs.Table.{IsRising}
@@ -27,11 +27,18 @@ use Rattle.bbs_model.specs.declared.command.Command.{Command}
 use Rattle.bbs_model.specs.declared.command.Op.{Op}
 use Rattle.bbs_model.specs.declared.command.Op.TheVariants as op
 use Rattle.bbs_model.specs.declared.rows.Rows.{Rows}
-use Rattle.converge_laws.specs.Converged.{is_held, IsKeptAside}
+use Rattle.converge_laws.specs.Converged.{is_held, IsUnwantedKept, IsKeptAside, IsSuspected}
 
--- what convergence asked by the rows alone is done: it asks for nothing of any row
+-- the subject isn't the place of a SUSPECT row
+abbrev pub IsNoSuspectPlace : Subject → Type 0
+IsNoSuspectPlace (OfPlace (key, Suspect)) = ⊥
+IsNoSuspectPlace other = Unit {0}
+
+-- what convergence asked by the rows alone is done: it asks for nothing of any row but SUSPECT ones, and those are
+-- of wanted instances whose ORDINARY rows don't run
 pub record IsWorked (rows : Rows) (now : Moment) : Type 0 where
-  pub rests : (s : Subject) → work_on rows now s ≡ None
+  pub rests : (s : Subject) → IsNoSuspectPlace s → work_on rows now s ≡ None
+  pub suspected : (key : Key) → IsSuspected rows key (find_actual rows key Suspect)
 
 -- the row may be placed, or waits, or its container is held
 abbrev pub MayBePlaced : Rows → List Answer → Moment → Actual → LrpState → Type 0
@@ -40,10 +47,12 @@ MayBePlaced rows stores now a (lrp.Claimed instance cell) = is_held rows stores 
 MayBePlaced rows stores now a (lrp.Running instance cell) = is_held rows stores now (job.Lrp a.key) instance cell ≡ true
 MayBePlaced rows stores now a lrp.Crashed = is_due a now ≡ false
 
--- an instance has its ORDINARY row exactly where it is wanted, and the row may be placed if it has no place
+-- a wanted instance has its ORDINARY row, which may be placed if it has no place; an unwanted one has none, or one
+-- that stays
 abbrev pub IsPlaceable : Rows → List Answer → Moment → Key → Option Actual → Type 0
 IsPlaceable rows stores now key None = wants rows key ≡ false
-IsPlaceable rows stores now key (Some a) = (wants rows key ≡ true) × MayBePlaced rows stores now a a.state
+IsPlaceable rows stores now key (Some a) =
+    ((wants rows key ≡ true) × MayBePlaced rows stores now a a.state) ⊎ IsUnwantedKept rows stores now key a
 
 -- a task may be placed, or is over, or its container is held
 abbrev pub MayTaskBePlaced : Rows → List Answer → Moment → List ℕ → TaskState → Type 0
@@ -61,6 +70,7 @@ IsTaskPlaceable rows stores now name (Some t) = MayTaskBePlaced rows stores now 
 pub record IsPlanned (rows : Rows) (stores : List Answer) (now : Moment) : Type 0 where
   pub ordinary : (key : Key) → IsPlaceable rows stores now key (find_actual rows key Ordinary)
   pub aside : (key : Key) → IsKeptAside rows stores now key (find_actual rows key Evacuating)
+  pub suspected : (key : Key) → IsSuspected rows key (find_actual rows key Suspect)
   pub tasks : (name : List ℕ) → IsTaskPlaceable rows stores now name (find_task rows name)
 
 -- each container of a cell that is there is named, and has not ended
@@ -118,12 +128,13 @@ pub record IsWith (cs : List Command) (x y : Answer) : Type 0 where
 abbrev pub AreWith : List Command → List Answer → List Answer → Type 0
 AreWith cs before after = AllZip (IsWith cs) before after
 
--- each row and task that waits for a place is claimed, by one command, on a cell that is there
+-- each row of a wanted instance and each task that waits for a place is claimed, by one command, on a cell that is
+-- there
 pub record PlacesAll (rows : Rows) (now : Moment) (cs : List Command) : Type 0 where
   pub claims : (c : Command) → Contains cs c →
       (job : JobName) × (instance : Instance) × (cell : List ℕ) × IsClaimOf job instance cell c.op
       × (is_there rows now cell instance.epoch ≡ true)
   pub rows_placed : (key : Key) (a : Actual) → find_actual rows key Ordinary ≡ Some a → a.state ≡ lrp.Unclaimed →
-      (c : Command) × Contains cs c × (subject_in c ≡ ordinary_of key)
+      wants rows key ≡ true → (c : Command) × Contains cs c × (subject_in c ≡ ordinary_of key)
   pub tasks_placed : (name : List ℕ) (t : Task) → find_task rows name ≡ Some t → t.state ≡ task.Pending →
       (c : Command) × Contains cs c × (subject_in c ≡ OfTask name)

@@ -1,17 +1,18 @@
 //! The laws of a round's stages. These functions do nothing: they are there for what they ensure.
-ghost use Rattle.converge_laws.specs.Laws.{WorkIsOfRound, PlanIsOfRound, RoundsKeepGround, WorkLeavesNothing, PlanLeavesContainersHeld, StopsLeaveNoStrays, ClaimsConverge, RoundsConverge};
+ghost use Rattle.converge_laws.specs.Laws.{WorkIsOfRound, PlanIsOfRound, RoundsKeepGround, WorkLeavesNothingButSuspicions, PlanLeavesContainersHeld, StopsLeaveNoStrays, ClaimsConverge, RoundsConverge};
 
 /// What is asked by the rows, and by what cells answer, are commands of a round; and those change
-/// neither which cells are there nor which instances are wanted.
+/// neither which cells are there nor which instances are wanted nor which domains are fresh.
 pub fn rounds_keep_the_ground()
     ensures work { WorkIsOfRound }
     ensures plan { PlanIsOfRound }
     ensures ground { RoundsKeepGround }
 {}
 
-/// Once what the rows alone ask for is done, they ask for nothing at that moment.
-pub fn work_leaves_nothing_to_ask()
-    ensures { WorkLeavesNothing }
+/// Once what the rows alone ask for is done, they ask for nothing at that moment but to drop SUSPECT
+/// rows that are new.
+pub fn work_leaves_nothing_but_suspicions()
+    ensures { WorkLeavesNothingButSuspicions }
 {}
 
 /// Once what the answers ask for is done too, each row has its container, or waits for a place or

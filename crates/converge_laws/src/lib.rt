@@ -6,5 +6,5 @@ mod laws;
 
 pub use laws::{
     claims_converge, plan_leaves_containers_held, rounds_converge, rounds_keep_the_ground,
-    stops_leave_no_strays, work_leaves_nothing_to_ask,
+    stops_leave_no_strays, work_leaves_nothing_but_suspicions,
 };
