@@ -108,12 +108,15 @@ laws-seen_where {f = f} {parts = parts} same laws = record {
 }
 
 pub IsFormat-nothing : {X : Type 0} → IsFormat {X = X} nothing
-IsFormat-nothing = record {
-  spelled = λ bytes at x after ib e. absurd cc;
-  again = λ bytes at x fits stands. absurd fits;
-  back = IsRead-written (record { again = λ bytes at x fits stands. absurd fits });
-  cut = λ bytes at k x fits lt e. absurd fits;
-}
+IsFormat-nothing {X} =
+    let none : Format X = nothing in
+    let reads : IsRead none.Fits none.spelling none.read = record { again = λ bytes at x fits stands. absurd fits } in
+    record {
+      spelled = λ bytes at x after ib e. absurd cc;
+      again = reads.again;
+      back = IsRead-written reads;
+      cut = λ bytes at k x fits lt e. absurd fits;
+    }
 
 -- the format of each version is one, where both are
 pub IsFormat-in : {X : Type 0} {old latest : Format X} → IsFormat old → IsFormat latest → (version : ℕ) → IsFormat (format_in version old latest)

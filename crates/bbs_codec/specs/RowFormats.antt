@@ -13,7 +13,7 @@ use Rattle.lrp_records.specs.declared.state.LrpState.TheVariants as lrp
 use Rattle.task_records.specs.declared.state.TaskState.{TaskState}
 use Rattle.task_records.specs.declared.state.TaskState.TheVariants as task
 use Rattle.task_records.specs.declared.task.Task.{Task}
-use Rattle.bbs_model.specs.declared.rows.DomainRow.{DomainRow}
+use Rattle.bbs_model.specs.declared.domain_row.DomainRow.{DomainRow}
 use Rattle.wire_fields.specs.Field.{field_number}
 use Rattle.wire_fields.specs.Reading.{◌>>=◌, number_at}
 use Rattle.wire_fields.specs.declared.fault.FieldFault.{FieldFault}
