@@ -21,7 +21,7 @@ use Rattle.bbs_model.specs.Limits.{most_processes, most_instances, most_wanted, 
 use Rattle.bbs_model.specs.Tables.{process_of, task_name_of, cell_name_of, domain_name_of}
 use Rattle.bbs_model.specs.Valid.{IsValid}
 use Rattle.task_records.specs.States.{runner_of}
-use Rattle.bbs_model.specs.declared.rows.DomainRow.{DomainRow}
+use Rattle.bbs_model.specs.declared.domain_row.DomainRow.{DomainRow}
 use Rattle.bbs_model.specs.declared.rows.Rows.{Rows}
 use Rattle.bbs_codec.specs.Format.{Format, both, seen_where, format_in, number32, number64}
 use Rattle.bbs_codec.specs.Formats.{desired}

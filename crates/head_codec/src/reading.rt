@@ -18,6 +18,7 @@ use wire_fields::FieldFault;
 type OldCounts = (u64, ((u32, u32), (u32, u32)));
 
 /// What stands in front, and the place behind it.
+#[tactic(auto, unfolding(bbs_codec::specs::Format::seen_at))]
 fn read_front(bytes: &[u8], version: u16) -> Result<(Counts, usize), FieldFault>
     ensures value { result ≡ (counts_in version).read bytes.now 0 }
     ensures within { IfOk result (λ read. read.1 ≤ length bytes.now) }
