@@ -17,6 +17,7 @@ mod failing;
 mod failing_rounds;
 mod failing_sinks;
 mod faults;
+mod freshness;
 mod full;
 mod full_tables;
 mod gates;

@@ -142,8 +142,10 @@ const SECOND_TEXT: &str =
 {"asked":1,"complete":true,"foreign":0,"line":9,"lost":0,"op":"round","own":4,"refused":0,"stopped":0,"unplaced":[]}
 {"event":"changed","row":{"cell":null,"count":0,"error":false,"index":0,"instance":null,"presence":"ordinary","process":"web","since":5,"state":"unclaimed"},"table":"actual"}
 {"event":"changed","row":{"cell":"c1","count":0,"error":false,"index":0,"instance":"8.1","presence":"ordinary","process":"web","since":5,"state":"claimed"},"table":"actual"}
+{"event":"created","row":{"cell":"c1","count":0,"error":false,"index":0,"instance":"0.1","presence":"suspect","process":"web","since":2,"state":"running"},"table":"actual"}
 {"event":"changed","row":{"cell":null,"count":0,"error":false,"index":1,"instance":null,"presence":"ordinary","process":"web","since":5,"state":"unclaimed"},"table":"actual"}
 {"event":"changed","row":{"cell":"c1","count":0,"error":false,"index":1,"instance":"8.2","presence":"ordinary","process":"web","since":5,"state":"claimed"},"table":"actual"}
+{"event":"created","row":{"cell":"c1","count":0,"error":false,"index":1,"instance":"0.2","presence":"suspect","process":"web","since":2,"state":"running"},"table":"actual"}
 {"done":5,"doubts":0,"next":13,"phases":4}
 "#;
 

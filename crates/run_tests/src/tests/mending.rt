@@ -20,6 +20,8 @@ const MENDS_LINES: &str = r#"{"at":0}
 {"cell":"c1","op":"join","zone":"z1","memory":1024,"disk":4096,"containers":10,"ttl":100000}
 {"at":6}
 {"op":"round"}
+{"at":7}
+{"op":"round"}
 "#;
 
 const MENDS_TEXT: &str = r#"{"actor":"c1","answer":"ok","call":"join","line":2,"subject":"c1"}
@@ -58,10 +60,15 @@ const MENDS_TEXT: &str = r#"{"actor":"c1","answer":"ok","call":"join","line":2,"
 {"event":"changed","row":{"cell":"c1","count":1,"error":false,"index":0,"instance":"18.1","presence":"ordinary","process":"web","since":6,"state":"claimed"},"table":"actual"}
 {"event":"changed","row":{"cell":null,"count":0,"error":false,"index":1,"instance":null,"presence":"ordinary","process":"web","since":6,"state":"unclaimed"},"table":"actual"}
 {"event":"changed","row":{"cell":"c1","count":0,"error":false,"index":1,"instance":"18.2","presence":"ordinary","process":"web","since":6,"state":"claimed"},"table":"actual"}
+{"event":"created","row":{"cell":"c1","count":0,"error":false,"index":1,"instance":"0.4","presence":"suspect","process":"web","since":2,"state":"running"},"table":"actual"}
 {"event":"changed","row":{"cell":null,"count":0,"error":false,"index":2,"instance":null,"presence":"ordinary","process":"web","since":6,"state":"unclaimed"},"table":"actual"}
 {"event":"changed","row":{"cell":"c1","count":0,"error":false,"index":2,"instance":"18.3","presence":"ordinary","process":"web","since":6,"state":"claimed"},"table":"actual"}
+{"event":"created","row":{"cell":"c1","count":0,"error":false,"index":2,"instance":"0.5","presence":"suspect","process":"web","since":2,"state":"running"},"table":"actual"}
 {"event":"changed","row":{"birth":3,"cell":null,"disk":64,"failed":true,"instance":null,"memory":64,"name":"job2","since":6,"state":"completed","tag":null},"table":"task"}
-{"done":26,"doubts":0,"next":26,"phases":8}
+{"asked":1,"complete":true,"foreign":0,"line":21,"lost":0,"op":"round","own":2,"refused":0,"stopped":0,"unplaced":[]}
+{"event":"removed","row":{"cell":"c1","count":0,"error":false,"index":1,"instance":"0.4","presence":"suspect","process":"web","since":2,"state":"running"},"table":"actual"}
+{"event":"removed","row":{"cell":"c1","count":0,"error":false,"index":2,"instance":"0.5","presence":"suspect","process":"web","since":2,"state":"running"},"table":"actual"}
+{"done":28,"doubts":0,"next":28,"phases":9}
 "#;
 
 #[test]
@@ -83,6 +90,7 @@ const UNWANTED_LINES: &str = r#"{"at":0}
 {"cell":"c1","op":"evacuate"}
 {"at":4}
 {"client":"cli","op":"update","process":"web","instances":1}
+{"client":"cli","op":"fresh","domain":"apps"}
 {"at":5}
 {"op":"round"}
 {"at":6}
@@ -110,16 +118,18 @@ const UNWANTED_TEXT: &str = r#"{"actor":"c1","answer":"ok","call":"join","line":
 {"event":"created","row":{"cell":"c1","count":0,"error":false,"index":0,"instance":"0.1","presence":"evacuating","process":"web","since":2,"state":"running"},"table":"actual"}
 {"event":"changed","row":{"cell":"c1","containers":10,"disk":4096,"epoch":0,"evacuating":true,"memory":1024,"tag":null,"until":600,"zone":"z1"},"table":"cell"}
 {"actor":"cli","answer":"ok","call":"update","line":14,"subject":"web"}
+{"actor":"cli","answer":"ok","call":"fresh","line":15,"subject":"apps"}
 {"event":"changed","row":{"disk":128,"domain":"apps","instances":1,"memory":64,"port":8080,"process":"web","route":null,"tag":null},"table":"desired"}
-{"asked":2,"complete":true,"foreign":0,"line":16,"lost":0,"op":"round","own":2,"refused":0,"stopped":1,"unplaced":[]}
+{"event":"created","row":{"domain":"apps","until":null},"table":"domain"}
+{"asked":2,"complete":true,"foreign":0,"line":17,"lost":0,"op":"round","own":2,"refused":0,"stopped":1,"unplaced":[]}
 {"event":"changed","row":{"cell":"c2","count":0,"error":false,"index":0,"instance":"1.2","presence":"ordinary","process":"web","since":5,"state":"claimed"},"table":"actual"}
 {"event":"removed","row":{"cell":"c2","count":0,"error":false,"index":1,"instance":"1.1","presence":"ordinary","process":"web","since":1,"state":"claimed"},"table":"actual"}
-{"actor":"cli","answer":"ok","call":"undesire","line":18,"subject":"web"}
+{"actor":"cli","answer":"ok","call":"undesire","line":19,"subject":"web"}
 {"event":"removed","row":{"disk":128,"domain":"apps","instances":1,"memory":64,"port":8080,"process":"web","route":null,"tag":null},"table":"desired"}
-{"asked":2,"complete":true,"foreign":0,"line":20,"lost":0,"op":"round","own":2,"refused":0,"stopped":2,"unplaced":[]}
+{"asked":2,"complete":true,"foreign":0,"line":21,"lost":0,"op":"round","own":2,"refused":0,"stopped":2,"unplaced":[]}
 {"event":"removed","row":{"cell":"c2","count":0,"error":false,"index":0,"instance":"1.2","presence":"ordinary","process":"web","since":5,"state":"claimed"},"table":"actual"}
 {"event":"removed","row":{"cell":"c1","count":0,"error":false,"index":0,"instance":"0.1","presence":"evacuating","process":"web","since":2,"state":"running"},"table":"actual"}
-{"done":16,"doubts":0,"next":16,"phases":10}
+{"done":17,"doubts":0,"next":17,"phases":10}
 "#;
 
 #[test]
