@@ -18,8 +18,8 @@ short_before p = record {
   leaves = λ left leaves. record { older = left; could = leaves; short = omega arith };
 }
 
--- and so is what the write of the 48 bytes makes of it, or leaves torn
-short_bears : (before : Held) (bytes : List ℕ) → length bytes ≡ 48 → Bears (IsShort before) (range_of 0 bytes)
+-- and so is what the write of the 52 bytes makes of it, or leaves torn
+short_bears : (before : Held) (bytes : List ℕ) → length bytes ≡ 52 → Bears (IsShort before) (range_of 0 bytes)
 short_bears before bytes size old new short torn are = record {
   older = short.older;
   could = short.could;
@@ -27,7 +27,7 @@ short_bears before bytes size old new short torn are = record {
 }
 
 -- what a read gives after that write, over an empty area
-wrote_short : (ok : Bool) (bytes : List ℕ) (old new : Held) → length bytes ≡ 48 → old.reads ≡ [] → Wrote ok 0 bytes old new → length new.reads ≤ 48
+wrote_short : (ok : Bool) (bytes : List ℕ) (old new : Held) → length bytes ≡ 52 → old.reads ≡ [] → Wrote ok 0 bytes old new → length new.reads ≤ 52
 wrote_short true bytes old new size empty wrote =
     let none = ap length empty in
     let long = length_overwritten 0 bytes old.reads (omega arith) in
@@ -53,7 +53,7 @@ part_looks p q r a b first second =
       b = ap (λ (h : Held). h.reads) (second.same B ∙ first.same B) ∙ b;
     }
 
-part_change : (p q r : Past) (Step : Held → Held → Type 0) → PreparesInPart p q → Changes A Step q r → Has (IsShort (now p A)) (now r A) → length (content r A) ≤ 48 → PreparesInPart p r
+part_change : (p q r : Past) (Step : Held → Held → Type 0) → PreparesInPart p q → Changes A Step q r → Has (IsShort (now p A)) (now r A) → length (content r A) ≤ 52 → PreparesInPart p r
 part_change p q r Step part changes has short = record {
   a_was = part.a_was;
   b_was = part.b_was;
@@ -72,7 +72,7 @@ part_look p q r part looks = record {
 }
 
 -- the first area is empty still, and is written to
-part_wrote : (ok : Bool) (bytes : List ℕ) (p q r : Past) → length bytes ≡ 48 → content q A ≡ [] → PreparesInPart p q → Changes A (Wrote ok 0 bytes) q r → PreparesInPart p r
+part_wrote : (ok : Bool) (bytes : List ℕ) (p q r : Past) → length bytes ≡ 52 → content q A ≡ [] → PreparesInPart p q → Changes A (Wrote ok 0 bytes) q r → PreparesInPart p r
 part_wrote ok bytes p q r size empty part wrote =
     part_change p q r (Wrote ok 0 bytes) part wrote
     (wrote_has (IsShort (now p A)) A 0 bytes (short_bears (now p A) bytes size) ok q r wrote (omega arith) (part_has p q part))
@@ -99,7 +99,7 @@ record Empty (p q : Past) : Type 0 where
 -- ---- the same, where the disk may tell nothing
 
 module _ (t0 t1 t2 t3 : Option Past) (a b : ℕ) (bytes : List ℕ) (first : Goes t0 t1 ChangesNothing) (second : Goes t1 t2 ChangesNothing) (a_is : ForSome t1 (λ p. a ≡ length (content p A))) (b_is : ForSome t2 (λ p. b ≡ length (content p B)))
-    (a_none : a ≡ 0) (b_none : b ≡ 0) (size : length bytes ≡ 48) where
+    (a_none : a ≡ 0) (b_none : b ≡ 0) (size : length bytes ≡ 52) where
   empty : Goes t0 t2 Empty
   empty = goes_then t0 t1 t2 ChangesNothing ChangesNothing Empty (λ p q r i j k f s.
       let a_here : content q A ≡ [] = empty_of (content q A) a (a_is q j) a_none in

@@ -19,6 +19,7 @@ pub mod Sides
 mod AreaWriting
 pub mod Once
 mod Version
+mod Readable
 pub mod Accepted
 pub mod Public
 pub mod Recovered

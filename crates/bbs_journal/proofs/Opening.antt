@@ -177,7 +177,7 @@ both_own v a w b active is = ⊎_elim
     (λ second. subst (λ (x : Active). own x.area (Open v a) (Open w b) ≡ Open x.version x.generation) (sym second.is) refl)
     (newer_gives (opened A v a) (opened B w b) active is)
 
-own_open : (a b : Header) (active : Active) → active_of a b ≡ Ok active → own active.area a b ≡ Open active.version active.generation
+pub own_open : (a b : Header) (active : Active) → active_of a b ≡ Ok active → own active.area a b ≡ Open active.version active.generation
 own_open Foreign b active is = absurd (no_ok _ active _ refl is)
 own_open (Closed x) Foreign active is = absurd (no_ok _ active _ refl is)
 own_open (Closed x) (Closed y) active is = absurd (no_ok _ active _ refl is)

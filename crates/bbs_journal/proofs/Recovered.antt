@@ -3,10 +3,9 @@ use Rattle.std.specs.Prelude.{if◌then◌else◌, ◌==◌, nat_lt}
 use Rattle.std.proofs.Common.{◌≡◌, inl, inr, ℕ, zero, suc, ◌+◌, ◌<◌, ◌≤◌, ◌^◌, min, Bool, true, false, None, List, [], ◌∷◌, ◌++◌, length, take, drop, get_or, refl, sym, ap, ◌∙◌, subst, arith, Ok, Err, append_assoc, length-append, length-drop, take-append-drop, take_at, drop_at}
 use Rattle.std.specs.Int.{w32, w64, from_be_bytes}
 use Rattle.std.proofs.lemmas.Nat.{be_bytes_4, be_bytes_8}
-use Rattle.std.proofs.lemmas.Bool.Decides.{nat_tests, leb_tells, Decides-eqb}
+use Rattle.std.proofs.lemmas.Bool.Decides.{nat_tests, leb_tells}
 use Rattle.std.proofs.lemmas.List.Elements.{All-take, All-drop, All-get_or}
 use Rattle.std.proofs.lemmas.List.{take-take, drop-take, drop-drop, length-take, length-take-le, get_or_past}
-use Rattle.std.proofs.lemmas.Slice.Eq.{starts_is}
 use Rattle.wire_fields.specs.Field.{field_number}
 use Rattle.disk_trait.proofs.Public.{settled_has}
 use Rattle.disk_trait.specs.Held.{AreBytes}
@@ -20,9 +19,9 @@ use Rattle.bbs_journal.specs.Opening.{Headed, active_of, size_of, size_in, is_ah
 use Rattle.bbs_journal.specs.Reading.{bytes_of}
 use Rattle.bbs_journal.specs.Grammar.{heading, GoesWith, Recovers, AreRecovered, AreReady}
 use Rattle.bbs_journal.specs.declared.active.Active.{Active}
-use Rattle.bbs_journal.specs.declared.header.Header.TheVariants.{Closed, Foreign, Cut, Open}
+use Rattle.bbs_journal.specs.declared.header.Header.TheVariants.{Closed, Open}
 use Rattle.bbs_journal.specs.declared.load_fault.LoadFault.TheVariants.{Damaged}
-use Rattle.bbs_journal.specs.declared.other_gate.OtherGate.TheVariants.{Shut, Loose}
+use Rattle.bbs_journal.specs.declared.other_gate.OtherGate.TheVariants.{Shut}
 use Rattle.bbs_journal.proofs.FrameAt.{length-spelled_on}
 use Rattle.bbs_journal.proofs.Version.{length-mark, marked}
 use Rattle.bbs_journal.proofs.Opening.{opened, tested, size_fits, other_gives, front_yields, open_gate, own_is}

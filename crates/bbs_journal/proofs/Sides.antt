@@ -203,7 +203,7 @@ module _ (t0 t1 : Option Past) (area : Area) (version generation end frames : â„
             holds = Î» _. record {
               gate = 1;
               is_open = omega arith;
-              version_is = refl;
+              version_is = inr refl;
               head = kept.next;
               payloads = [];
               doubt = None;

@@ -3,7 +3,7 @@ use Rattle.std.specs.Prelude.{◌≡◌, ℕ, ◌+◌, ◌*◌, ◌^◌, ◌<◌
 use Rattle.std.specs.Option.{ForSome}
 use Rattle.disk_trait.specs.Past.{Past, Image, other}
 use Rattle.disk_trait.specs.declared.area.Area.TheVariants.{A, B}
-use Rattle.bbs_journal.specs.Header.{front, header_of, gate_of}
+use Rattle.bbs_journal.specs.Header.{IsVersion, front, header_of, gate_of}
 use Rattle.bbs_journal.specs.Opening.{active_of, size_of, IsOpening}
 use Rattle.bbs_journal.specs.Reading.{payloads_of, bytes_of}
 use Rattle.bbs_journal.specs.View.{IsKept}
@@ -45,6 +45,7 @@ pub record IsCounted (found : Found) : Type 0 where
   pub fits : found.place.end < 2 ^ 64
   pub frames : found.place.frames ≡ length found.payloads.items
   pub broken : found.place.broken ≡ is_some found.broken
+  pub version_is : IsVersion found.place.version
 
 -- what was just loaded from this disk: its journal counts the frames that were read and ends behind them, nothing is
 -- in doubt, it stands on what the disk tells, and the load met no fault
@@ -54,6 +55,8 @@ pub record IsJustLoaded {D : Type 0} (told : D → Option Past) (fault_count : D
   pub count : loaded.journal.frames ≡ length loaded.frames.items
   pub mended : loaded.journal.waiting ≡ Nothing
   pub broken : loaded.journal.broken ≡ is_some loaded.broken
+  pub version_is : IsVersion loaded.journal.version
+  pub version : loaded.version ≡ loaded.journal.version
   pub kept : ForSome (told loaded.journal.disk) (IsKept loaded.journal.area loaded.journal.version
       loaded.journal.generation loaded.journal.end loaded.journal.frames Nothing loaded.journal.broken loaded.journal.gate)
   pub stood : fault_count loaded.journal.disk ≡ fault_count disk

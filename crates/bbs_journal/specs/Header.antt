@@ -1,5 +1,5 @@
 -- What the first bytes of an area say of it.
-use Rattle.std.specs.Prelude.{◌≡◌, ℕ, ◌+◌, ◌==◌, nat_eq, nat_lt, Option, Some, None, List, [], ◌∷◌, ◌++◌, length, take, drop, if◌then◌else◌}
+use Rattle.std.specs.Prelude.{◌≡◌, ◌⊎◌, ℕ, ◌+◌, ◌==◌, nat_eq, nat_lt, Option, Some, None, List, [], ◌∷◌, ◌++◌, length, take, drop, if◌then◌else◌}
 use Rattle.std.specs.Int.{w16, w64, from_be_bytes}
 use Rattle.std.specs.List.{starts_with}
 use Rattle.wire_fields.specs.Field.{field_number}
@@ -10,11 +10,11 @@ use Rattle.bbs_journal.specs.declared.other_gate.OtherGate.TheVariants.{Shut, Lo
 
 -- the format versions that are read
 abbrev pub IsVersion : ℕ → Type 0
-IsVersion version = version ≡ 1
+IsVersion version = (version ≡ 1) ⊎ (version ≡ 2)
 
 -- the version of every area that is written
 abbrev pub newest : ℕ
-newest = 1
+newest = 2
 
 -- DIEGOBBS
 abbrev pub magic : List ℕ
@@ -26,7 +26,9 @@ mark version = magic ++ field_number w16 version
 
 -- the version that stands behind the gate, if it is one that is read
 unfoldable pub version_of : List ℕ → Option ℕ
-version_of bytes = if starts_with nat_eq bytes (mark 1) then Some 1 else None
+version_of bytes =
+    if starts_with nat_eq bytes (mark 1) then Some 1
+    else (if starts_with nat_eq bytes (mark 2) then Some 2 else None)
 
 -- the bytes of an area that are looked at before its head is read
 abbrev pub front : List ℕ → List ℕ

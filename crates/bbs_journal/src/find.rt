@@ -3,6 +3,7 @@ ghost use Rattle.std.specs.Prelude.{◌≡◌, ◌+◌, ◌≤◌, IfOk, IfErr, 
 ghost use Rattle.byte_ports.specs.Cause.{HasCause};
 ghost use Rattle.disk_trait.specs.Past.{Image};
 ghost use Rattle.disk_trait.specs.Steps.{Goes};
+ghost use Rattle.bbs_journal.specs.Header.{IsVersion};
 ghost use Rattle.bbs_journal.specs.Opening.{headed};
 ghost use Rattle.bbs_journal.specs.LoadFaults.{is_load_disk_fault, IsFree, Fails, failed};
 ghost use Rattle.disk_trait.specs.Shows.{Shows, Peeks};
@@ -37,6 +38,7 @@ pub(crate) struct Found {
 
 fn choose_area<D: Disk>(disk: &mut D) -> Result<Chosen, LoadFault>
     ensures shows { IfOk result (λ x. (c : Image) → Shows (D.told disk.new) c → IsChosen c x) }
+    ensures read { IfOk result (λ x. IsVersion x.active.version) }
     ensures fault { IfErr result (λ e. (c : Image) → Shows (D.told disk.new) c →
         Fails e (headed c)) }
     ensures does { Goes (D.told disk.old) (D.told disk.new) Peeks }
@@ -91,7 +93,8 @@ fn read_sized<D: Disk>(
     len: u64,
     size: u32,
 ) -> Result<Found, LoadFault>
-    requires { 23 + size ≤ len }
+    requires fits { 23 + size ≤ len }
+    requires read { IsVersion chosen.active.version }
     ensures shows { IfOk result (λ f. (c : Image) → Shows (D.told disk.new) c →
         IsChosen c chosen → IsSized c chosen.active len size → IsFoundIn c f) }
     ensures counts { IfOk result IsCounted }
@@ -121,6 +124,7 @@ fn read_sized<D: Disk>(
 }
 
 fn read_area<D: Disk>(alloc: Global, disk: &mut D, chosen: Chosen) -> Result<Found, LoadFault>
+    requires { IsVersion chosen.active.version }
     ensures shows { IfOk result (λ f. (c : Image) → Shows (D.told disk.new) c →
         IsChosen c chosen → IsFoundIn c f) }
     ensures counts { IfOk result IsCounted }

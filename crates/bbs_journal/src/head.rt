@@ -8,7 +8,8 @@ use crate::active::{Active, GENERATION_AT};
 use crate::header::{FRONT, u32_at, u64_at};
 
 /// Whether the generation is above the number that begins the head, plus the version. A generation is
-/// followed by another of its version only where it has frames, and each of them raises that number.
+/// followed by another of its version only where it has frames, and each of them raises that number. One
+/// of version 1 may be followed by one of version 2 without a frame, which happens once.
 #[tactic(auto, unfolding(crate::specs::Opening::size_in, crate::specs::Opening::is_ahead))]
 fn runs_ahead(version: u16, generation: u64, front: &[u8]) -> bool
     requires room { 23 ≤ length front.now }

@@ -5,14 +5,14 @@ ghost use Rattle.bbs_journal.specs.Header.{header_of, behind_gate, version_of};
 
 use crate::OtherGate;
 
-/// The magic, and version 1 in two bytes.
-const MARK: [u8; 10] = [b'D', b'I', b'E', b'G', b'O', b'B', b'B', b'S', 0, 1];
+/// The magic, and version 1 in two bytes. Such an area is read, and never written.
+const OLD_MARK: [u8; 10] = [b'D', b'I', b'E', b'G', b'O', b'B', b'B', b'S', 0, 1];
 
 /// The version of every area that is written.
-pub(crate) const NEWEST: u16 = 1;
+pub(crate) const NEWEST: u16 = 2;
 
 /// The magic, and that version in two bytes.
-pub(crate) const NEWEST_MARK: [u8; 10] = MARK;
+pub(crate) const NEWEST_MARK: [u8; 10] = [b'D', b'I', b'E', b'G', b'O', b'B', b'B', b'S', 0, 2];
 
 /// How many bytes of an area are looked at before its head is read.
 pub(crate) const FRONT: usize = 31;
@@ -51,8 +51,11 @@ pub(crate) fn u32_at(bytes: &[u8]) -> u32
 fn version_in(bytes: &[u8]) -> Option<u16>
     ensures { result ≡ version_of bytes.now }
 {
-    if bytes.starts_with(&MARK) {
+    if bytes.starts_with(&OLD_MARK) {
         return Some(1);
+    }
+    if bytes.starts_with(&NEWEST_MARK) {
+        return Some(NEWEST);
     }
     None
 }

@@ -5,6 +5,7 @@ ghost use Rattle.std.specs.Option.{ForSome};
 ghost use Rattle.byte_ports.specs.Cause.{HasCause};
 ghost use Rattle.disk_trait.specs.Steps.{Goes};
 ghost use Rattle.bbs_journal.specs.Frames.{IsPayload};
+ghost use Rattle.bbs_journal.specs.Header.{IsVersion};
 ghost use Rattle.bbs_journal.specs.View.{IsKept, is_waiting};
 ghost use Rattle.bbs_journal.specs.Calls.{AddsFrame, WritesFrame, Closes, GrowsBy, Settles, Fits, TakesCalls, mend_calls};
 ghost use Rattle.bbs_journal.specs.Switching.{ClosesHeader};
@@ -43,6 +44,7 @@ pub struct Journal<D: Disk> {
 impl<D: Disk> Model for Journal<D> {
     ghost use Rattle.std.specs.Prelude.{ℕ, ◌+◌, ◌*◌, ◌^◌, ◌<◌};
     ghost use Rattle.std.specs.Option.{ForSome};
+    ghost use Rattle.bbs_journal.specs.Header.{IsVersion};
     ghost use Rattle.bbs_journal.specs.View.{JournalView, IsKept};
 
     ghost Value = { JournalView D };
@@ -61,7 +63,8 @@ impl<D: Disk> Model for Journal<D> {
 
     ghost invariant = { λ j. (j.end < 2 ^ 33 + 515 * j.frames)
         × ForSome (D.told j.disk)
-        (IsKept j.area j.version j.generation j.end j.frames j.waiting j.broken j.gate) };
+        (IsKept j.area j.version j.generation j.end j.frames j.waiting j.broken j.gate)
+        × IsVersion j.version };
 }
 
 impl<D: Disk> Journal<D> {
@@ -70,6 +73,7 @@ impl<D: Disk> Journal<D> {
         requires small { found.end < 2 ^ 33 + 515 * found.frames }
         requires kept { ForSome (D.told disk) (IsKept found.area found.version found.generation
             found.end found.frames Nothing found.broken found.gate) }
+        requires read { IsVersion found.version }
         ensures { result ≡ record {
           disk = disk;
           area = found.area;
@@ -199,9 +203,10 @@ impl<D: Disk> Journal<D> {
         self.area
     }
 
-    /// The format version of that area.
+    /// The format version of that area, 1 or 2. It is 2 after each switch.
     pub fn version(&self) -> u16
-        ensures { result ≡ self.now.version }
+        ensures value { result ≡ self.now.version }
+        ensures read { IsVersion result }
     {
         self.version
     }

@@ -26,6 +26,8 @@ pub struct Loaded<D: Disk> {
     pub frames: Vec<Vec<u8>>,
     /// The place of the first frame that is not whole, or of a missing gate, behind those frames.
     pub broken: Option<u64>,
+    /// The format version of that area, 1 or 2: the head and the payloads are to be read by it.
+    pub version: u16,
 }
 
 fn read_disk<D: Disk>(alloc: Global, disk: &mut D) -> Result<Found, LoadFault>
@@ -59,6 +61,7 @@ pub fn load<D: Disk>(alloc: Global, mut disk: D) -> Result<Loaded<D>, (D, LoadFa
 {
     match read_disk(alloc, &mut disk) {
         Ok(found) => Ok(Loaded {
+            version: found.place.version,
             journal: Journal::resume(disk, found.place),
             head: found.head,
             frames: found.payloads,

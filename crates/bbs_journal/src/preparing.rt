@@ -8,11 +8,11 @@ ghost use Rattle.bbs_journal.specs.declared.preparing.PrepareFault.TheVariants a
 use byte_ports::Failed;
 use disk_trait::{Area, Disk};
 
-/// An open header gate, the magic, version 1, generation 1, a head of 24 zero bytes (a board
+/// An open header gate, the magic, version 2, generation 1, a head of 28 zero bytes (a board
 /// without rows), and a closed gate.
-const PREPARED: [u8; 48] = [
-    1, b'D', b'I', b'E', b'G', b'O', b'B', b'B', b'S', 0, 1, 0, 0, 0, 0, 0, 0, 0, 1, 0, 0, 0, 24,
-    0, 0, 0, 0, 0, 0, 0, 0, 0, 0, 0, 0, 0, 0, 0, 0, 0, 0, 0, 0, 0, 0, 0, 0, 0,
+const PREPARED: [u8; 52] = [
+    1, b'D', b'I', b'E', b'G', b'O', b'B', b'B', b'S', 0, 2, 0, 0, 0, 0, 0, 0, 0, 1, 0, 0, 0, 28,
+    0, 0, 0, 0, 0, 0, 0, 0, 0, 0, 0, 0, 0, 0, 0, 0, 0, 0, 0, 0, 0, 0, 0, 0, 0, 0, 0, 0, 0,
 ];
 
 /// Why nothing was prepared.
@@ -51,7 +51,7 @@ pub fn prepare<D: Disk>(disk: &mut D) -> Result<(), PrepareFault>
     Ok(())
 }
 
-/// What was prepared is opened without frames, and at place 47 stands the gate of the first.
+/// What was prepared is opened without frames, and at place 51 stands the gate of the first.
 pub fn what_is_prepared_is_opened()
     ensures { OpensEmpty }
 {}

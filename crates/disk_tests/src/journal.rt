@@ -11,6 +11,7 @@ mod opening;
 mod preparing;
 mod stops;
 mod switching;
+mod versions;
 
 use crate::asserts::{are_bytes, are_bytes_at, holds, is_number};
 use bbs_journal::{Journal, LoadFault, Loaded, load, load_from_memory};
@@ -19,24 +20,24 @@ use std::alloc::Global;
 use std::process::Abort;
 use std::test::Fail;
 
-// A board without rows, as it is prepared: 47 bytes and a closed gate.
-const EMPTY: [u8; 48] = [
-    0x01, 0x44, 0x49, 0x45, 0x47, 0x4f, 0x42, 0x42, 0x53, 0, 1, 0, 0, 0, 0, 0, 0, 0, 1, 0, 0, 0,
-    0x18, 0, 0, 0, 0, 0, 0, 0, 0, 0, 0, 0, 0, 0, 0, 0, 0, 0, 0, 0, 0, 0, 0, 0, 0, 0,
+// A board without rows, as it is prepared: 51 bytes and a closed gate.
+const EMPTY: [u8; 52] = [
+    0x01, 0x44, 0x49, 0x45, 0x47, 0x4f, 0x42, 0x42, 0x53, 0, 2, 0, 0, 0, 0, 0, 0, 0, 1, 0, 0, 0,
+    0x1c, 0, 0, 0, 0, 0, 0, 0, 0, 0, 0, 0, 0, 0, 0, 0, 0, 0, 0, 0, 0, 0, 0, 0, 0, 0, 0, 0, 0, 0,
 ];
 
 // The same with the frame of one desire.
-const DESIRED: [u8; 81] = [
-    0x01, 0x44, 0x49, 0x45, 0x47, 0x4f, 0x42, 0x42, 0x53, 0, 1, 0, 0, 0, 0, 0, 0, 0, 1, 0, 0, 0,
-    0x18, 0, 0, 0, 0, 0, 0, 0, 0, 0, 0, 0, 0, 0, 0, 0, 0, 0, 0, 0, 0, 0, 0, 0, 0, 0x01, 0, 0x1e,
-    0x01, 0, 0, 0, 0, 0x03, 0x77, 0x65, 0x62, 0x04, 0x61, 0x70, 0x70, 0x73, 0, 0, 0, 3, 0, 0, 0,
-    0x40, 0, 0, 0, 0x80, 0, 0, 0x1f, 0x90, 0,
+const DESIRED: [u8; 85] = [
+    0x01, 0x44, 0x49, 0x45, 0x47, 0x4f, 0x42, 0x42, 0x53, 0, 2, 0, 0, 0, 0, 0, 0, 0, 1, 0, 0, 0,
+    0x1c, 0, 0, 0, 0, 0, 0, 0, 0, 0, 0, 0, 0, 0, 0, 0, 0, 0, 0, 0, 0, 0, 0, 0, 0, 0, 0, 0, 0, 0x01,
+    0, 0x1e, 0x01, 0, 0, 0, 0, 0x03, 0x77, 0x65, 0x62, 0x04, 0x61, 0x70, 0x70, 0x73, 0, 0, 0, 3, 0,
+    0, 0, 0x40, 0, 0, 0, 0x80, 0, 0, 0x1f, 0x90, 0,
 ];
 
 // How many device calls the load of the empty board makes.
 const CALLS: u64 = 7;
 
-// Frames of "one" and of "two", behind the 47 bytes.
+// Frames of "one" and of "two", behind the 51 bytes.
 const ONE: [u8; 7] = [1, 0, 3, 111, 110, 101, 0];
 
 const TWO: [u8; 7] = [1, 0, 3, 116, 119, 111, 0];
@@ -161,7 +162,7 @@ fn appended_three<D: Disk + Drop>(rt: &impl Abort, alloc: Global, disk: D) -> Re
     let mut journal = empty_journal(rt, alloc, disk)?;
     holds(rt, journal.append(b"one").is_ok());
     is_number(rt, journal.frames(), 1);
-    is_number(rt, journal.end(), 53);
+    is_number(rt, journal.end(), 57);
     is_number(rt, journal.clock(), CALLS + 4);
     holds(rt, journal.area() == Area::A);
     is_number(rt, journal.generation(), 1);
@@ -176,7 +177,7 @@ pub fn is_cut(rt: &impl Abort, area: &[u8], place: usize, front: &[u8], rest: &[
 }
 
 fn has_one_frame(rt: &impl Abort, disk: &MemoryDisk) {
-    is_cut(rt, disk.bytes(Area::A), 47, &EMPTY[..47], &ONE);
+    is_cut(rt, disk.bytes(Area::A), 51, &EMPTY[..51], &ONE);
     holds(rt, disk.bytes(Area::B).is_empty());
 }
 
@@ -192,20 +193,20 @@ fn is_desired(rt: &impl Abort, alloc: Global, area: &[u8]) -> Result<(), Fail> {
     are_bytes(rt, area, &DESIRED);
     let mut text = held(rt, alloc, &DESIRED, &[])?;
     holds(rt, text.pop() == Some(b' '));
-    are_bytes(rt, &text, &DESIRED[50..80]);
+    are_bytes(rt, &text, &DESIRED[54..84]);
     Ok(())
 }
 
 #[test]
-fn one_desire_makes_an_area_of_81_bytes(rt: HostRuntime) -> Result<(), Fail> {
+fn one_desire_makes_an_area_of_85_bytes(rt: HostRuntime) -> Result<(), Fail> {
     let alloc = rt.alloc();
-    let disk = appended(&rt, alloc, empty_disk(alloc, &[])?, &DESIRED[50..80])?;
+    let disk = appended(&rt, alloc, empty_disk(alloc, &[])?, &DESIRED[54..84])?;
     is_desired(&rt, alloc, disk.bytes(Area::A))
 }
 
 fn has_the_longest(rt: &impl Abort, alloc: Global, area: &[u8]) -> Result<(), Fail> {
-    is_number(rt, area.len() as u64, 563);
-    holds(rt, area.get(47..51) == Some([1, 2, 0, 7].as_slice()));
+    is_number(rt, area.len() as u64, 567);
+    holds(rt, area.get(51..55) == Some([1, 2, 0, 7].as_slice()));
     holds(rt, area.ends_with(&[7, 0]));
     is_opened(rt, 0, opened(alloc, area, &[])?, Ok((1, None)));
     Ok(())

@@ -39,11 +39,20 @@ fn sync_above<R: Files<File = File>>(rt: &R, path: Path<'_>) -> io::Result<()> {
     }
 }
 
-// A folder that this user may not read can't be synced, and has to be left out.
+// A folder that this user may not read can't be synced, and has to be left out. Nor can one on a file
+// system that syncs no folders, as a read-only one: nobody changes its names.
 fn sync_if_open<R: Files<File = File>>(rt: &R, folder: Path<'_>) -> io::Result<()> {
     match File::open(rt, folder) {
-        Ok(open) => open.sync_all(),
-        Err(error) if error.kind() == ErrorKind::PermissionDenied => Ok(()),
+        Ok(open) => unless(ErrorKind::InvalidInput, open.sync_all()),
+        Err(error) => unless(ErrorKind::PermissionDenied, Err(error)),
+    }
+}
+
+// The result, but for an error of this kind, which counts as none.
+fn unless(kind: ErrorKind, end: io::Result<()>) -> io::Result<()> {
+    match end {
+        Err(error) if error.kind() == kind => Ok(()),
         Err(error) => Err(error),
+        Ok(()) => Ok(()),
     }
 }

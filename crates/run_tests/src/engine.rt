@@ -5,6 +5,7 @@ mod devices;
 mod endings;
 mod gates;
 mod limits;
+mod old_boards;
 mod rounds;
 mod runs;
 mod stops;

@@ -64,7 +64,7 @@ fn append_again<D: Disk + Drop>(
 }
 
 fn has_two(rt: &impl Abort, disk: &MemoryDisk) {
-    is_cut(rt, disk.bytes(Area::A), 47, &EMPTY[..47], &TWO);
+    is_cut(rt, disk.bytes(Area::A), 51, &EMPTY[..51], &TWO);
 }
 
 #[test]

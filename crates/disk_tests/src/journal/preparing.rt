@@ -58,7 +58,7 @@ fn leaves_a_part(rt: &impl Abort, disk: &mut MemoryDisk, call: u64, left: u64) {
 #[test]
 fn a_prepare_whose_disk_fails_over_empty_areas_leaves_a_part(rt: HostRuntime) -> Result<(), Fail> {
     // The lengths, the write, and the two syncs.
-    for (call, left) in [(1, 0), (2, 0), (3, 0), (4, 48), (5, 48)] {
+    for (call, left) in [(1, 0), (2, 0), (3, 0), (4, 52), (5, 52)] {
         let mut disk = disk_of(rt.alloc(), &[], &[], &[call])?;
         leaves_a_part(&rt, &mut disk, call, left);
     }

@@ -2,6 +2,7 @@
 ghost use Rattle.std.specs.Prelude.{◌≡◌, ◌≤◌, false, IfOk};
 ghost use Rattle.bbs_journal.specs.View.{IsCalm};
 
+use super::versions::OLD_EMPTY;
 use super::{CALLS, EMPTY, ONE, TWO, disk_of, held, journal_on, leaves};
 use crate::asserts::{are_bytes, holds, is_number};
 use bbs_journal::{DiskFault, Journal};
@@ -11,18 +12,18 @@ use std::process::Abort;
 use std::test::Fail;
 
 // The head of a board with two transitions and no rows.
-const HEAD: [u8; 24] = [
-    0, 0, 0, 0, 0, 0, 0, 2, 0, 0, 0, 0, 0, 0, 0, 0, 0, 0, 0, 0, 0, 0, 0, 0,
+const HEAD: [u8; 28] = [
+    0, 0, 0, 0, 0, 0, 0, 2, 0, 0, 0, 0, 0, 0, 0, 0, 0, 0, 0, 0, 0, 0, 0, 0, 0, 0, 0, 0,
 ];
 
 // What stands before that head in an area of generation 3, its gate closed.
 const HEADER: [u8; 23] = [
-    0, 0x44, 0x49, 0x45, 0x47, 0x4f, 0x42, 0x42, 0x53, 0, 1, 0, 0, 0, 0, 0, 0, 0, 3, 0, 0, 0, 0x18,
+    0, 0x44, 0x49, 0x45, 0x47, 0x4f, 0x42, 0x42, 0x53, 0, 2, 0, 0, 0, 0, 0, 0, 0, 3, 0, 0, 0, 0x1c,
 ];
 
 // An area A of generation 2 with one frame, beside these bytes.
 fn disk_beside(alloc: Global, beside: &[u8], failing: &[u64]) -> Result<MemoryDisk, Fail> {
-    let mut a = EMPTY[..47].to_vec(alloc)?;
+    let mut a = EMPTY[..51].to_vec(alloc)?;
     a[18] = 2;
     a[30] = 1;
     a.extend_from_slice(&ONE)?;
@@ -43,8 +44,8 @@ fn second_journal<D: Disk + Drop>(
     Ok(journal)
 }
 
-// The three steps, to a head that follows on the frame.
-fn switch<D: Disk>(rt: &impl Abort, journal: &mut Journal<D>) -> Result<(), DiskFault>
+/// The three steps, to a head that follows on the frame.
+pub fn switch<D: Disk>(rt: &impl Abort, journal: &mut Journal<D>) -> Result<(), DiskFault>
     requires { IsCalm journal.old }
     ensures { journal.new.broken ≡ false }
 {
@@ -60,16 +61,16 @@ fn switched<D: Disk + Drop>(rt: &impl Abort, alloc: Global, disk: D) -> Result<D
     holds(rt, journal.area() == Area::B);
     is_number(rt, journal.generation(), 3);
     is_number(rt, journal.frames(), 0);
-    is_number(rt, journal.end(), 47);
+    is_number(rt, journal.end(), 51);
     is_number(rt, journal.clock(), CALLS + 8);
     Ok(journal.into_disk())
 }
 
 fn is_next_area(rt: &impl Abort, bytes: &[u8]) {
     // The gate is open, and behind the head stands a closed one.
-    let mut area = [0; 48];
+    let mut area = [0; 52];
     area[..23].copy_from_slice(&HEADER);
-    area[23..47].copy_from_slice(&HEAD);
+    area[23..51].copy_from_slice(&HEAD);
     area[0] = 1;
     are_bytes(rt, bytes, &area);
 }
@@ -99,7 +100,7 @@ fn has_text(rt: &impl Abort, alloc: Global, disk: &MemoryDisk, want: &[u8]) -> R
 }
 
 fn has_the_next_frame(rt: &impl Abort, alloc: Global, disk: &MemoryDisk) -> Result<(), Fail> {
-    holds(rt, disk.bytes(Area::B).get(47..) == Some(TWO.as_slice()));
+    holds(rt, disk.bytes(Area::B).get(51..) == Some(TWO.as_slice()));
     has_text(rt, alloc, disk, b"two ")
 }
 
@@ -169,7 +170,8 @@ fn a_stop_within_a_switch_leaves_the_old_area_or_the_new(rt: HostRuntime) -> Res
     stop_beside(&rt, alloc, &[], 8)?;
     // A closed gate is left alone, whatever stands behind it.
     stop_beside(&rt, alloc, &[0, 9, 9], 6)?;
-    stop_beside(&rt, alloc, &EMPTY, 8)
+    stop_beside(&rt, alloc, &EMPTY, 8)?;
+    stop_beside(&rt, alloc, &OLD_EMPTY, 8)
 }
 
 // Switches where this device call fails, mends, and switches again.

@@ -64,8 +64,8 @@ fn is_doubt(rt: &impl Abort, left: &Left, mark: u64) {
     assert_eq!(rt; left.marks.as_slice(), [mark].as_slice());
     let failed = answer(rt, CallEnd::Fault(CallFault::Disk { place: 0 }));
     assert_eq!(rt; left.answers.as_slice(), [failed].as_slice());
-    assert_eq!(rt; left.disk.bytes(Area::A).get(47), Some(&0));
-    assert_eq!(rt; left.disk.bytes(Area::A).get(..47), EMPTY.get(..47));
+    assert_eq!(rt; left.disk.bytes(Area::A).get(51), Some(&0));
+    assert_eq!(rt; left.disk.bytes(Area::A).get(..51), EMPTY.get(..51));
     assert!(rt; left.disk.bytes(Area::B).is_empty());
 }
 

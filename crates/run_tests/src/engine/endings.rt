@@ -2,7 +2,7 @@
 use super::bytes::first_run;
 use super::{left_by, run};
 use crate::given::{
-    EMPTY, Given, Left, Runtime, STORED, bytes_of, ends, has_done, holds, tells_nothing,
+    EMPTY, Given, Left, OLD_STORED, Runtime, STORED, bytes_of, ends, has_done, holds, tells_nothing,
 };
 use disk_trait::{Area, Disk};
 use std::alloc::Global;
@@ -90,8 +90,8 @@ fn front<'a>(rt: &impl Abort, len: usize) -> &'a [u8] {
 
 // The board of the first run with its frame twice, so that the second isn't legal.
 fn stored_twice(rt: &impl Abort, alloc: Global) -> Vec<u8> {
-    let mut twice = bytes_of(rt, alloc, front(rt, 80));
-    let frame = STORED.get(47..).expect(rt, "47 bytes");
+    let mut twice = bytes_of(rt, alloc, front(rt, 84));
+    let frame = STORED.get(51..).expect(rt, "51 bytes");
     twice.extend_from_slice(frame).expect(rt, "memory");
     twice
 }
@@ -125,30 +125,48 @@ fn is_damaged(rt: &impl Runtime, alloc: Global, a: &[u8], at: u64) {
     is_refused(rt, alloc, a, b"", &line);
 }
 
-// It has one where a byte of the board of the first run is changed.
-fn is_defect(rt: &impl Runtime, alloc: Global, place: usize, value: u8, at: u64) {
-    is_damaged(rt, alloc, &changed(rt, alloc, STORED, place, value), at);
+// It has one where a byte of this board is changed.
+fn is_defect(rt: &impl Runtime, alloc: Global, board: &[u8], (place, value): (usize, u8), at: u64) {
+    is_damaged(rt, alloc, &changed(rt, alloc, board, place, value), at);
 }
 
 #[test]
 fn the_first_defect_of_a_board_is_told_with_its_place(rt: HostRuntime) {
     let alloc = rt.alloc();
     for (place, value, at) in [
-        // A generation above the number of transitions and 1, and generation 0.
-        (18, 2, 11),
+        // A generation above the number of transitions and 2, and generation 0.
+        (18, 3, 11),
         (18, 0, 11),
-        // A head of 1,048,576 transitions, one without the row that it counts, and one that doesn't fit.
-        (28, 16, 23),
+        // A head of 2^41 transitions, one without the row that it counts, and one that doesn't fit.
+        (25, 2, 23),
+        (34, 1, 51),
+        (22, 99, 85),
+        // A frame of no length, and one of a kind of command that there isn't.
+        (53, 0, 51),
+        (54, 99, 51),
+    ] {
+        is_defect(&rt, alloc, STORED, (place, value), at);
+    }
+    is_damaged(&rt, alloc, &stored_twice(&rt, alloc), 84);
+    is_damaged(&rt, alloc, front(&rt, 64), 51);
+    // A frame whose gate isn't closed.
+    is_damaged(&rt, alloc, front(&rt, 84), 84);
+}
+
+#[test]
+fn a_board_of_format_1_has_defects_of_its_own(rt: HostRuntime) {
+    let alloc = rt.alloc();
+    for (place, value, at) in [
+        // A generation above the number of transitions and 1.
+        (18, 2, 11),
+        // The head of format 2 has one count more.
+        (10, 2, 23),
         (34, 1, 47),
         (22, 99, 81),
-        // A frame of no length, and one of a kind of command that there isn't.
+        // The first kind of command that is of format 2 alone.
         (49, 0, 47),
-        (50, 99, 47),
+        (50, 26, 47),
     ] {
-        is_defect(&rt, alloc, place, value, at);
+        is_defect(&rt, alloc, OLD_STORED, (place, value), at);
     }
-    is_damaged(&rt, alloc, &stored_twice(&rt, alloc), 80);
-    is_damaged(&rt, alloc, front(&rt, 60), 47);
-    // A frame whose gate isn't closed.
-    is_damaged(&rt, alloc, front(&rt, 80), 80);
 }

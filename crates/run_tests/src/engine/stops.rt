@@ -9,9 +9,9 @@ use std::process::Abort;
 
 // What a stop left: the gate, the frame behind it where the gate is open, and nothing in area B.
 fn is_left(rt: &impl Abort, a: &[u8], b: &[u8], gate: u8, call: u64) {
-    assert_eq!(rt; a.get(47).copied(), Some(gate), "at call {call}");
+    assert_eq!(rt; a.get(51).copied(), Some(gate), "at call {call}");
     if gate != 0 {
-        assert_eq!(rt; a.get(48..), STORED.get(48..), "at call {call}");
+        assert_eq!(rt; a.get(52..), STORED.get(52..), "at call {call}");
     }
     assert!(rt; b.is_empty());
 }

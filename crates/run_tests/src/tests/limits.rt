@@ -61,8 +61,8 @@ fn an_instance_that_crashed_more_than_200_times_is_given_up(rt: HostRuntime) {
 }
 
 const LAST_BUT_ONE_BOARD: &[u8] =
-    b"\x01DIEGOBBS\x00\x01\x00\x00\x00\x00\x00\x00\x00\x01\x00\x00\x00\x18\x00\x00\x00\x00\x00\x0f\
-B>\x00\x00\x00\x00\x00\x00\x00\x00\x00\x00\x00\x00\x00\x00\x00\x00\x00";
+    b"\x01DIEGOBBS\x00\x02\x00\x00\x00\x00\x00\x00\x00\x01\x00\x00\x00\x1c\x00\x00\x00\xff\xff\xff\xff\
+\xfe\x00\x00\x00\x00\x00\x00\x00\x00\x00\x00\x00\x00\x00\x00\x00\x00\x00\x00\x00\x00\x00";
 
 const LAST_LINES: &str = r#"{"at":0}
 {"cell":"c1","op":"join","zone":"z1","memory":1024,"disk":4096,"containers":10,"ttl":600}
@@ -91,7 +91,7 @@ const LAST_LINES: &str = r#"{"at":0}
 "#;
 
 const LAST_TEXT: &str = r#"{"actor":"c1","answer":"ok","call":"join","line":2,"subject":"c1"}
-{"event":"created","row":{"cell":"c1","containers":10,"disk":4096,"epoch":999998,"evacuating":false,"memory":1024,"tag":null,"until":600,"zone":"z1"},"table":"cell"}
+{"event":"created","row":{"cell":"c1","containers":10,"disk":4096,"epoch":1099511627774,"evacuating":false,"memory":1024,"tag":null,"until":600,"zone":"z1"},"table":"cell"}
 {"actor":"cli","answer":"ok","call":"desire","line":4,"subject":"web"}
 {"event":"created","row":{"disk":128,"domain":"apps","instances":1,"memory":64,"port":8080,"process":"web","route":null,"tag":null},"table":"desired"}
 {"actor":"cli","answer":"refused","call":"desire","line":6,"subject":"web","why":"exists"}
@@ -108,7 +108,7 @@ const LAST_TEXT: &str = r#"{"actor":"c1","answer":"ok","call":"join","line":2,"s
 {"actor":"c1","answer":"refused","call":"settle","line":20,"subject":"c1","why":"down"}
 {"asked":1,"complete":false,"foreign":0,"line":22,"lost":1,"op":"round","own":0,"refused":1,"stopped":0,"unplaced":[]}
 {"asked":0,"complete":false,"foreign":0,"line":24,"lost":0,"op":"round","own":0,"refused":2,"stopped":0,"unplaced":[]}
-{"done":2,"doubts":0,"next":1000000,"phases":8}
+{"done":2,"doubts":0,"next":1099511627776,"phases":8}
 "#;
 
 #[test]

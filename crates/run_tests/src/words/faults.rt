@@ -58,12 +58,12 @@ fn is_no_board(rt: &impl Abort, alloc: Global, given: Given<'_>, text: &str) {
 #[test]
 fn a_disk_that_holds_no_board_is_told(rt: HostRuntime) {
     let alloc = rt.alloc();
-    let cut = STORED.get(..60).expect(&rt, "60 bytes");
+    let cut = STORED.get(..64).expect(&rt, "64 bytes");
     let nothing = "{\"area\":\"a\",\"at\":0,\"fault\":\"not a board\"}\n";
     is_no_board(&rt, alloc, areas(b"", b""), nothing);
     let none_in_b = "{\"area\":\"b\",\"at\":0,\"fault\":\"not a board\"}\n";
     is_no_board(&rt, alloc, areas(EMPTY, b"\x01diego"), none_in_b);
-    let damaged = "{\"area\":\"a\",\"at\":47,\"fault\":\"damaged\"}\n";
+    let damaged = "{\"area\":\"a\",\"at\":51,\"fault\":\"damaged\"}\n";
     is_no_board(&rt, alloc, areas(cut, b""), damaged);
     let damaged_in_b = "{\"area\":\"b\",\"at\":11,\"fault\":\"damaged\"}\n";
     is_no_board(&rt, alloc, areas(EMPTY, EMPTY), damaged_in_b);

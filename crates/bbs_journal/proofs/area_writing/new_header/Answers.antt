@@ -18,7 +18,7 @@ puts_all text new after size puts =
 
 -- the mark, byte by byte
 abbrev marked : List ℕ
-marked = 68 ∷ 73 ∷ 69 ∷ 71 ∷ 79 ∷ 66 ∷ 66 ∷ 83 ∷ 0 ∷ 1 ∷ []
+marked = 68 ∷ 73 ∷ 69 ∷ 71 ∷ 79 ∷ 66 ∷ 66 ∷ 83 ∷ 0 ∷ 2 ∷ []
 
 marked_is : marked ≡ mark newest
 unfolding field_number

@@ -24,6 +24,7 @@ invariant_of-self g c =
           kept_refused _ _ _ c.args.payload.now _ _ _ _ _ _ whole (refused _ _ _ _ _ _ c.put_body-len.ensures.bytes c.requires.payload c.in_err-write_synced.ensures.does)
           (rw mended at c.self.invariant.1)
           ),
+      c.self.invariant.2,
     )
 
 pub returns-in_err-write_synced-clause-does : goal.returns-in_err-write_synced-clause-does
@@ -40,6 +41,7 @@ invariant_of-self-in_err-write_synced-2 g c =
       kept_in_doubt _ _ _ c.args.payload.now _ _ _ _ _ _ whole
           (opened _ _ _ _ false _ _ _ c.put_body-len.ensures.bytes c.requires.payload c.in_ok-write_synced.ensures.does c.in_err-write_synced-2.ensures.does)
           (rw mended at c.self.invariant.1),
+      c.self.invariant.2,
     )
 
 pub returns-in_err-write_synced-2-clause-does : goal.returns-in_err-write_synced-2-clause-does
@@ -57,6 +59,7 @@ invariant_of-self-2 g c =
           kept_done _ _ _ c.args.payload.now _ _ _ _ _ _ whole (opened _ _ _ _ true _ _ _ c.put_body-len.ensures.bytes c.requires.payload c.in_ok-write_synced.ensures.does c.in_ok-write_synced-2.ensures.does)
           (rw mended at c.self.invariant.1)
           ),
+      c.self.invariant.2,
     )
 
 pub returns-clause-does : goal.returns-clause-does

@@ -1,4 +1,4 @@
-use Rattle.std.proofs.Common.{◌≡◌, ◌^◌, ◌-◌, ◌<◌, true, false, is_ok, rules, arith}
+use Rattle.std.proofs.Common.{◌≡◌, refl, inr, ◌^◌, ◌-◌, ◌<◌, true, false, is_ok, rules, arith}
 use Rattle.bbs_journal.specs.Switching.{size_written}
 use Rattle.bbs_journal.specs.declared.other_gate.OtherGate.TheVariants.{Written}
 use Rattle.bbs_journal.specs.declared.waiting.Waiting.TheVariants.{Nothing}
@@ -12,6 +12,7 @@ invariant_of-self g c =
     let written : c.self.inside.gate ≡ Written (size_written c.self.inside.gate) = written_inside _ _ c.self.view_is c.requires.written in (
       c.self.invariant.0,
       rw written (kept_unopened _ _ _ _ _ _ _ _ _ (opens _ _ _ c.self.inside.version _ c.self.inside.end c.self.inside.frames c.self.inside.broken false (rw c.other-area.ensures at c.in_err-write_synced.ensures.does)) (rw (calm, written) at c.self.invariant.1)),
+      c.self.invariant.2,
     )
 
 pub returns-in_err-write_synced-clause-does : goal.returns-in_err-write_synced-clause-does
@@ -28,6 +29,7 @@ invariant_of-self-2 g c =
       omega (arith, c.size_written-size.ensures.small),
       rw (c.other-area.ensures, c.size_written-size.ensures.value) (kept_opened _ _ _ _ _ _ _ _ _ below whole
           (opens _ _ _ c.self.inside.version _ c.self.inside.end c.self.inside.frames c.self.inside.broken true (rw c.other-area.ensures at c.in_ok-write_synced.ensures.does)) (rw (calm, written) at c.self.invariant.1)),
+      inr refl,
     )
 
 pub returns-clause-does : goal.returns-clause-does

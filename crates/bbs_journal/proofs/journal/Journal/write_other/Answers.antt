@@ -19,6 +19,7 @@ invariant_of-self g c =
       rw (calm, shut) (kept_unwritten _ _ _ _ _ _ _ _ c.args.head.now
           (writes _ _ _ c.self.inside.version _ c.self.inside.end c.self.inside.frames c.self.inside.broken false _ _ c.new_header-header.ensures (rw c.other.ensures at c.in_err-write_area.ensures.does))
           (rw (calm, shut) at c.self.invariant.1)),
+      c.self.invariant.2,
     )
 
 pub invariant_of-self-2 : goal.invariant_of-self-2
@@ -29,6 +30,7 @@ invariant_of-self-2 g c =
       rw calm (kept_written _ _ _ _ _ _ _ _ c.args.head.now
           (writes _ _ _ c.self.inside.version _ c.self.inside.end c.self.inside.frames c.self.inside.broken true _ _ c.new_header-header.ensures (rw c.other.ensures at c.in_ok-write_area.ensures.does))
           (rw (calm, shut) at c.self.invariant.1)),
+      c.self.invariant.2,
     )
 
 pub returns-clause-does : goal.returns-clause-does
