@@ -73,6 +73,13 @@ fn a_clients_line_of_another_shape_is_a_bad_shape(rt: HostRuntime) {
             br#"{"client":"c","op":"task","name":"t","memory":1,"disk":4294967296}"#,
             br#"{"client":"c","op":"task","name":"t","memory":1,"disk":1,"tag":1}"#,
             br#"{"client":"c","op":"cancel","name":"t","failed":true}"#,
+            br#"{"client":"c","op":"fresh"}"#,
+            br#"{"client":"c","op":"fresh","domain":5}"#,
+            br#"{"client":"c","op":"fresh","domain":"d","ttl":null}"#,
+            br#"{"client":"c","op":"fresh","domain":"d","ttl":4294967296}"#,
+            br#"{"client":"c","op":"fresh","domain":"d","process":"p"}"#,
+            br#"{"client":"c","op":"forget","domain":"d"}"#,
+            br#"{"cell":"c","op":"fresh","domain":"d"}"#,
         ],
     );
 }
