@@ -65,6 +65,11 @@ fn desire(process: Name, instances: u32) -> Command {
     at(0, Op::Desire { desired })
 }
 
+/// The domain of the process, which has its name, is fresh for so many seconds.
+fn fresh(domain: Name, ttl: u32) -> Command {
+    at(0, Op::Fresh { domain, ttl })
+}
+
 fn first(process: Name) -> Key {
     Key { process, index: 0 }
 }

@@ -118,6 +118,26 @@ fn an_evacuating_row_without_its_container_is_dropped(rt: HostRuntime) -> Result
 }
 
 #[test]
+fn a_suspected_row_without_its_container_is_dropped(rt: HostRuntime) -> Result<(), Fail> {
+    let alloc = rt.alloc();
+    let names = read_names()?;
+    let (web, cell) = (names.web, names.a);
+    let (key, instance) = (first(web), container(2));
+    let silent = [
+        desire(web, 1),
+        make(web),
+        join(cell, 30),
+        start(web, 2, cell),
+        at(30, Op::Suspect { key, instance }),
+    ];
+    let dropped = [Op::DropSuspect { key, instance }];
+    assert!(rt; asked_of_a(alloc, &names, &silent, &[], &dropped)?);
+    assert!(rt; asked_of_a(alloc, &names, &silent, &[held(web, 2, 1, ENDED)], &dropped)?);
+    assert!(rt; asked_of_a(alloc, &names, &silent, &[held(web, 2, 1, RUNNING)], &[])?);
+    Ok(())
+}
+
+#[test]
 fn a_task_is_given_up_or_has_the_outcome_of_its_container(rt: HostRuntime) -> Result<(), Fail> {
     let alloc = rt.alloc();
     let names = read_names()?;

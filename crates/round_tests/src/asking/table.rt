@@ -1,6 +1,7 @@
 //! Each line of what convergence asks, as a case, and the moment before it is asked.
 use super::{
-    asks, at, container, crash, desire, first, join, make, new_task, read_names, start, start_task,
+    asks, at, container, crash, desire, first, fresh, join, make, new_task, read_names, start,
+    start_task,
 };
 use bbs_model::{Command, Op};
 use diego_names::{Key, Name};
@@ -37,18 +38,22 @@ fn wanted_instances_are_made_and_others_removed(rt: HostRuntime) -> Result<(), F
         desire(process, 1),
         make(process),
         at(0, Op::Undesire { process }),
+        fresh(process, 2),
     ];
     let removes = [Op::Remove { key, instance }];
+    let ended = [Op::Forget { domain: process }];
     let cases = [
         (wanted.as_slice(), 1, makes.as_slice()),
         (made.as_slice(), 1, &[]),
         (unwanted.as_slice(), 1, removes.as_slice()),
+        (&unwanted[..3], 1, &[]),
+        (unwanted.as_slice(), 2, ended.as_slice()),
     ];
     each_asks(&rt, rt.alloc(), &cases)
 }
 
 #[test]
-fn rows_whose_cell_is_gone_are_unclaimed(rt: HostRuntime) -> Result<(), Fail> {
+fn rows_whose_cell_is_gone_are_suspected_or_unclaimed(rt: HostRuntime) -> Result<(), Fail> {
     let names = read_names()?;
     let (process, cell) = (names.web, names.a);
     let (key, instance) = (first(process), container(2));
@@ -58,10 +63,27 @@ fn rows_whose_cell_is_gone_are_unclaimed(rt: HostRuntime) -> Result<(), Fail> {
         join(cell, 30),
         start(process, 2, cell),
     ];
-    let lost = [Op::Vanish { cell }, Op::Unclaim { key, instance }];
+    let claim = Op::Claim {
+        key,
+        instance,
+        cell,
+    };
+    let claimed = [running[0], running[1], running[2], at(0, claim)];
+    let unwanted = [
+        running[0],
+        running[1],
+        running[2],
+        running[3],
+        at(0, Op::Undesire { process }),
+    ];
+    let lost = [Op::Vanish { cell }, Op::Suspect { key, instance }];
+    let given_back = [Op::Vanish { cell }, Op::Unclaim { key, instance }];
     let cases = [
         (running.as_slice(), 30, lost.as_slice()),
         (running.as_slice(), 29, &[]),
+        (claimed.as_slice(), 30, given_back.as_slice()),
+        (unwanted.as_slice(), 30, given_back.as_slice()),
+        (unwanted.as_slice(), 29, &[]),
     ];
     each_asks(&rt, rt.alloc(), &cases)
 }
@@ -134,6 +156,7 @@ fn evacuating_rows_stay_until_their_use_is_over(rt: HostRuntime) -> Result<(), F
         moved[4],
         moved[5],
         at(0, Op::Undesire { process }),
+        fresh(process, 0),
     ];
     let dropped = [drop_old(process)];
     let lost = [Op::Vanish { cell: a }, dropped[0]];
@@ -144,6 +167,54 @@ fn evacuating_rows_stay_until_their_use_is_over(rt: HostRuntime) -> Result<(), F
         (moved.as_slice(), 29, &[]),
         (replaced.as_slice(), 29, dropped.as_slice()),
         (forgotten.as_slice(), 29, removed.as_slice()),
+        (&forgotten[..7], 29, &[]),
+    ];
+    each_asks(&rt, rt.alloc(), &cases)
+}
+
+#[test]
+fn suspected_rows_stay_until_their_use_is_over(rt: HostRuntime) -> Result<(), Fail> {
+    let names = read_names()?;
+    let (process, a, b) = (names.web, names.a, names.b);
+    let (key, instance) = (first(process), container(2));
+    let silent = [
+        desire(process, 1),
+        make(process),
+        join(a, 30),
+        join(b, 90),
+        start(process, 2, a),
+        at(30, Op::Suspect { key, instance }),
+        at(30, Op::Vanish { cell: a }),
+    ];
+    let six = [
+        silent[0], silent[1], silent[2], silent[3], silent[4], silent[5],
+    ];
+    let replaced = [
+        six[0],
+        six[1],
+        six[2],
+        six[3],
+        six[4],
+        six[5],
+        start(process, 3, b),
+    ];
+    let forgotten = [
+        six[0],
+        six[1],
+        six[2],
+        six[3],
+        six[4],
+        six[5],
+        at(30, Op::Undesire { process }),
+    ];
+    let anew = [six[0], six[1], six[2], six[3], six[4], six[5], join(a, 90)];
+    let dropped = [Op::DropSuspect { key, instance }];
+    let vanished = [Op::Vanish { cell: a }, dropped[0]];
+    let cases = [
+        (silent.as_slice(), 31, [].as_slice()),
+        (replaced.as_slice(), 31, vanished.as_slice()),
+        (forgotten.as_slice(), 31, vanished.as_slice()),
+        (anew.as_slice(), 31, dropped.as_slice()),
     ];
     each_asks(&rt, rt.alloc(), &cases)
 }

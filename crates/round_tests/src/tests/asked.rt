@@ -63,13 +63,15 @@ fn wanted_instances_are_made_and_placed_in_one_round(rt: HostRuntime) -> Result<
     two_are_claimed(&rt, alloc, names)
 }
 
-// An instance that no cell has room for is removed once it isn't wanted.
+// An instance that no cell has room for is removed once it isn't wanted and its domain is fresh.
 fn unplaced_is_removed(rt: &impl Abort, alloc: Global, names: &Names) -> Result<(), Fail> {
     let story = [
         (0, Client(desire(names.web, 1))),
         (1, Round),
         (2, Client(undesire(names.web))),
+        (2, Client(fresh(names.web))),
     ];
+    round_does(rt, alloc, &story[..3], 3, &[])?;
     round_does(rt, alloc, &story, 3, &[remove(names.web(0), None)])
 }
 
@@ -77,12 +79,16 @@ fn unplaced_is_removed(rt: &impl Abort, alloc: Global, names: &Names) -> Result<
 fn what_is_not_wanted_is_removed(rt: HostRuntime) -> Result<(), Fail> {
     let (alloc, names) = (rt.alloc(), &read_names()?);
     unplaced_is_removed(&rt, alloc, names)?;
-    let undesired = [(2, Client(undesire(names.web)))];
+    let undesired = [
+        (2, Client(undesire(names.web))),
+        (2, Client(fresh(names.web))),
+    ];
     let removed = [remove(names.web(0), Some(container(0, 1)))];
+    round_then_does(&rt, alloc, &claimed(names), &undesired[..1], 3, &[])?;
     round_then_does(&rt, alloc, &claimed(names), &undesired, 3, &removed)
 }
 
-// Once the cell's lease ends, both a row that is CLAIMED and one that is RUNNING.
+// Once the cell's lease ends: a row that is CLAIMED is given back, and one that is RUNNING suspected.
 fn is_lost(rt: &impl Abort, alloc: Global, names: &Names) -> Result<(), Fail> {
     let story = claimed(names);
     let lost = [
@@ -91,11 +97,12 @@ fn is_lost(rt: &impl Abort, alloc: Global, names: &Names) -> Result<(), Fail> {
         place_fail(names.web(0)),
     ];
     first_does(rt, alloc, &story, &[], 600, &lost)?;
-    first_does(rt, alloc, &story, &[(2, Cell(0, UP))], 600, &lost)
+    let suspected = [lost[0], suspect(names.web(0), container(0, 1)), lost[2]];
+    first_does(rt, alloc, &story, &[(2, Cell(0, UP))], 600, &suspected)
 }
 
 #[test]
-fn a_row_whose_cell_is_gone_is_unclaimed(rt: HostRuntime) -> Result<(), Fail> {
+fn a_row_whose_cell_is_gone_is_unclaimed_or_suspected(rt: HostRuntime) -> Result<(), Fail> {
     let (alloc, names) = (rt.alloc(), &read_names()?);
     is_lost(&rt, alloc, names)?;
     let anew = [(2, Cell(0, join(names.z1, 600)))];
@@ -132,7 +139,11 @@ fn a_crashed_row_is_tried_again_when_it_is_due(rt: HostRuntime) -> Result<(), Fa
 
 // An evacuating row that isn't wanted any more.
 fn undesired_is_dropped(rt: &impl Abort, alloc: Global, names: &Names) -> Result<(), Fail> {
-    let undesired = [(4, Client(undesire(names.web)))];
+    let undesired = [
+        (4, Client(undesire(names.web))),
+        (4, Client(fresh(names.web))),
+    ];
+    round_then_does(rt, alloc, &emptied(names), &undesired[..1], 5, &[])?;
     let dropped = [
         remove(names.web(0), None),
         drop_evacuating(names.web(0), container(0, 1)),
@@ -176,7 +187,7 @@ fn an_evacuating_row_is_dropped_once_its_replacement_runs_on_a_cell_that_is_ther
     round_then_does(&rt, alloc, &story, &more, 13, &dropped)?;
     let lost = [
         vanish(names.c2),
-        unclaim(names.web(0), container(7, 1)),
+        suspect(names.web(0), container(7, 1)),
         place_fail(names.web(0)),
     ];
     round_then_does(&rt, alloc, &story, &more, 14, &lost)
@@ -200,4 +211,63 @@ fn cells_come_before_rows_and_rows_before_tasks(rt: HostRuntime) -> Result<(), F
         place_fail(names.web(1)),
     ];
     round_does(&rt, alloc, &story, 600, &lost)
+}
+
+// One instance runs on a cell that falls silent at second 600, and the other cell takes its place.
+fn silent(names: &Names) -> [(u32, Turn); 6] {
+    [
+        (0, Cell(0, join(names.z1, 600))),
+        (0, Client(desire(names.web, 1))),
+        (1, Round),
+        (2, Cell(0, UP)),
+        (599, Cell(1, join(names.z2, 9000))),
+        (600, Round),
+    ]
+}
+
+#[test]
+fn a_suspected_row_is_dropped_once_its_replacement_runs(rt: HostRuntime) -> Result<(), Fail> {
+    let (alloc, names) = (rt.alloc(), &read_names()?);
+    let story = silent(names);
+    let lost = [
+        vanish(names.c1),
+        suspect(names.web(0), container(0, 1)),
+        claim(names.web(0), container(5, 1), names.c2),
+    ];
+    last_does(&rt, alloc, &story, &[], &lost)?;
+    round_does(&rt, alloc, &story, 601, &[])?;
+    let dropped = [drop_suspect(names.web(0), container(0, 1))];
+    round_then_does(&rt, alloc, &story, &[(601, Cell(1, UP))], 602, &dropped)
+}
+
+#[test]
+fn a_suspected_row_that_is_not_wanted_is_dropped(rt: HostRuntime) -> Result<(), Fail> {
+    let (alloc, names) = (rt.alloc(), &read_names()?);
+    let story = silent(names);
+    let undesired = [(601, Client(undesire(names.web)))];
+    let dropped = [drop_suspect(names.web(0), container(0, 1))];
+    round_then_does(&rt, alloc, &story, &undesired, 602, &dropped)
+}
+
+// The cell joins anew while its instance is RUNNING: it is suspected in one round, and dropped in the next.
+#[test]
+fn a_row_of_a_cell_that_joined_anew_is_suspected_for_one_round(
+    rt: HostRuntime,
+) -> Result<(), Fail> {
+    let (alloc, names) = (rt.alloc(), &read_names()?);
+    let story = [
+        (0, Cell(0, join(names.z1, 600))),
+        (0, Client(desire(names.web, 1))),
+        (1, Round),
+        (2, Cell(0, UP)),
+        (3, Cell(0, join(names.z1, 600))),
+        (4, Round),
+    ];
+    let suspected = [
+        suspect(names.web(0), container(0, 1)),
+        claim(names.web(0), container(5, 1), names.c1),
+    ];
+    last_does(&rt, alloc, &story, &[], &suspected)?;
+    let dropped = [drop_suspect(names.web(0), container(0, 1))];
+    round_does(&rt, alloc, &story, 5, &dropped)
 }

@@ -98,6 +98,11 @@ pub fn undesire(process: Name) -> Op {
     Op::Undesire { process }
 }
 
+/// The process's domain, which has its name, is fresh for ever.
+pub fn fresh(domain: Name) -> Op {
+    Op::Fresh { domain, ttl: 0 }
+}
+
 pub fn vanish(cell: Name) -> Op {
     Op::Vanish { cell }
 }
@@ -128,6 +133,14 @@ pub fn claim(key: Key, instance: Instance, cell: Name) -> Op {
 
 pub fn unclaim(key: Key, instance: Instance) -> Op {
     Op::Unclaim { key, instance }
+}
+
+pub fn suspect(key: Key, instance: Instance) -> Op {
+    Op::Suspect { key, instance }
+}
+
+pub fn drop_suspect(key: Key, instance: Instance) -> Op {
+    Op::DropSuspect { key, instance }
 }
 
 pub fn crashed(key: Key, instance: Instance) -> Op {

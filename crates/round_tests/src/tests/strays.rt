@@ -87,6 +87,7 @@ fn a_container_whose_row_was_removed_is_a_stray(rt: HostRuntime) -> Result<(), F
         (0, Client(desire(names.web, 1))),
         (1, Round),
         (2, Client(undesire(names.web))),
+        (2, Client(fresh(names.web))),
         (3, Round),
     ];
     let counts = Counts {
