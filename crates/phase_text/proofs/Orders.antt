@@ -61,5 +61,6 @@ stands_in_order = record {
   actual = λ a b. then_assoc (name_order a.key.process b.key.process) (nat_cmp a.key.index b.key.index) _;
   tasks = λ a b. then_tied (name_order a.name b.name);
   cells = λ a b. then_tied (name_order a.cell b.cell);
+  domains = λ a b. then_tied (name_order a.domain b.domain);
   tables = λ a b h. less_first (spot_of a).table (spot_of b).table _ h;
 }

@@ -34,14 +34,15 @@ joined_parts parts = flat_map (λ part. part) parts
 abbrev pub by_line : List (List Answered) → List Answered
 by_line parts = sorted_by is_earlier_line (joined_parts parts)
 
--- where a row stands: desired rows, actual rows, tasks and cells come in this order
+-- where a row stands: desired rows, actual rows, tasks, cells and domains come in this order
 abbrev pub spot_of : Row → Spot
 spot_of (row.Desired d) = record { table = 0; name = d.process; index = 0; presence = Ordinary }
 spot_of (row.Actual a) = record { table = 1; name = a.key.process; index = a.key.index; presence = a.presence }
 spot_of (row.Task t) = record { table = 2; name = t.name; index = 0; presence = Ordinary }
 spot_of (row.Cell c) = record { table = 3; name = c.cell; index = 0; presence = Ordinary }
+spot_of (row.Domain d) = record { table = 4; name = d.domain; index = 0; presence = Ordinary }
 
--- by table, then by key, and the ORDINARY row of an instance before the EVACUATING one
+-- by table, then by key, and of an instance the ORDINARY row first, then the EVACUATING one, then the SUSPECT one
 abbrev pub event_order : Spot → Spot → Ordering
 event_order =
     then_cmp (on (λ s. s.table) nat_cmp)

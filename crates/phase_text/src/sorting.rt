@@ -54,6 +54,7 @@ fn spot_of(row: &Row) -> Spot
         Row::Actual(actual) => (1, actual.key.process, actual.key.index, actual.presence),
         Row::Task(task) => (2, task.name, 0, ordinary),
         Row::Cell(cell) => (3, cell.cell, 0, ordinary),
+        Row::Domain(domain) => (4, domain.domain, 0, ordinary),
     };
     Spot {
         table,
@@ -63,8 +64,9 @@ fn spot_of(row: &Row) -> Spot
     }
 }
 
-/// The events by table (desired, actual, task, cell), by key, and the ORDINARY row before the
-/// EVACUATING one. Events of one row stay in their order. It takes the time of a sort.
+/// The events by table (desired, actual, task, cell, domain), by key, and of one instance the ORDINARY
+/// row first, then the EVACUATING one, then the SUSPECT one. Events of one row stay in their order. It
+/// takes the time of a sort.
 pub fn events_by_key(alloc: Global, events: &[Event]) -> Result<List<Event>, OutOfMemory>
     ensures { IfOk result (λ list. list ≡ by_key events.now) }
 {

@@ -3,7 +3,7 @@ use Rattle.std.specs.Prelude.{◌≡◌, ℕ, List, ◌++◌, length}
 use Rattle.std.specs.List.{flat_map}
 use Rattle.disk_trait.specs.Past.{Image}
 use Rattle.bbs_model.specs.declared.event.Row.{Row}
-use Rattle.bbs_model.specs.declared.event.Row.TheVariants.{Desired, Actual, Task, Cell}
+use Rattle.bbs_model.specs.declared.event.Row.TheVariants.{Desired, Actual, Task, Cell, Domain}
 use Rattle.bbs_model.specs.declared.rows.Rows.{Rows}
 use Rattle.bbs_board.specs.Opening.{IsBoard}
 use Rattle.bbs_board.specs.declared.kept_in.KeptIn.{KeptIn}
@@ -22,7 +22,8 @@ table_lines as_row rows = flat_map (λ x. record_line (as_row x)) rows
 abbrev pub records_text : Rows → List ℕ
 records_text rows =
     table_lines Desired rows.desired
-    ++ (table_lines Actual rows.actual ++ (table_lines Task rows.tasks ++ table_lines Cell rows.cells))
+    ++ (table_lines Actual rows.actual
+    ++ (table_lines Task rows.tasks ++ (table_lines Cell rows.cells ++ table_lines Domain rows.domains)))
 
 -- the image is opened as a board in this area, of this generation, with so many frames behind its head, and the board
 -- has made so many transitions

@@ -4,7 +4,7 @@ ghost use Rattle.bbs_model.specs.declared.event.Row.{Row as ARow};
 ghost use Rattle.bbs_model.specs.declared.event.Row.TheVariants as row;
 ghost use Rattle.program_tools.specs.Records.{records_text, table_lines};
 
-use bbs_model::{Row, Rows};
+use bbs_model::{DomainRow, Row, Rows};
 use cell_records::CellRow;
 use lrp_records::{Actual, Desired};
 use record_print::row_text;
@@ -52,6 +52,14 @@ impl OfTable for CellRow {
     }
 }
 
+impl OfTable for DomainRow {
+    ghost with_table = { row.Domain };
+
+    fn with_table(self) -> Row {
+        Row::Domain(self)
+    }
+}
+
 /// Adds a line for each row of a table, in their order.
 fn add_table<X: OfTable>(alloc: Global, text: &mut Vec<u8>, rows: &[X]) -> Result<(), AllocError>
     ensures { OnOk result (text.new.items
@@ -64,8 +72,8 @@ fn add_table<X: OfTable>(alloc: Global, text: &mut Vec<u8>, rows: &[X]) -> Resul
     Ok(())
 }
 
-/// A line for each row of a board: the desired processes, the instances, the tasks, the cells, each table
-/// in the order of its keys.
+/// A line for each row of a board: the desired processes, the instances, the tasks, the cells, the
+/// domains, each table in the order of its keys.
 pub fn records_text(alloc: Global, rows: &Rows) -> Result<Vec<u8>, AllocError>
     ensures { IfOk result (λ text. text.items ≡ records_text rows.now) }
 {
@@ -74,5 +82,6 @@ pub fn records_text(alloc: Global, rows: &Rows) -> Result<Vec<u8>, AllocError>
     add_table(alloc, &mut text, rows.actual.items())?;
     add_table(alloc, &mut text, rows.tasks.items())?;
     add_table(alloc, &mut text, rows.cells.items())?;
+    add_table(alloc, &mut text, rows.domains.items())?;
     Ok(text)
 }

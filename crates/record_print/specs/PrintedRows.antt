@@ -1,4 +1,4 @@
--- The rows of the four tables, as they are printed: members in byte order of their names, and null for what isn't there.
+-- The rows of the five tables, as they are printed: members in byte order of their names, and null for what isn't there.
 use Rattle.std.specs.Prelude.{Bool, Option, Some, None, codes}
 use Rattle.serde_json.specs.Data.{Data, boolean, string, object, member, no_members}
 use Rattle.lrp_records.specs.declared.actual.Actual.{Actual}
@@ -9,10 +9,11 @@ use Rattle.task_records.specs.declared.state.TaskState.TheVariants as task
 use Rattle.task_records.specs.declared.task.Task.{Task}
 use Rattle.task_records.specs.States.{task_state_name as task_name_of, runner_of, task_cell_of}
 use Rattle.cell_records.specs.declared.cell_row.CellRow.{CellRow}
+use Rattle.bbs_model.specs.declared.domain_row.DomainRow.{DomainRow}
 use Rattle.bbs_model.specs.declared.event.Row.{Row}
 use Rattle.bbs_model.specs.declared.event.Row.TheVariants as row
 use Rattle.record_print.specs.Words.{presence_word, state_word}
-use Rattle.record_print.specs.Spelled.{whole, optional_name_data, optional_instance_data, optional_truth_data}
+use Rattle.record_print.specs.Spelled.{whole, optional_number_data, optional_name_data, optional_instance_data, optional_truth_data}
 
 -- whether a task failed, once it has its outcome
 abbrev pub failed_of : TaskState → Option Bool
@@ -34,7 +35,7 @@ desired_data d =
     (member (codes "route") (optional_name_data d.route)
     (member (codes "tag") (optional_name_data d.tag) no_members))))))))
 
--- the row of an instance
+-- the row of an instance; its domain isn't printed
 abbrev pub actual_data : Actual → Data
 actual_data a =
     object
@@ -77,9 +78,17 @@ cell_data c =
     (member (codes "until") (whole c.until)
     (member (codes "zone") (string c.zone) no_members)))))))))
 
+-- the row of a domain, whose end is null where it holds for ever
+abbrev pub domain_data : DomainRow → Data
+domain_data d =
+    object
+    (member (codes "domain") (string d.domain)
+    (member (codes "until") (optional_number_data d.until) no_members))
+
 -- a row
 abbrev pub row_data : Row → Data
 row_data (row.Desired d) = desired_data d
 row_data (row.Actual a) = actual_data a
 row_data (row.Task t) = task_data t
 row_data (row.Cell c) = cell_data c
+row_data (row.Domain d) = domain_data d

@@ -24,7 +24,7 @@ abbrev pub job_text : JobName → List ℕ
 job_text (job.Lrp key) = key_text key
 job_text (job.Task name) = name
 
--- what a command names: a process, an instance of one by its key, a task, or a cell
+-- what a command names: a process, an instance of one by its key, a task, a cell, or a domain
 abbrev pub subject_text : Op → List ℕ
 subject_text (op.Desire desired) = desired.process
 subject_text (op.Update process instances route port) = process
@@ -51,6 +51,10 @@ subject_text (op.Join cell zone tag totals ttl) = cell
 subject_text (op.Renew cell epoch ttl) = cell
 subject_text (op.Drain cell epoch) = cell
 subject_text (op.Vanish cell) = cell
+subject_text (op.Fresh domain ttl) = domain
+subject_text (op.Forget domain) = domain
+subject_text (op.Suspect key instance) = key_text key
+subject_text (op.DropSuspect key instance) = key_text key
 
 -- what an actor asked about: what its command names, or the job that its line names, or else itself
 abbrev pub asked_subject : List ℕ → Asked → List ℕ
@@ -61,6 +65,11 @@ asked_subject actor (asked.Word word None) = actor
 -- a whole number
 abbrev pub whole : ℕ → Data
 whole n = number (unsigned n)
+
+-- a whole number, or null
+abbrev pub optional_number_data : Option ℕ → Data
+optional_number_data None = null
+optional_number_data (Some n) = whole n
 
 -- a name, or null
 abbrev pub optional_name_data : Option (List ℕ) → Data

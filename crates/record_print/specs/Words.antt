@@ -3,7 +3,7 @@ use Rattle.std.specs.Prelude.{ℕ, List, [], codes}
 use Rattle.diego_names.specs.declared.state_name.StateName.{StateName}
 use Rattle.diego_names.specs.declared.state_name.StateName.TheVariants.{Unclaimed, Claimed, Running, Crashed, Pending, Completed, Resolving}
 use Rattle.lrp_records.specs.declared.presence.Presence.{Presence}
-use Rattle.lrp_records.specs.declared.presence.Presence.TheVariants.{Ordinary, Evacuating}
+use Rattle.lrp_records.specs.declared.presence.Presence.TheVariants.{Ordinary, Evacuating, Suspect}
 use Rattle.bbs_model.specs.declared.command.Op.{Op}
 use Rattle.bbs_model.specs.declared.command.Op.TheVariants as op
 use Rattle.bbs_model.specs.declared.event.Change.{Change}
@@ -61,6 +61,10 @@ call_word (op.Join cell zone tag totals ttl) = codes "join"
 call_word (op.Renew cell epoch ttl) = codes "renew"
 call_word (op.Drain cell epoch) = codes "drain"
 call_word (op.Vanish cell) = codes "vanish"
+call_word (op.Fresh domain ttl) = codes "fresh"
+call_word (op.Forget domain) = codes "forget"
+call_word (op.Suspect key instance) = codes "suspect"
+call_word (op.DropSuspect key instance) = codes "dropsuspect"
 
 -- the word of what was asked: that of the command, or that of the line where none was made
 abbrev pub asked_word : Asked → List ℕ
@@ -91,11 +95,13 @@ table_word (row.Desired d) = codes "desired"
 table_word (row.Actual a) = codes "actual"
 table_word (row.Task t) = codes "task"
 table_word (row.Cell c) = codes "cell"
+table_word (row.Domain d) = codes "domain"
 
 -- the word of a presence
 abbrev pub presence_word : Presence → List ℕ
 presence_word Ordinary = codes "ordinary"
 presence_word Evacuating = codes "evacuating"
+presence_word Suspect = codes "suspect"
 
 -- the word of a state
 abbrev pub state_word : StateName → List ℕ

@@ -1,7 +1,7 @@
 //! Members of an object, each written behind the one before. What may be absent is null then.
 ghost use Rattle.std.specs.Prelude.{◌∷◌, [], OnOk};
 ghost use Rattle.serde_json.specs.Data.{boolean, null, string};
-ghost use Rattle.record_print.specs.Spelled.{optional_instance_data, optional_name_data, optional_truth_data, whole};
+ghost use Rattle.record_print.specs.Spelled.{optional_instance_data, optional_name_data, optional_number_data, optional_truth_data, whole};
 ghost use Rattle.json.specs.Token.{begin_array, begin_object, end_array, end_object, key as a_key};
 ghost use Rattle.record_print.specs.Writing.{AddsMember, AddsTokens};
 
@@ -69,6 +69,19 @@ fn put_null(line: &mut Writer, key: &str) -> Result<(), AllocError>
 {
     line.key(key)?;
     line.null()
+}
+
+pub fn put_optional_number(
+    line: &mut Writer,
+    key: &str,
+    number: Option<u64>,
+) -> Result<(), AllocError>
+    ensures { OnOk result (AddsMember line.old line.new key.now (optional_number_data number)) }
+{
+    match number {
+        Some(number) => put_number(line, key, number),
+        None => put_null(line, key),
+    }
 }
 
 pub fn put_optional_name(

@@ -1,4 +1,4 @@
-//! The rows of the four tables as objects, with the members that are printed.
+//! The rows of the five tables as objects, with the members that are printed.
 ghost use Rattle.std.specs.Prelude.{codes, OnOk};
 ghost use Rattle.record_print.specs.PrintedRows.{row_data};
 ghost use Rattle.record_print.specs.Writing.{AddsMember, AddsValue};
@@ -6,6 +6,7 @@ ghost use Rattle.record_print.specs.Writing.{AddsMember, AddsValue};
 mod actual;
 mod cell;
 mod desired;
+mod domain;
 mod task;
 
 use crate::member::put_key;
@@ -13,6 +14,7 @@ use actual::put_actual;
 use bbs_model::Row;
 use cell::put_cell;
 use desired::put_desired;
+use domain::put_domain;
 use json::Writer;
 use std::alloc::{AllocError, Global};
 use task::put_task;
@@ -33,5 +35,6 @@ fn put_row_value(line: &mut Writer, alloc: Global, row: &Row) -> Result<(), Allo
         Row::Actual(actual) => put_actual(line, alloc, actual),
         Row::Task(task) => put_task(line, alloc, task),
         Row::Cell(cell) => put_cell(line, cell),
+        Row::Domain(domain) => put_domain(line, domain),
     }
 }

@@ -36,7 +36,7 @@ pub fn job_text(alloc: Global, job: &JobName) -> Result<String, AllocError>
     }
 }
 
-/// What a command names: a process, an instance by its key, as `web/0`, a task, or a cell.
+/// What a command names: a process, an instance by its key, as `web/0`, a task, a cell, or a domain.
 pub fn subject_text(alloc: Global, op: &Op) -> Result<String, AllocError>
     ensures { IfOk result (λ s. string_bytes s ≡ subject_text op.now) }
 {
@@ -52,7 +52,9 @@ pub fn subject_text(alloc: Global, op: &Op) -> Result<String, AllocError>
         | Op::Remove { key, .. }
         | Op::PlaceFail { key }
         | Op::Evacuate { key, .. }
-        | Op::DropEvacuating { key, .. } => key_text(alloc, key),
+        | Op::DropEvacuating { key, .. }
+        | Op::Suspect { key, .. }
+        | Op::DropSuspect { key, .. } => key_text(alloc, key),
         Op::NewTask { name, .. }
         | Op::StartTask { name, .. }
         | Op::CompleteTask { name, .. }
@@ -65,6 +67,7 @@ pub fn subject_text(alloc: Global, op: &Op) -> Result<String, AllocError>
         | Op::Renew { cell, .. }
         | Op::Drain { cell, .. }
         | Op::Vanish { cell } => cell.to_string(alloc),
+        Op::Fresh { domain, .. } | Op::Forget { domain } => domain.to_string(alloc),
     }
 }
 

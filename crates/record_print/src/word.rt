@@ -39,6 +39,10 @@ pub fn call_word(op: &Op) -> &'static str
         Op::Renew { .. } => "renew",
         Op::Drain { .. } => "drain",
         Op::Vanish { .. } => "vanish",
+        Op::Fresh { .. } => "fresh",
+        Op::Forget { .. } => "forget",
+        Op::Suspect { .. } => "suspect",
+        Op::DropSuspect { .. } => "dropsuspect",
     }
 }
 
@@ -104,6 +108,7 @@ pub fn table_word(row: &Row) -> &'static str
         Row::Actual(_) => "actual",
         Row::Task(_) => "task",
         Row::Cell(_) => "cell",
+        Row::Domain(_) => "domain",
     }
 }
 
@@ -113,6 +118,7 @@ pub fn presence_word(presence: Presence) -> &'static str
     match presence {
         Presence::Ordinary => "ordinary",
         Presence::Evacuating => "evacuating",
+        Presence::Suspect => "suspect",
     }
 }
 

@@ -58,6 +58,7 @@ fn unclaimed(index: u32, since: u32) -> Result<Actual, Fail> {
         count: 0,
         since: Moment(since),
         error: false,
+        domain: None,
     })
 }
 

@@ -1,8 +1,10 @@
-//! The order of events: by table, by key, and the ORDINARY row before the EVACUATING one.
+//! The order of events: by table, by key, and of an instance the ORDINARY row first, then the EVACUATING
+//! one, then the SUSPECT one.
 use super::{
-    Case, OK, TOTALS, actual_event, called, desired, instance, line, name, tells, unclaimed, web,
+    Case, OK, TOTALS, actual_event, called, complete, desired, instance, line, name, tells,
+    unclaimed, web,
 };
-use bbs_model::{Change, Event, Op, Row};
+use bbs_model::{Change, DomainRow, Event, Op, Row};
 use cell_records::CellRow;
 use crash_backoff::Moment;
 use lrp_records::{Actual, LrpState, Presence};
@@ -25,15 +27,27 @@ fn cell(text: &str) -> Result<CellRow, Fail> {
     })
 }
 
-fn evacuating(index: u32) -> Result<Actual, Fail> {
+// The row in which an instance is kept aside, with the domain of its process.
+fn aside(presence: Presence, index: u32) -> Result<Actual, Fail> {
     Ok(Actual {
-        presence: Presence::Evacuating,
+        presence,
         state: LrpState::Running {
             instance: instance(0, 1),
             cell: name("c1")?,
         },
+        domain: Some(name("apps")?),
         ..unclaimed(index, 2)?
     })
+}
+
+fn domain(text: &str, until: Option<u64>) -> Result<DomainRow, Fail> {
+    let domain = name(text)?;
+    Ok(DomainRow { domain, until })
+}
+
+const fn domain_event(change: Change, row: DomainRow) -> Event {
+    let row = Row::Domain(row);
+    Event { change, row }
 }
 
 // An evacuation of one instance, and its answers.
@@ -61,7 +75,7 @@ fn an_evacuation_is_told_by_its_calls_and_then_by_its_rows(rt: HostRuntime) -> R
     };
     let events = [
         emptied,
-        actual_event(Change::Created, evacuating(0)?),
+        actual_event(Change::Created, aside(Presence::Evacuating, 0)?),
         actual_event(Change::Changed, unclaimed(0, 3)?),
     ];
     let case = Case {
@@ -82,10 +96,45 @@ fn an_evacuation_is_told_by_its_calls_and_then_by_its_rows(rt: HostRuntime) -> R
     tells(&rt, rt.alloc(), &case, &want)
 }
 
+// An instance whose cell has gone silent, between one domain that is forgotten and one that is fresh for ever.
+fn suspected() -> Result<[Event; 4], Fail> {
+    let left = Actual {
+        domain: Some(name("apps")?),
+        ..unclaimed(0, 9)?
+    };
+    Ok([
+        domain_event(Change::Removed, domain("shop", Some(8))?),
+        actual_event(Change::Created, aside(Presence::Suspect, 0)?),
+        actual_event(Change::Changed, left),
+        domain_event(Change::Created, domain("apps", None)?),
+    ])
+}
+
+#[test]
+fn a_suspicion_is_told_by_its_two_rows(rt: HostRuntime) -> Result<(), Fail> {
+    let events = suspected()?;
+    let case = Case {
+        actors: &[(true, "c1")],
+        lines: &[],
+        round: Some(9),
+        parts: &[&[]],
+        report: Some(complete(1)),
+        events: &events,
+    };
+    let want = [
+        r#"{"asked":2,"complete":true,"foreign":0,"line":9,"lost":0,"op":"round","own":1,"refused":0,"stopped":0,"unplaced":[]}"#,
+        r#"{"event":"changed","row":{"cell":null,"count":0,"error":false,"index":0,"instance":null,"presence":"ordinary","process":"web","since":9,"state":"unclaimed"},"table":"actual"}"#,
+        r#"{"event":"created","row":{"cell":"c1","count":0,"error":false,"index":0,"instance":"0.1","presence":"suspect","process":"web","since":2,"state":"running"},"table":"actual"}"#,
+        r#"{"event":"created","row":{"domain":"apps","until":null},"table":"domain"}"#,
+        r#"{"event":"removed","row":{"domain":"shop","until":8},"table":"domain"}"#,
+    ];
+    tells(&rt, rt.alloc(), &case, &want)
+}
+
 // Events of these rows, in another order.
-fn mixed(alloc: Global, sorted: &[Row; 9]) -> Result<Vec<Event>, Fail> {
+fn mixed(alloc: Global, sorted: &[Row; 12]) -> Result<Vec<Event>, Fail> {
     let mut mixed = Vec::new(alloc);
-    for at in [8, 3, 5, 0, 7, 2, 6, 4, 1] {
+    for at in [11, 3, 8, 5, 0, 10, 7, 4, 2, 6, 9, 1] {
         let change = Change::Changed;
         let row = sorted[at];
         mixed.push(Event { change, row })?;
@@ -123,12 +172,15 @@ fn events_stand_by_table_key_and_presence(rt: HostRuntime) -> Result<(), Fail> {
         Row::Desired(desired("b", 1)?),
         Row::Desired(desired("ba", 1)?),
         Row::Actual(unclaimed(0, 0)?),
-        Row::Actual(evacuating(0)?),
+        Row::Actual(aside(Presence::Evacuating, 0)?),
+        Row::Actual(aside(Presence::Suspect, 0)?),
         Row::Actual(unclaimed(2, 0)?),
         Row::Actual(unclaimed(10, 0)?),
         Row::Task(job),
         Row::Cell(cell("a")?),
         Row::Cell(cell("b")?),
+        Row::Domain(domain("a", Some(600))?),
+        Row::Domain(domain("b", None)?),
     ];
     let mixed = mixed(rt.alloc(), &sorted)?;
     are_sorted_to(&rt, rt.alloc(), &mixed, &sorted)

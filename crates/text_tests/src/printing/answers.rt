@@ -50,6 +50,11 @@ fn complete() -> Result<Asked, Fail> {
     }))
 }
 
+fn forget() -> Result<Asked, Fail> {
+    let domain = name("apps")?;
+    Ok(Asked::Command(Op::Forget { domain }))
+}
+
 fn answer_reads(
     rt: &impl Abort,
     alloc: Global,
@@ -118,6 +123,13 @@ fn a_refused_answer_tells_why(rt: HostRuntime) -> Result<(), Fail> {
             desire()?,
             BoardRefusal::Exists,
             r#"{"actor":"cli","answer":"refused","call":"desire","line":3,"subject":"web","why":"exists"}"#,
+        ),
+        (
+            "cli",
+            5,
+            forget()?,
+            BoardRefusal::LeaseHolds { until: 60 },
+            r#"{"actor":"cli","answer":"refused","call":"forget","line":5,"subject":"apps","why":"lease holds 60"}"#,
         ),
     ] {
         let end = CallEnd::Got(refused(why));

@@ -1,6 +1,6 @@
-//! Events and rows of all four tables.
+//! Events and rows of all five tables.
 use super::{TOTALS, desired, instance, key, name, reads};
-use bbs_model::{Change, Event, Row};
+use bbs_model::{Change, DomainRow, Event, Row};
 use cell_records::CellRow;
 use crash_backoff::Moment;
 use lrp_records::{Actual, Desired, LrpState, Presence};
@@ -69,6 +69,15 @@ fn evacuating() -> Result<Actual, Fail> {
         count: 0,
         since: Moment(2),
         error: false,
+        domain: Some(name("apps")?),
+    })
+}
+
+fn suspect() -> Result<Actual, Fail> {
+    Ok(Actual {
+        presence: Presence::Suspect,
+        count: 1,
+        ..evacuating()?
     })
 }
 
@@ -78,6 +87,7 @@ fn unplaced() -> Result<Actual, Fail> {
         state: LrpState::Unclaimed,
         since: Moment(3),
         error: true,
+        domain: None,
         ..evacuating()?
     })
 }
@@ -95,12 +105,19 @@ fn claimed() -> Result<Actual, Fail> {
 }
 
 #[test]
-fn an_event_of_an_instance_tells_its_container(rt: HostRuntime) -> Result<(), Fail> {
+fn an_event_of_an_instance_tells_its_container_and_not_its_domain(
+    rt: HostRuntime,
+) -> Result<(), Fail> {
     for (change, row, want) in [
         (
             Change::Removed,
             evacuating()?,
             r#"{"event":"removed","row":{"cell":"c1","count":0,"error":false,"index":0,"instance":"0.1","presence":"evacuating","process":"web","since":2,"state":"running"},"table":"actual"}"#,
+        ),
+        (
+            Change::Created,
+            suspect()?,
+            r#"{"event":"created","row":{"cell":"c1","count":1,"error":false,"index":0,"instance":"0.1","presence":"suspect","process":"web","since":2,"state":"running"},"table":"actual"}"#,
         ),
         (
             Change::Changed,
@@ -161,11 +178,55 @@ fn a_task_has_failed_or_not_once_it_has_its_outcome(rt: HostRuntime) -> Result<(
     Ok(())
 }
 
+fn domain(until: Option<u64>) -> Result<Row, Fail> {
+    let domain = name("apps")?;
+    Ok(Row::Domain(DomainRow { domain, until }))
+}
+
+#[test]
+fn an_event_of_a_domain_tells_its_end_if_it_has_one(rt: HostRuntime) -> Result<(), Fail> {
+    let last = 18_446_744_073_709_551_615;
+    for (change, row, want) in [
+        (
+            Change::Created,
+            domain(Some(600))?,
+            r#"{"event":"created","row":{"domain":"apps","until":600},"table":"domain"}"#,
+        ),
+        (
+            Change::Changed,
+            domain(None)?,
+            r#"{"event":"changed","row":{"domain":"apps","until":null},"table":"domain"}"#,
+        ),
+        (
+            Change::Removed,
+            domain(Some(last))?,
+            r#"{"event":"removed","row":{"domain":"apps","until":18446744073709551615},"table":"domain"}"#,
+        ),
+    ] {
+        event_reads(&rt, rt.alloc(), change, row, want)?;
+    }
+    Ok(())
+}
+
+fn row_reads(rt: &impl Abort, alloc: Global, row: &Row, want: &str) -> Result<(), Fail> {
+    let line = row_text(alloc, row)?;
+    reads(rt, line.as_slice(), want);
+    Ok(())
+}
+
 #[test]
 fn a_row_is_told_with_its_table(rt: HostRuntime) -> Result<(), Fail> {
-    let line = row_text(rt.alloc(), &Row::Cell(evacuating_cell()?))?;
-    let want =
-        r#"{"row":{"cell":"c1","containers":10,"disk":4096,"epoch":0,"evacuating":true,"memory":1024,"tag":null,"until":600,"zone":"z1"},"table":"cell"}"#;
-    reads(&rt, line.as_slice(), want);
+    for (row, want) in [
+        (
+            Row::Cell(evacuating_cell()?),
+            r#"{"row":{"cell":"c1","containers":10,"disk":4096,"epoch":0,"evacuating":true,"memory":1024,"tag":null,"until":600,"zone":"z1"},"table":"cell"}"#,
+        ),
+        (
+            domain(None)?,
+            r#"{"row":{"domain":"apps","until":null},"table":"domain"}"#,
+        ),
+    ] {
+        row_reads(&rt, rt.alloc(), &row, want)?;
+    }
     Ok(())
 }

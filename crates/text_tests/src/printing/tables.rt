@@ -63,6 +63,8 @@ fn instances(rt: &impl Abort, alloc: Global) -> Result<(), Fail> {
         (Op::PlaceFail { key }, "placefail"),
         (Op::Evacuate { key, instance }, "evacuate"),
         (Op::DropEvacuating { key, instance }, "dropevacuating"),
+        (Op::Suspect { key, instance }, "suspect"),
+        (Op::DropSuspect { key, instance }, "dropsuspect"),
     ] {
         names(rt, alloc, &op, word, "web/12")?;
     }
@@ -121,6 +123,12 @@ fn cells(rt: &impl Abort, alloc: Global) -> Result<(), Fail> {
         names(rt, alloc, &op, word, "c1")?;
     }
     Ok(())
+}
+
+fn domains(rt: &impl Abort, alloc: Global) -> Result<(), Fail> {
+    let (domain, ttl) = (name("apps")?, 60);
+    names(rt, alloc, &Op::Fresh { domain, ttl }, "fresh", "apps")?;
+    names(rt, alloc, &Op::Forget { domain }, "forget", "apps")
 }
 
 fn is_told(rt: &impl Abort, alloc: Global, why: &BoardRefusal, want: &str) -> Result<(), Fail> {
@@ -227,7 +235,8 @@ fn every_command_is_told_by_its_word_and_what_it_names(rt: HostRuntime) -> Resul
     processes(&rt, rt.alloc())?;
     instances(&rt, rt.alloc())?;
     tasks(&rt, rt.alloc())?;
-    cells(&rt, rt.alloc())
+    cells(&rt, rt.alloc())?;
+    domains(&rt, rt.alloc())
 }
 
 #[test]
