@@ -186,24 +186,24 @@ fn domain(until: Option<u64>) -> Result<Row, Fail> {
 #[test]
 fn an_event_of_a_domain_tells_its_end_if_it_has_one(rt: HostRuntime) -> Result<(), Fail> {
     let last = 18_446_744_073_709_551_615;
-    for (change, until, want) in [
+    for (change, row, want) in [
         (
             Change::Created,
-            Some(600),
+            domain(Some(600))?,
             r#"{"event":"created","row":{"domain":"apps","until":600},"table":"domain"}"#,
         ),
         (
             Change::Changed,
-            None,
+            domain(None)?,
             r#"{"event":"changed","row":{"domain":"apps","until":null},"table":"domain"}"#,
         ),
         (
             Change::Removed,
-            Some(last),
+            domain(Some(last))?,
             r#"{"event":"removed","row":{"domain":"apps","until":18446744073709551615},"table":"domain"}"#,
         ),
     ] {
-        event_reads(&rt, rt.alloc(), change, domain(until)?, want)?;
+        event_reads(&rt, rt.alloc(), change, row, want)?;
     }
     Ok(())
 }
