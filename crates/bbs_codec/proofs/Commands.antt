@@ -43,8 +43,8 @@ pub command_known : (c : Command) → IsReadIn 2 c
 command_known c = (IsOp-each c.op).few
 
 -- a command that is spelled in front is read there
-pub front_again : (version : ℕ) (bytes : List ℕ) (c : Command) → FitsCommand c → IsReadIn version c → TextStandsAt bytes 0 (spelled c)
-    → command_at version bytes ≡ Ok (c, length (spelled c))
+pub front_again : (version : ℕ) (bytes : List ℕ) (c : Command) → FitsCommand c → IsReadIn version c
+    → TextStandsAt bytes 0 (spelled c) → command_at version bytes ≡ Ok (c, length (spelled c))
 unfolding spelled kind_at command_at
 front_again version bytes c fits few stands =
     let kind : ℕ = (said c.op).kind in
@@ -73,7 +73,8 @@ ended_there bytes c at e = by_test (nat_lt at (length bytes)) refl
     by_test false h = refl
 
 -- a command that was spelled is read back in the versions that may have it
-pub command_again : (version : ℕ) (c : Command) → FitsCommand c → IsReadIn version c → reading version (spelled c) ≡ Ok c
+pub command_again : (version : ℕ) (c : Command) → FitsCommand c → IsReadIn version c
+    → reading version (spelled c) ≡ Ok c
 unfolding reading
 command_again version c fits few =
     ap (λ (r : Result (Command × ℕ) CodecFault). r >>= ended (spelled c))
@@ -87,7 +88,8 @@ pub record Fronts (version : ℕ) (bytes : List ℕ) (c : Command) (after : ℕ)
   pub fits : FitsCommand c
   pub few : IsReadIn version c
 
-kind_found : (version : ℕ) (k l : ℕ × ℕ) (b : Bool) → is_kind version k.0 ≡ b → cond b (Ok k) (Err (BadKind 0)) ≡ Ok l → (is_kind version k.0 ≡ true) × (k ≡ l)
+kind_found : (version : ℕ) (k l : ℕ × ℕ) (b : Bool) → is_kind version k.0 ≡ b → cond b (Ok k) (Err (BadKind 0)) ≡ Ok l
+    → (is_kind version k.0 ≡ true) × (k ≡ l)
 kind_found version k l true e h = (e, cc)
 kind_found version k l false e h = absurd cc
 
@@ -98,13 +100,19 @@ record IsFirst (version : ℕ) (bytes : List ℕ) (k : ℕ × ℕ) : Type 0 wher
   known : 1 ≤ k.0
   few : k.0 ≤ most_kind version
 
-kind_spelled : (version : ℕ) (bytes : List ℕ) (k : ℕ × ℕ) → IsBytes bytes → kind_at version bytes ≡ Ok k → IsFirst version bytes k
+kind_spelled : (version : ℕ) (bytes : List ℕ) (k : ℕ × ℕ) → IsBytes bytes → kind_at version bytes ≡ Ok k
+    → IsFirst version bytes k
 unfolding kind_at
 kind_spelled version bytes k ib e =
     let m = bind_ok (as_part (number_at w8 bytes 0)) (behind_kind version) k e in
     let known = kind_found version m.0 k (is_kind version m.0.0) refl m.2 in
     let found = IsField-u8.spelled bytes 0 m.0.0 m.0.1 ib (part_ok (number_at w8 bytes 0) m.0 m.1) in
-    subst (IsFirst version bytes) known.1 (record { stands = found.0; place = found.1; known = from_one m.0.0 known.0; few = at_most m.0.0 known.0 })
+    subst (IsFirst version bytes) known.1 (record {
+      stands = found.0;
+      place = found.1;
+      known = from_one m.0.0 known.0;
+      few = at_most m.0.0 known.0;
+    })
   where
     from_one : (n : ℕ) → is_kind version n ≡ true → 1 ≤ n
     from_one n e = grind (arith, nat_tests, e)
@@ -137,7 +145,8 @@ same_ok : {X : Type 0} (x y : X) → ◌≡◌ {A = Result X CodecFault} (Ok x) 
 same_ok x y e = cc
 
 -- what is read as a command in front is spelled there
-pub front_spelled : (version : ℕ) (bytes : List ℕ) (c : Command) (after : ℕ) → IsBytes bytes → command_at version bytes ≡ Ok (c, after) → Fronts version bytes c after
+pub front_spelled : (version : ℕ) (bytes : List ℕ) (c : Command) (after : ℕ) → IsBytes bytes
+    → command_at version bytes ≡ Ok (c, after) → Fronts version bytes c after
 unfolding command_at
 front_spelled version bytes c after ib e =
     let k = bind_ok (kind_at version bytes) (λ kind. as_part (number_at w32 bytes kind.1) >>= behind_now bytes kind.0) (c, after) e in

@@ -148,7 +148,8 @@ op_spelled n from_one =
     let e : 1 + (n - 1) ≡ n = omega arith in
     subst (λ (m : ℕ). IsKind m (slice_index_or readers (n - 1) (λ _ at. Err (BadField at)))) e (among 1 (n - 1) readers all_kinds)
 
--- an operation is of one of the kinds, is read where it is spelled, and its fields take at least and at most so many bytes
+-- an operation is of one of the kinds and is read where it is spelled, and its fields take at least and at most so
+-- many bytes
 pub record IsOp (op : Op) : Type 0 where
   pub known : 1 ≤ (said op).kind
   pub few : (said op).kind ≤ 29

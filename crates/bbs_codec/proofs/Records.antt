@@ -76,8 +76,8 @@ pub record IsSameWhere {X Y : Type 0} (P : Y → Type 0) (make : X → Y) (parts
   pub parted : (x : X) → parts (make x) ≡ x
   pub within : (x : X) → P (make x)
 
-IsFormat-seen_where : {X Y : Type 0} {P : Y → Type 0} {f : Format X} {make : X → Y} {parts : Y → X} → IsSameWhere P make parts → IsFormat f
-    → IsFormat (seen_where P make parts f)
+IsFormat-seen_where : {X Y : Type 0} {P : Y → Type 0} {f : Format X} {make : X → Y} {parts : Y → X}
+    → IsSameWhere P make parts → IsFormat f → IsFormat (seen_where P make parts f)
 unfolding seen_at
 IsFormat-seen_where {X} {Y} {P} {f} {make} {parts} same is =
     let reads : IsRead (λ y. P y × f.Fits (parts y)) (λ y. f.spelling (parts y)) (seen_at make f.read) = record {
@@ -99,8 +99,8 @@ IsFormat-seen_where {X} {Y} {P} {f} {make} {parts} same is =
       cut = λ bytes at k y fits lt e. ap (λ (r : Result (X × ℕ) FieldFault). r >>= λ x. Ok (make x.0, x.1)) (is.cut bytes at k (parts y) fits.1 lt e);
     }
 
-pub laws-seen_where : {X Y : Type 0} {P : Y → Type 0} {f : Format X} {low high : ℕ} {make : X → Y} {parts : Y → X} → IsSameWhere P make parts
-    → HasLaws f low high → HasLaws (seen_where P make parts f) low high
+pub laws-seen_where : {X Y : Type 0} {P : Y → Type 0} {f : Format X} {low high : ℕ} {make : X → Y} {parts : Y → X}
+    → IsSameWhere P make parts → HasLaws f low high → HasLaws (seen_where P make parts f) low high
 laws-seen_where {f = f} {parts = parts} same laws = record {
   field = IsFormat-seen_where {f = f} same laws.field;
   least = λ y fits. laws.least (parts y) fits.1;
@@ -119,8 +119,10 @@ IsFormat-nothing {X} =
     }
 
 -- the format of each version is one, where both are
-pub IsFormat-in : {X : Type 0} {old latest : Format X} → IsFormat old → IsFormat latest → (version : ℕ) → IsFormat (format_in version old latest)
-IsFormat-in {old = old} {latest} was is version = elim (nat_eq version 1) as (λ b. IsFormat (old_or b old latest)) [ true ↦ was | false ↦ is ]
+pub IsFormat-in : {X : Type 0} {old latest : Format X} → IsFormat old → IsFormat latest → (version : ℕ)
+    → IsFormat (format_in version old latest)
+IsFormat-in {old = old} {latest} was is version =
+    elim (nat_eq version 1) as (λ b. IsFormat (old_or b old latest)) [ true ↦ was | false ↦ is ]
 
 pub laws-both : {X Y : Type 0} {f : Format X} {g : Format Y} {a b c d : ℕ} → HasLaws f a b → HasLaws g c d → HasLaws (both f g) (a + c) (b + d)
 laws-both {X} {Y} {f} {g} first second = record {

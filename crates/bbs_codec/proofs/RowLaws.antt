@@ -23,7 +23,8 @@ presence_found place (suc zero) = IsCase-alone Evacuating refl
 presence_found place (suc (suc zero)) = IsCase-alone Suspect refl
 presence_found place (suc (suc (suc n))) = IsCase-none presence_case (suc (suc (suc n))) place
 
-presence_each : (place : ℕ) (x : Presence) → IsAgain (presence_case x) x (slice_index_or presence_readers (presence_case x).number (none_at place))
+presence_each : (place : ℕ) (x : Presence)
+    → IsAgain (presence_case x) x (slice_index_or presence_readers (presence_case x).number (none_at place))
 presence_each place Ordinary = IsAgain-alone Ordinary (omega arith)
 presence_each place Evacuating = IsAgain-alone Evacuating (omega arith)
 presence_each place Suspect = IsAgain-alone Suspect (omega arith)
@@ -97,12 +98,14 @@ none_told y none = ap (λ (d : Option (List ℕ)). record y { domain = d }) (sym
 laws-old_actual : HasLaws old_actual 17 189
 laws-old_actual =
     laws-seen_where (record { made = none_told; parted = λ x. refl; within = λ x. refl })
-    (laws-three (laws-three laws-key laws-old_presence laws-lrp_state) (laws-both laws-number32 laws-number32) laws-truth)
+    (laws-three (laws-three laws-key laws-old_presence laws-lrp_state) (laws-both laws-number32 laws-number32)
+    laws-truth)
 
 pub laws-actual : HasLaws actual 18 270
 laws-actual =
     laws-seen (record { made = λ y. refl; parted = λ x. refl })
-    (laws-three (laws-three laws-key laws-presence laws-lrp_state) (laws-both laws-number32 laws-number32) (laws-both laws-truth laws-optional_name))
+    (laws-three (laws-three laws-key laws-presence laws-lrp_state) (laws-both laws-number32 laws-number32)
+    (laws-both laws-truth laws-optional_name))
 
 pub IsFormat-actual_in : (version : ℕ) → IsFormat (actual_in version)
 IsFormat-actual_in version = IsFormat-in laws-old_actual.field laws-actual.field version
@@ -122,14 +125,16 @@ end_found place zero = IsCase-alone None refl
 end_found place (suc zero) = IsCase-seen _ laws-number64 (λ p. refl)
 end_found place (suc (suc n)) = IsCase-none end_case (suc (suc n)) place
 
-end_each : (place : ℕ) (x : Option ℕ) → IsAgain (end_case x) x (slice_index_or end_readers (end_case x).number (none_at place))
+end_each : (place : ℕ) (x : Option ℕ)
+    → IsAgain (end_case x) x (slice_index_or end_readers (end_case x).number (none_at place))
 end_each place None = IsAgain-alone None (omega arith)
 end_each place (Some until) = IsAgain-seen _ until laws-number64 (omega arith) (omega arith)
 
 -- an end takes at most nine bytes
 most_end : (x : Option ℕ) → length (optional_end.spelling x) ≤ 9
 most_end None = omega (arith, length-append (field_number w8 0) [], length-field_u8 0)
-most_end (Some until) = omega (arith, length-append (field_number w8 1) (field_number w64 until), length-field_u8 1, length-field_u64 until)
+most_end (Some until) =
+    omega (arith, length-append (field_number w8 1) (field_number w64 until), length-field_u8 1, length-field_u64 until)
 
 laws-optional_end : HasLaws optional_end 1 9
 laws-optional_end =

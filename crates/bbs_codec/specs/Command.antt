@@ -45,7 +45,8 @@ is_kind version kind = nat_le 1 kind && nat_le kind (most_kind version)
 
 -- the kind in front, and the place after it
 unfoldable pub kind_at : ℕ → List ℕ → Result (ℕ × ℕ) CodecFault
-kind_at version bytes = as_part (number_at w8 bytes 0) >>= λ kind. if is_kind version kind.0 then Ok kind else Err (BadKind 0)
+kind_at version bytes =
+    as_part (number_at w8 bytes 0) >>= λ kind. if is_kind version kind.0 then Ok kind else Err (BadKind 0)
 
 -- an operation that was read, as a command of that moment
 abbrev pub dated : Moment → Result (Op × ℕ) FieldFault → Result (Command × ℕ) CodecFault

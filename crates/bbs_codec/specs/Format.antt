@@ -38,7 +38,11 @@ seen make parts f = record { Fits = λ y. f.Fits (parts y); spelling = λ y. f.s
 
 -- the same bytes for those values alone of which they tell all
 abbrev pub seen_where : {X Y : Type 0} → (Y → Type 0) → (X → Y) → (Y → X) → Format X → Format Y
-seen_where P make parts f = record { Fits = λ y. P y × f.Fits (parts y); spelling = λ y. f.spelling (parts y); read = seen_at make f.read }
+seen_where P make parts f = record {
+  Fits = λ y. P y × f.Fits (parts y);
+  spelling = λ y. f.spelling (parts y);
+  read = seen_at make f.read;
+}
 
 -- no value has a spelling
 abbrev pub nothing : {X : Type 0} → Format X

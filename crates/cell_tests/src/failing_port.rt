@@ -7,9 +7,10 @@ ghost use Rattle.bbs_model.specs.Valid.{IsValid};
 ghost use Rattle.cell_tests.specs.Failing.{is_failing, EndsHere};
 
 use bbs_model::{CallFault, Command, Events, Heard, Item, Port, Reply, Rows, Verdict, hear};
+use convergence::work_of;
 use crash_backoff::Moment;
 use diego_names::{List, OutOfMemory};
-use plain_step::{apply, copy_of, decide, work_of};
+use plain_step::{apply, copy_of, decide};
 use std::alloc::Global;
 use std::marker::Model;
 

@@ -1,53 +1,34 @@
 -- What becomes of tasks once those that wait are claimed.
-use Rattle.std.proofs.Common.{◌≡◌, ◌≢◌, ◌⊎◌, ℕ, Bool, true, false, ◌||◌, List, Option, Some, None, IsSome, refl, ap, sym, ◌∙◌, subst, inl, inr, ⊎_elim}
-use Rattle.std.specs.List.{AllZip, Contains}
+use Rattle.std.proofs.Common.{◌≡◌, ◌≢◌, ◌⊎◌, ℕ, true, false, List, Option, Some, None, refl, ap, sym, ◌∙◌, subst, inl, inr, ⊎_elim}
+use Rattle.std.specs.List.{Contains}
 use Rattle.cell_records.specs.declared.answer.Answer.{Answer}
-use Rattle.cell_records.specs.declared.container.Container.{Container}
 use Rattle.cell_records.specs.declared.job_name.JobName.{JobName}
 use Rattle.cell_records.specs.declared.job_name.JobName.TheVariants as job
-use Rattle.container_store.specs.Changes.{is_uncompleted}
 use Rattle.crash_backoff.specs.declared.moment.Moment.{Moment}
-use Rattle.diego_names.proofs.Public.{IsKeyOrder-name_order}
-use Rattle.diego_names.specs.Order.{name_order}
 use Rattle.diego_names.specs.declared.instance.Instance.{Instance}
-use Rattle.diego_names.specs.declared.key.Key.{Key}
-use Rattle.lrp_records.specs.States.{holder_of, is_same_instance}
-use Rattle.lrp_records.specs.declared.actual.Actual.{Actual}
-use Rattle.lrp_records.specs.declared.presence.Presence.{Presence}
-use Rattle.lrp_records.specs.declared.presence.Presence.TheVariants.{Ordinary, Evacuating}
-use Rattle.lrp_records.specs.declared.state.LrpState.{LrpState}
-use Rattle.lrp_records.specs.declared.state.LrpState.TheVariants as lrp
-use Rattle.row_tables.proofs.Public.{find_row-Contains, key-find_row}
+use Rattle.lrp_records.specs.States.{is_same_instance}
 use Rattle.task_records.specs.declared.state.TaskState.{TaskState}
 use Rattle.task_records.specs.declared.state.TaskState.TheVariants as task
 use Rattle.task_records.specs.declared.task.Task.{Task}
 use Rattle.bbs_model.specs.Runs.{state_after, state_after_all}
 use Rattle.bbs_model.specs.Step.{verdict_of}
-use Rattle.bbs_model.specs.Tables.{task_name_of, find_actual, find_task}
-use Rattle.bbs_model.specs.Valid.{IsValid}
+use Rattle.bbs_model.specs.Tables.{find_task}
 use Rattle.task_records.specs.States.{runner_of}
-use Rattle.bbs_model.specs.Work.{at, is_there, wants, may_go, is_due, is_running, runs}
+use Rattle.bbs_model.specs.Work.{at, is_there}
 use Rattle.bbs_model.specs.declared.command.Command.{Command}
-use Rattle.bbs_model.specs.declared.command.Op.{Op}
 use Rattle.bbs_model.specs.declared.command.Op.TheVariants as op
 use Rattle.bbs_model.specs.declared.rows.Rows.{Rows}
-use Rattle.convergence.specs.Containers.{is_answer_of, answer_from, is_container_of, row_names, task_names, is_holder, is_named_for, is_named}
-use Rattle.convergence.specs.Subjects.{Subject, OfPlace, OfTask, subject_of, subject_in, ordinary_of}
-use Rattle.convergence.proofs.Public.{find-passes, find-some, same_cell}
-use Rattle.converge_laws.specs.Accepted.{IsAccepted, AreAccepted, IsOfRound, AreApart}
-use Rattle.converge_laws.specs.Converged.{is_held, IsStateHeld, HasItsPlace, HasItsContainer, IsUnwantedKept, IsInstanceSettled, IsKeptAside, IsSuspected, IsTaskSettled, IsConverged}
-use Rattle.converge_laws.specs.Laws.{AreOfRound, KeepsGround}
-use Rattle.converge_laws.specs.Stages.{IsSameCell, IsClaimOf, IsClaimed, IsWith, AreWith, MayBePlaced, IsPlaceable, MayTaskBePlaced, IsTaskPlaceable, IsCleared, PlacesAll}
-use Rattle.converge_laws.proofs.Frames.{stays-ordinary, stays-evacuating, stays-task}
-use Rattle.converge_laws.proofs.Held.{it_is, held-from, held-in, held-ground, row-key}
-use Rattle.converge_laws.proofs.Lists.{zip_back, zip_find}
-use Rattle.converge_laws.proofs.MoveEnds.{IsNowClaimed, claimed}
-use Rattle.converge_laws.proofs.Moves.{left_by, after-claim}
-use Rattle.converge_laws.proofs.Naming.{or_left, or_right, instance_itself, same_instance, looked_for, looks_like}
-use Rattle.converge_laws.proofs.Runs.{about_some, run-other, run-took, run-ground, run-valid}
-use Rattle.converge_laws.proofs.StopStage.{alike}
-use Rattle.converge_laws.proofs.TaskMoves.{IsNowRunning, task_left_by, after-start, started}
-use Rattle.converge_laws.proofs.Claims.{subject_for, claim-about, same_job_as, same_task_as, not_aside, IsClaiming, of_round, ground, there-before, runs-there, held-any, held-more, held-new, claim-is}
+use Rattle.convergence.specs.Containers.{task_names, is_holder}
+use Rattle.convergence.specs.Subjects.{OfTask, subject_of, subject_in}
+use Rattle.converge_laws.specs.Accepted.{IsAccepted}
+use Rattle.converge_laws.specs.Converged.{IsTaskSettled}
+use Rattle.converge_laws.specs.Stages.{IsClaimOf, MayTaskBePlaced, IsTaskPlaceable}
+use Rattle.converge_laws.proofs.Frames.{stays-task}
+use Rattle.converge_laws.proofs.Held.{held-ground}
+use Rattle.converge_laws.proofs.Naming.{instance_itself}
+use Rattle.converge_laws.proofs.Runs.{about_some, run-other, run-took}
+use Rattle.converge_laws.proofs.TaskMoves.{IsNowRunning, after-start, started}
+use Rattle.converge_laws.proofs.Claims.{subject_for, claim-about, same_task_as, IsClaiming, of_round, ground, held-more, held-new, claim-is}
 
 module _ (rows : Rows) (before after : List Answer) (now : Moment) (cs : List Command) (g : IsClaiming rows before after now cs) where
   abbrev new : Rows

@@ -20,7 +20,7 @@ use Rattle.bbs_model.specs.Limits.{most_transitions}
 use Rattle.bbs_model.specs.Lrps.{is_wanted}
 use Rattle.bbs_model.specs.Runs.{state_after, if_legal}
 use Rattle.bbs_model.specs.Step.{judged, verdict_of, changed_by, attempt_of, rows_after}
-use Rattle.bbs_model.specs.Tables.{cell_name_of, domain_name_of, find_actual, find_cell, find_desired, find_domain, find_task}
+use Rattle.bbs_model.specs.Tables.{cell_name_of, domain_name_of, find_actual, find_cell, find_domain, find_task}
 use Rattle.bbs_model.specs.Work.{is_there, wants, fresh_in}
 use Rattle.bbs_model.specs.declared.attempt.Attempt.{Attempt}
 use Rattle.bbs_model.specs.declared.attempt.Attempt.TheVariants.{Refuse, Keep, Change}
@@ -33,7 +33,7 @@ use Rattle.bbs_model.specs.declared.rows.Rows.{Rows}
 use Rattle.bbs_model.specs.declared.verdict.BoardRefusal.TheVariants.{BoardFull, LeaseHolds}
 use Rattle.bbs_model.specs.declared.verdict.Verdict.{Verdict}
 use Rattle.bbs_model.specs.declared.verdict.Verdict.TheVariants.{Ok, Same, Refused}
-use Rattle.convergence.specs.Subjects.{Subject, OfCell, OfDomain, OfPlace, OfTask, subject_of, subject_in, ordinary_of}
+use Rattle.convergence.specs.Subjects.{OfCell, OfDomain, OfPlace, OfTask, subject_of, subject_in, ordinary_of}
 use Rattle.event_laws.specs.Frame.{own_process, own_cell, KeepsOthers}
 use Rattle.event_laws.proofs.Public.{keeps_others}
 use Rattle.converge_laws.specs.Accepted.{IsAccepted, IsOfRound}

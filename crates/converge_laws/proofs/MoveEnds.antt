@@ -1,52 +1,25 @@
 -- What the end of an accepted move is, by the move.
-use Rattle.std.proofs.Common.{◌≡◌, ◌⊎◌, ℕ, ◌+◌, ◌*◌, ◌^◌, ◌-◌, ◌<◌, Bool, true, false, cond, List, Option, Some, None, nat_le, refl, ap, sym, subst, ◌∙◌, inl, inr, arith}
+use Rattle.std.proofs.Common.{◌≡◌, ◌⊎◌, ℕ, ◌+◌, ◌*◌, ◌^◌, ◌-◌, ◌<◌, Bool, true, false, cond, List, Option, Some, None, nat_le, refl, ap, ◌∙◌, inl, inr, arith}
 use Rattle.std.proofs.lemmas.Bool.Decides.{nat_tests}
 use Rattle.std.proofs.lemmas.Nat.{pow_pos}
 use Rattle.std.specs.Option.{option_map_or}
-use Rattle.cell_records.specs.declared.cell_row.CellRow.{CellRow}
 use Rattle.crash_backoff.specs.Backoff.{due_from, end_of, wait_of, count_after}
 use Rattle.crash_backoff.specs.declared.delay.Wait.{Wait}
 use Rattle.crash_backoff.specs.declared.delay.Wait.TheVariants.{Now, After, Never}
 use Rattle.crash_backoff.specs.declared.moment.Moment.{Moment}
-use Rattle.diego_names.proofs.Public.{IsKeyOrder-name_order}
-use Rattle.diego_names.specs.Order.{name_order}
 use Rattle.diego_names.specs.declared.instance.Instance.{Instance}
-use Rattle.diego_names.specs.declared.key.Key.{Key}
-use Rattle.lrp_records.proofs.Public.{KeepsPlace-lrp_move, IsKeyOrder-place_order}
-use Rattle.lrp_records.specs.Laws.{KeepsPlace}
 use Rattle.lrp_records.specs.Moves.{lrp_move, from_state}
-use Rattle.lrp_records.specs.Place.{place_of, place_order}
 use Rattle.lrp_records.specs.States.{holder_of, is_same_instance}
 use Rattle.lrp_records.specs.Steps.{restarted_from, state_after_crash, crashed, turned, wrong_state, if_own}
 use Rattle.lrp_records.specs.declared.actual.Actual.{Actual}
-use Rattle.lrp_records.specs.declared.lrp_move.LrpMove.{LrpMove}
 use Rattle.lrp_records.specs.declared.lrp_move.LrpMove.TheVariants as lrp
 use Rattle.lrp_records.specs.declared.move_end.MoveEnd.{MoveEnd}
 use Rattle.lrp_records.specs.declared.move_end.MoveEnd.TheVariants as end
-use Rattle.lrp_records.specs.declared.presence.Presence.TheVariants.{Ordinary, Evacuating}
 use Rattle.lrp_records.specs.declared.refusal.LrpRefusal.{LrpRefusal}
 use Rattle.lrp_records.specs.declared.refusal.LrpRefusal.TheVariants as why
 use Rattle.lrp_records.specs.declared.state.LrpState.{LrpState}
 use Rattle.lrp_records.specs.declared.state.LrpState.TheVariants as state
-use Rattle.row_tables.specs.Table.{find_row, put_row, without_row}
-use Rattle.row_tables.proofs.Public.{key-find_row, find_row-put_row_same, find_row-without_row_same}
-use Rattle.bbs_model.specs.Attempts.{if_known, if_joined, unless_refused, put, drop_row}
-use Rattle.bbs_model.specs.Found.{found_by}
-use Rattle.bbs_model.specs.Lrps.{moved_to, make_refusals, new_row, is_running_as, stays_because}
-use Rattle.bbs_model.specs.Runs.{state_after}
-use Rattle.bbs_model.specs.Step.{attempt_of, changed_by, verdict_of}
-use Rattle.bbs_model.specs.Tables.{find_actual, find_cell, find_task}
 use Rattle.bbs_model.specs.Work.{at, is_due}
-use Rattle.bbs_model.specs.declared.attempt.Attempt.{Attempt}
-use Rattle.bbs_model.specs.declared.attempt.Attempt.TheVariants.{Refuse, Keep, Change}
-use Rattle.bbs_model.specs.declared.command.Command.{Command}
-use Rattle.bbs_model.specs.declared.command.Op.TheVariants as op
-use Rattle.bbs_model.specs.declared.event.Row.TheVariants as row
-use Rattle.bbs_model.specs.declared.rows.Rows.{Rows}
-use Rattle.bbs_model.specs.declared.verdict.BoardRefusal.{BoardRefusal}
-use Rattle.bbs_laws.proofs.Public.{by_passing, by_knowing, by_joining, by_test}
-use Rattle.converge_laws.specs.Accepted.{IsAccepted}
-use Rattle.converge_laws.proofs.Frames.{IsTried, tried, state_is}
 use Rattle.converge_laws.proofs.Moves.{left_by, IsTaken}
 
 -- the row is there, and UNCLAIMED

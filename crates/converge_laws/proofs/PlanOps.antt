@@ -1,7 +1,7 @@
 -- What rows that rest are told by the answers, and what is asked of them then.
-use Rattle.std.proofs.Common.{◌≡◌, ◌≢◌, ◌⊎◌, ℕ, Bool, true, false, cond, not, ◌||◌, List, Option, Some, None, refl, ap, sym, subst, ◌∙◌, inl, inr, ⊎_elim}
+use Rattle.std.proofs.Common.{◌≡◌, ◌⊎◌, ℕ, Bool, true, false, cond, List, Option, Some, None, refl, ap, sym, subst, ◌∙◌, inl, inr, ⊎_elim}
 use Rattle.std.specs.List.{Contains}
-use Rattle.std.specs.Option.{option_and_then, option_map, option_map_or}
+use Rattle.std.specs.Option.{option_and_then, option_map}
 use Rattle.cell_records.specs.declared.answer.Answer.{Answer}
 use Rattle.cell_records.specs.declared.container.Container.{Container}
 use Rattle.cell_records.specs.declared.container_state.ContainerState.{ContainerState}
@@ -10,50 +10,38 @@ use Rattle.cell_records.specs.declared.job_name.JobName.{JobName}
 use Rattle.cell_records.specs.declared.job_name.JobName.TheVariants as job
 use Rattle.container_store.specs.Changes.{is_uncompleted}
 use Rattle.crash_backoff.specs.declared.moment.Moment.{Moment}
-use Rattle.diego_names.proofs.Public.{IsKeyOrder-name_order}
-use Rattle.diego_names.specs.Order.{name_order}
 use Rattle.diego_names.specs.declared.instance.Instance.{Instance}
 use Rattle.diego_names.specs.declared.key.Key.{Key}
-use Rattle.lrp_records.proofs.Public.{IsKeyOrder-place_order}
-use Rattle.lrp_records.specs.Place.{place_of, place_order}
-use Rattle.lrp_records.specs.States.{holder_of}
+use Rattle.lrp_records.specs.Place.{place_of}
 use Rattle.lrp_records.specs.declared.actual.Actual.{Actual}
 use Rattle.lrp_records.specs.declared.presence.Presence.{Presence}
 use Rattle.lrp_records.specs.declared.presence.Presence.TheVariants.{Ordinary, Evacuating, Suspect}
-use Rattle.lrp_records.specs.declared.state.LrpState.{LrpState}
 use Rattle.lrp_records.specs.declared.state.LrpState.TheVariants as lrp
-use Rattle.row_tables.proofs.Public.{key-find_row}
-use Rattle.task_records.specs.declared.state.TaskState.{TaskState}
-use Rattle.task_records.specs.declared.state.TaskState.TheVariants as task
 use Rattle.task_records.specs.declared.task.Task.{Task}
-use Rattle.bbs_model.specs.Runs.{state_after, state_after_all}
-use Rattle.bbs_model.specs.Step.{verdict_of}
-use Rattle.bbs_model.specs.Tables.{task_name_of, find_actual, find_task}
-use Rattle.bbs_model.specs.Valid.{IsValid, IsActualRow, IsRunning, SuitsPresence}
+use Rattle.bbs_model.specs.Tables.{find_actual, find_task}
+use Rattle.bbs_model.specs.Valid.{IsValid}
 use Rattle.bbs_model.specs.Work as told
 use Rattle.bbs_model.specs.Work.{is_running, runs}
 use Rattle.bbs_model.specs.declared.command.Command.{Command}
 use Rattle.bbs_model.specs.declared.command.Op.{Op}
 use Rattle.bbs_model.specs.declared.command.Op.TheVariants as op
 use Rattle.bbs_model.specs.declared.rows.Rows.{Rows}
-use Rattle.convergence.specs.Containers.{Site, site_of, task_site_of, answer_from, container_in}
+use Rattle.convergence.specs.Containers.{Site, site_of, task_site_of, container_in}
 use Rattle.convergence.specs.Plans as planned
 use Rattle.convergence.specs.PlanLaws.{plan_on}
-use Rattle.convergence.specs.Subjects.{Subject, OfCell, OfDomain, OfPlace, OfTask, OfProcess, subject_of, subject_in, work_on, ordinary_of}
-use Rattle.convergence.proofs.Public.{about_is, about_plan, plan_rises, plan_is_by_subject}
-use Rattle.converge_laws.specs.Accepted.{IsAccepted, AreAccepted, IsOfRound, AreApart}
-use Rattle.converge_laws.specs.Converged.{is_held, HasItsContainer, IsUnwantedKept, IsStateHeld, IsKeptAside}
-use Rattle.converge_laws.specs.Laws.{AreOfRound, KeepsGround}
-use Rattle.converge_laws.specs.Stages.{IsWorked, HaveAnswered, MayBePlaced, IsPlaceable, MayTaskBePlaced, IsTaskPlaceable, IsPlanned}
-use Rattle.converge_laws.proofs.Frames.{IsNoSuspicion, stays-ordinary, stays-evacuating, stays-task}
-use Rattle.converge_laws.proofs.Held.{found-there, held-from, held-ground, find_row-each}
+use Rattle.convergence.specs.Subjects.{Subject, OfCell, OfDomain, OfPlace, OfTask, OfProcess, subject_in}
+use Rattle.convergence.proofs.Public.{plan_rises, plan_is_by_subject}
+use Rattle.converge_laws.specs.Accepted.{IsOfRound, AreApart}
+use Rattle.converge_laws.specs.Converged.{is_held}
+use Rattle.converge_laws.specs.Laws.{AreOfRound}
+use Rattle.converge_laws.specs.Stages.{HaveAnswered, MayBePlaced, IsPlaceable}
+use Rattle.converge_laws.proofs.Frames.{IsNoSuspicion}
+use Rattle.converge_laws.proofs.Held.{found-there, held-from}
 use Rattle.converge_laws.proofs.Kept.{placeable-as}
-use Rattle.converge_laws.proofs.MoveEnds.{IsUnclaimed, IsToWait, unclaimed, has-crashed}
-use Rattle.converge_laws.proofs.Moves.{after-unclaim, after-crash, after-drop}
+use Rattle.converge_laws.proofs.MoveEnds.{IsUnclaimed, IsToWait}
 use Rattle.converge_laws.proofs.Rests.{MayStand}
-use Rattle.converge_laws.proofs.Runs.{alone_unsuspected, apart_from_rising, run-other, run-took, run-ground}
-use Rattle.converge_laws.proofs.TaskMoves.{HasEnded, after-complete, has-completed}
-use Rattle.converge_laws.proofs.WorkOps.{IfAsked, asked_either, asked-then, cancel-ends}
+use Rattle.converge_laws.proofs.Runs.{alone_unsuspected, apart_from_rising}
+use Rattle.converge_laws.proofs.WorkOps.{IfAsked, asked_either, asked-then}
 
 -- it is of a round, and suspects nothing
 abbrev pub IsOfPlan : Op → Type 0

@@ -1,14 +1,9 @@
 -- A plan that is accepted leaves the containers of all rows held but those of SUSPECT ones.
-use Rattle.std.proofs.Common.{◌≡◌, ◌≢◌, ◌⊎◌, ℕ, Bool, true, false, cond, not, ◌||◌, List, Option, Some, None, refl, ap, sym, subst, ◌∙◌, inl, inr, ⊎_elim}
+use Rattle.std.proofs.Common.{◌≡◌, ◌≢◌, ◌⊎◌, ℕ, Bool, true, false, not, List, Option, Some, None, refl, ap, sym, subst, ◌∙◌, inl, inr, ⊎_elim}
 use Rattle.std.specs.List.{Contains}
-use Rattle.std.specs.Option.{option_and_then, option_map, option_map_or}
+use Rattle.std.specs.Option.{option_and_then, option_map_or}
 use Rattle.cell_records.specs.declared.answer.Answer.{Answer}
-use Rattle.cell_records.specs.declared.container.Container.{Container}
-use Rattle.cell_records.specs.declared.container_state.ContainerState.{ContainerState}
-use Rattle.cell_records.specs.declared.container_state.ContainerState.TheVariants.{Reserved, Running, Completed}
-use Rattle.cell_records.specs.declared.job_name.JobName.{JobName}
 use Rattle.cell_records.specs.declared.job_name.JobName.TheVariants as job
-use Rattle.container_store.specs.Changes.{is_uncompleted}
 use Rattle.crash_backoff.specs.declared.moment.Moment.{Moment}
 use Rattle.diego_names.proofs.Public.{IsKeyOrder-name_order}
 use Rattle.diego_names.specs.Order.{name_order}
@@ -16,7 +11,6 @@ use Rattle.diego_names.specs.declared.instance.Instance.{Instance}
 use Rattle.diego_names.specs.declared.key.Key.{Key}
 use Rattle.lrp_records.proofs.Public.{IsKeyOrder-place_order}
 use Rattle.lrp_records.specs.Place.{place_of, place_order}
-use Rattle.lrp_records.specs.States.{holder_of}
 use Rattle.lrp_records.specs.declared.actual.Actual.{Actual}
 use Rattle.lrp_records.specs.declared.lrp_move.LrpMove.{LrpMove}
 use Rattle.lrp_records.specs.declared.lrp_move.LrpMove.TheVariants as move
@@ -32,32 +26,32 @@ use Rattle.bbs_model.specs.Found.{suspect_in}
 use Rattle.bbs_model.specs.Runs.{state_after, state_after_all}
 use Rattle.bbs_model.specs.Step.{verdict_of}
 use Rattle.bbs_model.specs.Tables.{task_name_of, find_actual, find_task}
-use Rattle.bbs_model.specs.Valid.{IsValid, IsActualRow, IsRunning, SuitsPresence}
+use Rattle.bbs_model.specs.Valid.{IsValid, SuitsPresence}
 use Rattle.bbs_model.specs.Work as told
 use Rattle.bbs_model.specs.Work.{is_running, runs}
 use Rattle.bbs_model.specs.declared.command.Command.{Command}
 use Rattle.bbs_model.specs.declared.command.Op.{Op}
 use Rattle.bbs_model.specs.declared.command.Op.TheVariants as op
 use Rattle.bbs_model.specs.declared.rows.Rows.{Rows}
-use Rattle.convergence.specs.Containers.{Site, site_of, task_site_of, answer_from, container_in}
+use Rattle.convergence.specs.Containers.{Site, site_of, task_site_of}
 use Rattle.convergence.specs.Plans as planned
 use Rattle.convergence.specs.PlanLaws.{plan_on}
-use Rattle.convergence.specs.Subjects.{Subject, OfCell, OfPlace, OfTask, OfProcess, subject_of, subject_in, work_on, ordinary_of}
-use Rattle.convergence.proofs.Public.{about_is, about_plan, plan_rises, plan_is_by_subject}
+use Rattle.convergence.specs.Subjects.{Subject, OfPlace, OfTask, subject_of, subject_in, ordinary_of}
+use Rattle.convergence.proofs.Public.{about_is, about_plan, plan_is_by_subject}
 use Rattle.converge_laws.specs.Accepted.{IsAccepted, AreAccepted, IsOfRound}
 use Rattle.converge_laws.specs.Converged.{is_held, HasItsContainer, IsUnwantedKept, IsStateHeld, IsKeptAside, IsSuspected}
 use Rattle.converge_laws.specs.Laws.{AreOfRound, KeepsGround}
 use Rattle.converge_laws.specs.Stages.{IsWorked, HaveAnswered, MayBePlaced, IsPlaceable, MayTaskBePlaced, IsTaskPlaceable, IsPlanned}
 use Rattle.converge_laws.proofs.Frames.{suspect-own, stays-ordinary, stays-evacuating, stays-suspect, stays-task}
 use Rattle.converge_laws.proofs.Kept.{suspected-any, unwanted-ground, reason-ground, placeable-as}
-use Rattle.converge_laws.proofs.Held.{found-there, held-from, held-ground, find_row-each}
+use Rattle.converge_laws.proofs.Held.{held-ground}
 use Rattle.converge_laws.proofs.MoveEnds.{IsUnclaimed, IsToWait, unclaimed, has-crashed}
-use Rattle.converge_laws.proofs.Moves.{IsMoved, left_by, domain-left, after-unclaim, after-crash, after-drop}
-use Rattle.converge_laws.proofs.Rests.{MayStand, may_stand, StandsIn, WaitsIfCrashed, IsAtRest, not_false, all_false, rests-row, rests-none, idle-row, running-holder, suits-presence, unspent-row}
-use Rattle.converge_laws.proofs.Runs.{apart_from_rising, run-other, run-took, run-ground}
+use Rattle.converge_laws.proofs.Moves.{IsMoved, domain-left, after-unclaim, after-crash, after-drop}
+use Rattle.converge_laws.proofs.Rests.{MayStand, may_stand, StandsIn, WaitsIfCrashed, not_false, all_false, rests-row, rests-none, idle-row, running-holder, suits-presence, unspent-row}
+use Rattle.converge_laws.proofs.Runs.{run-other, run-took, run-ground}
 use Rattle.converge_laws.proofs.TaskMoves.{HasEnded, after-complete, has-completed}
-use Rattle.converge_laws.proofs.WorkOps.{IfAsked, asked_either, asked-then, same_some, cancel-ends}
-use Rattle.converge_laws.proofs.PlanOps.{plan_of_round, plan-unsuspected, plan-apart, Tells, ordinary-tells, evacuating-tells, TellsTask, task-tells, IsDone, done-unclaimed, done-waits}
+use Rattle.converge_laws.proofs.WorkOps.{same_some, cancel-ends}
+use Rattle.converge_laws.proofs.PlanOps.{plan_of_round, plan-unsuspected, plan-apart, ordinary-tells, evacuating-tells, task-tells, IsDone, done-unclaimed, done-waits}
 
 module _ (rows : Rows) (got stores : List Answer) (now : Moment) (valid : IsValid rows) (worked : IsWorked rows now) (heard : HaveAnswered rows got stores now)
     (taken : AreAccepted rows (planned.plan_of_answers rows got now)) where

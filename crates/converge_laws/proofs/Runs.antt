@@ -1,5 +1,5 @@
 -- Commands one after another: what each of a list with unlike subjects does to its own row.
-use Rattle.std.proofs.Common.{◌≡◌, ◌≢◌, ℕ, zero, suc, ◌<◌, true, false, Bool, List, [], ◌∷◌, Some, refl, sym, ap, ◌∙◌, ⊎_elim, ◌⊎◌, inl, inr, subst, arith}
+use Rattle.std.proofs.Common.{◌≡◌, ◌≢◌, zero, suc, true, false, Bool, List, [], ◌∷◌, Some, refl, sym, ap, ◌∙◌, ⊎_elim, ◌⊎◌, inl, inr, subst, arith}
 use Rattle.std.specs.List.{Contains}
 use Rattle.std.specs.Ordering.{eq_by_cmp}
 use Rattle.std.specs.Cmp.{tied_itself}
@@ -14,14 +14,13 @@ use Rattle.bbs_model.specs.Found.{suspect_in}
 use Rattle.bbs_model.specs.Runs.{if_legal, state_after, state_after_all}
 use Rattle.bbs_model.specs.Step.{rows_after, verdict_of}
 use Rattle.bbs_model.specs.Valid.{IsValid}
-use Rattle.bbs_model.specs.Work.{is_there, wants}
 use Rattle.bbs_model.specs.declared.command.Command.{Command}
 use Rattle.bbs_model.specs.declared.rows.Rows.{Rows}
 use Rattle.bbs_model.specs.declared.verdict.Verdict.{Verdict}
 use Rattle.bbs_model.specs.declared.verdict.Verdict.TheVariants.{Ok, Same, Refused}
 use Rattle.convergence.specs.Subjects.{Subject, OfPlace, subject_order, subject_in, RiseBySubject}
 use Rattle.convergence.proofs.Public.{IsKeyOrder-subject_order}
-use Rattle.converge_laws.specs.Accepted.{IsAccepted, AreAccepted, IsOfRound, IsApart, AreApart}
+use Rattle.converge_laws.specs.Accepted.{IsAccepted, AreAccepted, IsOfRound, AreApart}
 use Rattle.converge_laws.specs.Laws.{AreOfRound, KeepsGround}
 use Rattle.converge_laws.proofs.Frames.{IsNoSuspicion, suspect-own, stays-there, stays-wanted, stays-fresh}
 

@@ -1,7 +1,7 @@
 -- Once all strays are stopped none is left, and no row lost its container.
-use Rattle.std.proofs.Common.{◌≡◌, ◌⊎◌, inl, inr, ⊎_elim, ℕ, Bool, true, false, ◌&&◌, ◌||◌, ◌==◌, not, filter, List, Option, Some, None, nat_eq, refl, ap, sym, ◌∙◌, subst}
+use Rattle.std.proofs.Common.{◌≡◌, inl, inr, ⊎_elim, ℕ, Bool, true, false, ◌&&◌, ◌||◌, ◌==◌, not, filter, List, Option, Some, None, nat_eq, refl, ap, sym, ◌∙◌, subst}
 use Rattle.std.specs.Cmp.Lexicographic.{pointwise}
-use Rattle.std.specs.List.{AllZip, Contains, flat_map}
+use Rattle.std.specs.List.{Contains, flat_map}
 use Rattle.std.specs.Option.{unwrap_or}
 use Rattle.std.specs.Ordering.{nat_cmp}
 use Rattle.cell_records.specs.declared.answer.Answer.{Answer}
@@ -26,7 +26,7 @@ use Rattle.row_tables.specs.Table.{IsRising}
 use Rattle.task_records.specs.States.{runner_of}
 use Rattle.bbs_model.specs.Work.{is_there, wants}
 use Rattle.bbs_model.specs.declared.rows.Rows.{Rows}
-use Rattle.convergence.specs.Containers.{is_answer_of, answer_from, is_container_of, container_in, is_named_for, is_named}
+use Rattle.convergence.specs.Containers.{is_answer_of, is_container_of, is_named_for, is_named}
 use Rattle.convergence.specs.Strays.{is_stray, strays_in, stray_order, strays}
 use Rattle.convergence.proofs.Public.{find-passes, find-some, Contains-table, Contains-from_table, IsKeyOrder-stray_order, same_cell}
 use Rattle.converge_laws.specs.Converged.{is_held, HasItsContainer, IsUnwantedKept, IsStateHeld, IsKeptAside}

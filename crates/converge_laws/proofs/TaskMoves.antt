@@ -1,5 +1,5 @@
 -- What an accepted command leaves of its task.
-use Rattle.std.proofs.Common.{◌≡◌, ◌⊎◌, ℕ, ◌+◌, ◌&&◌, ◌==◌, Bool, true, false, cond, List, Option, Some, None, nat_le, refl, ap, sym, subst, ◌∙◌, inl, inr}
+use Rattle.std.proofs.Common.{◌≡◌, ◌⊎◌, ℕ, ◌+◌, ◌&&◌, ◌==◌, Bool, true, false, cond, List, Option, Some, None, nat_le, refl, subst, ◌∙◌, inl, inr}
 use Rattle.cell_records.specs.declared.cell_row.CellRow.{CellRow}
 use Rattle.crash_backoff.specs.declared.moment.Moment.{Moment}
 use Rattle.diego_names.proofs.Public.{IsKeyOrder-name_order}
@@ -11,7 +11,7 @@ use Rattle.row_tables.proofs.Public.{key-find_row, find_row-put_row_same, find_r
 use Rattle.task_records.proofs.Public.{KeepsTask-task_move}
 use Rattle.task_records.specs.Laws.{KeepsTask}
 use Rattle.task_records.specs.Moves.{task_move, task_from_state}
-use Rattle.task_records.specs.Steps.{task_turned, cancelled, task_wrong_state, if_own_task, once_due}
+use Rattle.task_records.specs.Steps.{task_turned, if_own_task, once_due}
 use Rattle.task_records.specs.declared.move_end.TaskEnd.{TaskEnd}
 use Rattle.task_records.specs.declared.move_end.TaskEnd.TheVariants as end
 use Rattle.task_records.specs.declared.move_kind.TaskMove.{TaskMove}
@@ -26,8 +26,6 @@ use Rattle.bbs_model.specs.Step.{changed_by, verdict_of}
 use Rattle.bbs_model.specs.Tables.{task_name_of, find_cell, find_task}
 use Rattle.bbs_model.specs.Tasks.{task_moved_to}
 use Rattle.bbs_model.specs.Work.{at}
-use Rattle.bbs_model.specs.declared.attempt.Attempt.{Attempt}
-use Rattle.bbs_model.specs.declared.command.Command.{Command}
 use Rattle.bbs_model.specs.declared.command.Op.TheVariants as op
 use Rattle.bbs_model.specs.declared.rows.Rows.{Rows}
 use Rattle.bbs_laws.proofs.Public.{by_knowing, by_joining}

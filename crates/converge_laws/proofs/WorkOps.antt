@@ -1,7 +1,5 @@
 -- What the commands that rows ask for do to their rows.
-use Rattle.std.proofs.Common.{◌≡◌, ◌≢◌, ◌⊎◌, ℕ, ◌+◌, Bool, true, false, cond, not, ◌&&◌, ◌||◌, List, Option, Some, None, nat_le, nat_lt, refl, ap, sym, subst, ◌∙◌, inl, inr, ⊎_elim, arith}
-use Rattle.std.proofs.lemmas.Bool.Decides.{nat_tests}
-use Rattle.std.specs.List.{Contains}
+use Rattle.std.proofs.Common.{◌≡◌, ◌⊎◌, ℕ, Bool, true, false, cond, not, ◌&&◌, List, Option, Some, None, nat_le, nat_lt, refl, ap, sym, subst, ◌∙◌, inr, ⊎_elim, arith}
 use Rattle.std.specs.Option.{option_and_then, option_map, option_map_or}
 use Rattle.cell_records.specs.declared.cell_row.CellRow.{CellRow}
 use Rattle.crash_backoff.specs.declared.moment.Moment.{Moment}
@@ -9,9 +7,8 @@ use Rattle.diego_names.proofs.Public.{IsKeyOrder-name_order}
 use Rattle.diego_names.specs.Order.{name_order}
 use Rattle.diego_names.specs.declared.instance.Instance.{Instance}
 use Rattle.diego_names.specs.declared.key.Key.{Key}
-use Rattle.lrp_records.specs.States.{holder_of, is_same_instance}
+use Rattle.lrp_records.specs.States.{holder_of}
 use Rattle.lrp_records.specs.declared.actual.Actual.{Actual}
-use Rattle.lrp_records.specs.declared.presence.Presence.{Presence}
 use Rattle.lrp_records.specs.declared.presence.Presence.TheVariants.{Ordinary, Evacuating, Suspect}
 use Rattle.lrp_records.specs.declared.lrp_move.LrpMove.{LrpMove}
 use Rattle.lrp_records.specs.declared.lrp_move.LrpMove.TheVariants as move
@@ -25,34 +22,30 @@ use Rattle.task_records.specs.declared.state.TaskState.TheVariants as task
 use Rattle.task_records.specs.declared.task.Task.{Task}
 use Rattle.bbs_model.specs.Attempts.{if_known, drop_row}
 use Rattle.bbs_model.specs.Cells.{vanish}
-use Rattle.bbs_model.specs.Domains.{forget, holds_at, told_end}
+use Rattle.bbs_model.specs.Domains.{holds_at, told_end}
 use Rattle.bbs_model.specs.Lrps.{is_running_as, left_row}
-use Rattle.bbs_model.specs.Runs.{state_after, state_after_all}
+use Rattle.bbs_model.specs.Runs.{state_after}
 use Rattle.bbs_model.specs.Step.{changed_by, verdict_of}
-use Rattle.bbs_model.specs.Tables.{cell_name_of, domain_name_of, task_name_of, find_actual, find_cell, find_domain, find_task}
+use Rattle.bbs_model.specs.Tables.{cell_name_of, domain_name_of, find_actual, find_cell, find_domain, find_task}
 use Rattle.bbs_model.specs.Valid.{IsValid}
 use Rattle.bbs_model.specs.Work as told
 use Rattle.bbs_model.specs.declared.attempt.Attempt.{Attempt}
 use Rattle.bbs_model.specs.declared.attempt.Attempt.TheVariants.{Refuse}
-use Rattle.bbs_model.specs.declared.command.Command.{Command}
 use Rattle.bbs_model.specs.declared.command.Op.{Op}
 use Rattle.bbs_model.specs.declared.command.Op.TheVariants as op
 use Rattle.bbs_model.specs.declared.domain_row.DomainRow.{DomainRow}
 use Rattle.bbs_model.specs.declared.event.Row.TheVariants as row
 use Rattle.bbs_model.specs.declared.rows.Rows.{Rows}
 use Rattle.bbs_model.specs.declared.verdict.BoardRefusal.TheVariants.{LeaseHolds}
-use Rattle.convergence.specs.Subjects.{Subject, OfCell, OfDomain, OfPlace, OfTask, OfProcess, subject_of, subject_in, work_on, ordinary_of}
-use Rattle.convergence.proofs.Public.{about_is, about_work, work_rises, work_is_by_subject}
+use Rattle.convergence.specs.Subjects.{Subject, OfCell, OfDomain, OfPlace, OfTask, OfProcess, subject_in, work_on}
+use Rattle.convergence.proofs.Public.{work_is_by_subject}
 use Rattle.converge_laws.proofs.Naming.{instance_itself}
-use Rattle.converge_laws.specs.Accepted.{IsAccepted, AreAccepted, IsOfRound}
-use Rattle.converge_laws.specs.Laws.{AreOfRound, KeepsGround}
-use Rattle.converge_laws.specs.Stages.{IsWorked}
-use Rattle.converge_laws.proofs.Frames.{IsTried, stays-ordinary, stays-evacuating, stays-task, stays-cell}
-use Rattle.converge_laws.proofs.Grounds.{lost-ground, runs_there-ground, ordinary-ground, task-ground}
+use Rattle.converge_laws.specs.Accepted.{IsAccepted, IsOfRound}
+use Rattle.converge_laws.specs.Laws.{AreOfRound}
+use Rattle.converge_laws.proofs.Frames.{IsTried}
 use Rattle.converge_laws.proofs.MoveEnds.{IsUnclaimed, removed, unclaimed, restarted, late}
-use Rattle.converge_laws.proofs.Moves.{beginning, IfTried, IsMoved, IsTaken, left_by, domain-left, by_attempt, after-make, after-remove, after-unclaim, after-restart, after-suspect, after-drop_suspect, after-drop}
-use Rattle.converge_laws.proofs.Runs.{apart_from_rising, run-other, run-took, run-ground}
-use Rattle.converge_laws.proofs.TaskMoves.{HasEnded, IsTaskMoved, task_left_by, after-cancel, after-kick, after-expire, has-cancelled, has-kicked, has-expired}
+use Rattle.converge_laws.proofs.Moves.{beginning, IsMoved, IsTaken, left_by, domain-left, by_attempt, after-make, after-remove, after-unclaim, after-restart, after-suspect, after-drop_suspect, after-drop}
+use Rattle.converge_laws.proofs.TaskMoves.{HasEnded, after-cancel, after-kick, after-expire, has-cancelled, has-kicked, has-expired}
 
 -- what holds of the command that is asked, if one is
 abbrev pub IfAsked : (Op → Type 0) → Option Op → Type 0

@@ -1,58 +1,39 @@
 -- Work that is accepted leaves nothing to ask but of SUSPECT rows.
-use Rattle.std.proofs.Common.{◌≡◌, ◌≢◌, ◌⊎◌, ℕ, ◌+◌, Bool, true, false, cond, not, ◌&&◌, ◌||◌, List, Option, Some, None, nat_le, nat_lt, refl, ap, sym, subst, ◌∙◌, inl, inr, ⊎_elim, arith}
-use Rattle.std.proofs.lemmas.Bool.Decides.{nat_tests}
+use Rattle.std.proofs.Common.{◌≡◌, ◌≢◌, ℕ, Bool, true, false, cond, not, ◌&&◌, ◌||◌, List, Option, Some, None, refl, ap, sym, subst, ◌∙◌, inl, ⊎_elim}
 use Rattle.std.specs.List.{Contains}
-use Rattle.std.specs.Option.{option_and_then, option_map}
+use Rattle.std.specs.Option.{option_and_then}
 use Rattle.cell_records.specs.declared.cell_row.CellRow.{CellRow}
 use Rattle.crash_backoff.specs.declared.moment.Moment.{Moment}
 use Rattle.diego_names.proofs.Public.{IsKeyOrder-name_order}
 use Rattle.diego_names.specs.Order.{name_order}
 use Rattle.diego_names.specs.declared.instance.Instance.{Instance}
 use Rattle.diego_names.specs.declared.key.Key.{Key}
-use Rattle.lrp_records.specs.States.{holder_of}
 use Rattle.lrp_records.specs.declared.actual.Actual.{Actual}
-use Rattle.lrp_records.specs.declared.presence.Presence.{Presence}
 use Rattle.lrp_records.specs.declared.presence.Presence.TheVariants.{Ordinary, Evacuating, Suspect}
-use Rattle.lrp_records.specs.declared.lrp_move.LrpMove.{LrpMove}
-use Rattle.lrp_records.specs.declared.lrp_move.LrpMove.TheVariants as move
-use Rattle.lrp_records.specs.declared.state.LrpState.{LrpState}
-use Rattle.lrp_records.specs.declared.state.LrpState.TheVariants as lrp
-use Rattle.lrp_records.specs.Moves.{lrp_move}
-use Rattle.row_tables.specs.Table.{find_row, without_row}
-use Rattle.row_tables.proofs.Public.{key-find_row, find_row-without_row_same}
-use Rattle.task_records.specs.declared.state.TaskState.{TaskState}
-use Rattle.task_records.specs.declared.state.TaskState.TheVariants as task
+use Rattle.row_tables.proofs.Public.{key-find_row}
 use Rattle.task_records.specs.declared.task.Task.{Task}
-use Rattle.bbs_model.specs.Attempts.{drop_row}
-use Rattle.bbs_model.specs.Cells.{vanish}
 use Rattle.bbs_model.specs.Found.{suspect_in}
 use Rattle.bbs_model.specs.Runs.{state_after, state_after_all}
-use Rattle.bbs_model.specs.Step.{changed_by, verdict_of}
+use Rattle.bbs_model.specs.Step.{verdict_of}
 use Rattle.bbs_model.specs.Tables.{cell_name_of, domain_name_of, task_name_of, find_actual, find_cell, find_domain, find_task}
 use Rattle.bbs_model.specs.Valid.{IsValid, IsRunning}
 use Rattle.bbs_model.specs.Work as told
-use Rattle.bbs_model.specs.declared.attempt.Attempt.{Attempt}
-use Rattle.bbs_model.specs.declared.attempt.Attempt.TheVariants.{Refuse}
 use Rattle.bbs_model.specs.declared.command.Command.{Command}
 use Rattle.bbs_model.specs.declared.command.Op.{Op}
 use Rattle.bbs_model.specs.declared.command.Op.TheVariants as op
 use Rattle.bbs_model.specs.declared.domain_row.DomainRow.{DomainRow}
-use Rattle.bbs_model.specs.declared.event.Row.TheVariants as row
 use Rattle.bbs_model.specs.declared.rows.Rows.{Rows}
-use Rattle.bbs_model.specs.declared.verdict.BoardRefusal.TheVariants.{LeaseHolds}
 use Rattle.convergence.specs.Subjects.{Subject, OfCell, OfDomain, OfPlace, OfTask, OfProcess, subject_of, subject_in, work_on, ordinary_of}
 use Rattle.convergence.proofs.Public.{about_is, about_work, work_rises, work_is_by_subject}
 use Rattle.converge_laws.specs.Accepted.{IsAccepted, AreAccepted, IsOfRound, AreApart}
 use Rattle.converge_laws.specs.Converged.{IsSuspected}
 use Rattle.converge_laws.specs.Laws.{AreOfRound, KeepsGround}
 use Rattle.converge_laws.specs.Stages.{IsNoSuspectPlace, IsWorked}
-use Rattle.converge_laws.proofs.Frames.{IsTried, stays-ordinary, stays-evacuating, stays-suspect, stays-task, stays-cell, stays-domain}
+use Rattle.converge_laws.proofs.Frames.{stays-ordinary, stays-evacuating, stays-suspect, stays-task, stays-cell, stays-domain}
 use Rattle.converge_laws.proofs.Grounds.{lost-ground, runs_there-ground, retirable-ground, ordinary-ground, task-ground}
-use Rattle.converge_laws.proofs.MoveEnds.{IsUnclaimed, removed, unclaimed, restarted, late}
-use Rattle.converge_laws.proofs.Moves.{IfTried, IsMoved, IsTaken, left_by, by_attempt, after-make, after-remove, after-unclaim, after-restart, after-drop}
 use Rattle.converge_laws.proofs.Rests.{not_false, all_false, idle-row, suspected-row, suspect-rests, running-holder, suits-presence, unpast-row}
 use Rattle.converge_laws.proofs.Runs.{AreAlone, apart_from_rising, run-other, run-took, run-ground}
-use Rattle.converge_laws.proofs.TaskMoves.{HasEnded, IsTaskMoved, task_left_by, after-cancel, after-kick, after-expire, has-cancelled, has-kicked, has-expired}
+use Rattle.converge_laws.proofs.TaskMoves.{HasEnded}
 use Rattle.converge_laws.proofs.WorkOps.{work_of_round, IsDone, ordinary-step, evacuating-step, suspect-dropped, cell-step, domain-step, task-step, ended-rests}
 
 none_both : (b : Bool) (x : Option Op) → x ≡ None → cond b x None ≡ None

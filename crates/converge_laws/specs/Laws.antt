@@ -6,7 +6,6 @@ use Rattle.convergence.specs.Containers.{answer_from}
 use Rattle.convergence.specs.Plans.{plan_of_answers}
 use Rattle.convergence.specs.Strays.{strays}
 use Rattle.crash_backoff.specs.declared.moment.Moment.{Moment}
-use Rattle.diego_names.specs.declared.instance.Instance.{Instance}
 use Rattle.diego_names.specs.declared.key.Key.{Key}
 use Rattle.bbs_model.specs.Runs.{state_after_all}
 use Rattle.bbs_model.specs.Valid.{IsValid}

@@ -43,10 +43,14 @@ counts_fit version rows fits = by (nat_eq version 1) fits.domains
     v : IsValid rows
     v = fits.valid
 
-    by : (b : Bool) → AllByRecursion (old_or b nothing domain_row).Fits rows.domains → (old_or b old_counts counts).Fits (head_counts rows)
+    by : (b : Bool) → AllByRecursion (old_or b nothing domain_row).Fits rows.domains
+        → (old_or b old_counts counts).Fits (head_counts rows)
     by true none = (
       none_there rows.domains none,
-      (omega (arith, v.next), ((omega (arith, v.desired.few), omega (arith, v.actual.few)), (omega (arith, v.tasks.few), omega (arith, v.cells.few)))),
+      (
+        omega (arith, v.next),
+        ((omega (arith, v.desired.few), omega (arith, v.actual.few)), (omega (arith, v.tasks.few), omega (arith, v.cells.few))),
+      ),
     )
     by false some = (
       omega (arith, v.next),
@@ -57,8 +61,8 @@ counts_fit version rows fits = by (nat_eq version 1) fits.domains
     )
 
 -- the parts of a head that is spelled in front
-parts_again : (version : ℕ) (rows : Rows) (bytes : List ℕ) → FitsHead version rows → TextStandsAt bytes 0 (head_spelled version rows)
-    → Parts version bytes rows (length (head_spelled version rows))
+parts_again : (version : ℕ) (rows : Rows) (bytes : List ℕ) → FitsHead version rows
+    → TextStandsAt bytes 0 (head_spelled version rows) → Parts version bytes rows (length (head_spelled version rows))
 unfolding head_spelled counts_at desired_at actual_at tasks_at cells_at domains_at
 parts_again version rows bytes fits s0 =
     let next : ℕ = rows.next in
@@ -126,7 +130,8 @@ ended_there bytes rows at e = by_test (nat_lt at (length bytes)) refl
     by_test false h = refl
 
 -- a head that was spelled is read back
-pub head_again : (version : ℕ) (rows : Rows) → FitsHead version rows → head_reading version (head_spelled version rows) ≡ Ok rows
+pub head_again : (version : ℕ) (rows : Rows) → FitsHead version rows
+    → head_reading version (head_spelled version rows) ≡ Ok rows
 unfolding head_reading
 head_again version rows fits =
     let bytes : List ℕ = head_spelled version rows in

@@ -60,8 +60,8 @@ pub record Parts (version : ℕ) (bytes : List ℕ) (rows : Rows) (after : ℕ) 
   pub after_is : m.1 ≡ after
 
 -- what is done last is done with their rows
-pub parts_last : {Z : Type 0} (version : ℕ) (bytes : List ℕ) (last : Rows → ℕ → Result Z CodecFault) (rows : Rows) (after : ℕ)
-    → Parts version bytes rows after → parts_read version bytes last ≡ last rows after
+pub parts_last : {Z : Type 0} (version : ℕ) (bytes : List ℕ) (last : Rows → ℕ → Result Z CodecFault) (rows : Rows)
+    (after : ℕ) → Parts version bytes rows after → parts_read version bytes last ≡ last rows after
 parts_last version bytes last rows after p =
     bind_is (counts_at version bytes) p.c (λ c. behind_counts version bytes last c) p.counts_are
     ∙ bind_is (desired_at p.c.0.0 p.c.0.1.0.0 bytes p.c.1) p.d (λ d. behind_desired version bytes last p.c d) p.desired_are
@@ -73,8 +73,8 @@ parts_last version bytes last rows after p =
     ∙ ap (λ (n : ℕ). last rows n) p.after_is
 
 -- other parts don't stand there
-pub parts_one : (version : ℕ) (bytes : List ℕ) (rows more : Rows) (after behind : ℕ) → Parts version bytes rows after → Parts version bytes more behind
-    → (rows ≡ more) × (after ≡ behind)
+pub parts_one : (version : ℕ) (bytes : List ℕ) (rows more : Rows) (after behind : ℕ) → Parts version bytes rows after
+    → Parts version bytes more behind → (rows ≡ more) × (after ≡ behind)
 parts_one version bytes rows more after behind p q =
     let ends : Rows → ℕ → Result (Rows × ℕ) CodecFault = λ w n. Ok (w, n) in
     let pair = same_ok {X = Rows × ℕ} (rows, after) (more, behind) (sym (parts_last version bytes ends rows after p) ∙ parts_last version bytes ends more behind q) in

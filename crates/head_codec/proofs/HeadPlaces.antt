@@ -107,7 +107,8 @@ within-count is = within-both (within-number w32) is
 
 within-old_counts : IsWithin old_counts.read
 within-old_counts =
-    within-seen _ (within-both (within-number w64) (within-both (within-count (within-number w32)) (within-count (within-number w32))))
+    within-seen _
+    (within-both (within-number w64) (within-both (within-count (within-number w32)) (within-count (within-number w32))))
 
 within-counts : IsWithin counts.read
 within-counts =
@@ -174,5 +175,6 @@ head_lies version bytes =
     (λ m in_m. ended_lies bytes (rows_of c d a t r m) m.1 in_m))))))
 
 -- the place of a fault of a head is within its bytes
-pub head_fault_lies : (version : ℕ) (bytes : List ℕ) (fault : CodecFault) → head_reading version bytes ≡ Err fault → fault_place fault ≤ length bytes
+pub head_fault_lies : (version : ℕ) (bytes : List ℕ) (fault : CodecFault) → head_reading version bytes ≡ Err fault
+    → fault_place fault ≤ length bytes
 head_fault_lies version bytes fault e = subst (λ (r : Result Rows CodecFault). Lies (length bytes) (λ _. Unit {0}) r) e (head_lies version bytes)

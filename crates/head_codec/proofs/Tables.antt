@@ -149,7 +149,8 @@ cells_table next rows h = record {
   distinct = h.epochs;
 }
 
-pub AreDomains-table : (next : ℕ) (rows : List DomainRow) → IsTable name_order domain_name_of domains_keep next rows → AreDomains rows
+pub AreDomains-table : (next : ℕ) (rows : List DomainRow) → IsTable name_order domain_name_of domains_keep next rows
+    → AreDomains rows
 AreDomains-table next rows t = record { rising = t.rising; few = t.few }
 
 -- any row of a domain suits
@@ -157,7 +158,8 @@ each_suits : (rows : List DomainRow) → AllByRecursion (λ (d : DomainRow). tru
 each_suits [] = tt
 each_suits (row ∷ rows) = (refl, each_suits rows)
 
-pub domains_table : (next : ℕ) (rows : List DomainRow) → AreDomains rows → IsTable name_order domain_name_of domains_keep next rows
+pub domains_table : (next : ℕ) (rows : List DomainRow) → AreDomains rows
+    → IsTable name_order domain_name_of domains_keep next rows
 domains_table next rows h = record {
   rising = h.rising;
   few = h.few;

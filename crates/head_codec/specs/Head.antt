@@ -61,8 +61,10 @@ counts_in version = format_in version old_counts counts
 
 -- the counts of these rows
 abbrev pub head_counts : Rows → Counts
-head_counts rows =
-    (rows.next, ((length rows.desired, length rows.actual), (length rows.tasks, (length rows.cells, length rows.domains))))
+head_counts rows = (
+  rows.next,
+  ((length rows.desired, length rows.actual), (length rows.tasks, (length rows.cells, length rows.domains))),
+)
 
 -- the rows in bytes in a version: `next` and the counts, and then the rows of each table
 unfoldable pub head_spelled : ℕ → Rows → List ℕ

@@ -1,5 +1,4 @@
 pub mod Scans
 pub mod Running
-pub mod Lists
 pub mod Plains
 pub mod Public

@@ -7,8 +7,8 @@ ghost use Rattle.bbs_model.specs.Valid.{IsValid};
 
 use crate::editing::copy_of;
 use crate::step::{apply, decide};
-use crate::working::work_of;
 use bbs_model::{CallFault, Command, Events, Heard, Item, Port, Reply, Rows, Verdict, hear};
+use convergence::work_of;
 use crash_backoff::Moment;
 use diego_names::{List, OutOfMemory};
 use std::alloc::Global;

@@ -153,16 +153,15 @@ fn are_asked(commands: &[Command], now: Moment, asked: &[Op]) -> bool {
     true
 }
 
-/// Whether convergence asks for these by rows, and by plain scans of them too.
+/// Whether convergence asks for these by rows.
 fn asks_by(alloc: Global, rows: &Rows, now: Moment, asked: &[Op]) -> Result<bool, OutOfMemory>
     requires { IsValid rows.now }
 {
-    let plain = plain_step::work_of(alloc, rows, now)?;
     let work = work_of(alloc, rows, now)?;
-    Ok(work.items() == plain.items() && are_asked(work.items(), now, asked))
+    Ok(are_asked(work.items(), now, asked))
 }
 
-/// Whether convergence asks for these at a moment once those were done, and by plain scans too.
+/// Whether convergence asks for these at a moment once those were done.
 fn asks(alloc: Global, done: &[Command], now: u32, asked: &[Op]) -> Result<bool, OutOfMemory> {
     let mut rows = first_board(alloc);
     match run_all(alloc, &mut rows, done) {

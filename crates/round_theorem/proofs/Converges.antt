@@ -6,10 +6,12 @@ use Rattle.auctioneer.specs.declared.placement.Placement.{Placement}
 use Rattle.cell_records.specs.declared.answer.Answer.{Answer}
 use Rattle.cell_records.specs.declared.job_name.JobName.{JobName}
 use Rattle.cell_records.specs.declared.job_name.JobName.TheVariants as name
+use Rattle.cell_rep.specs.Acts.{claim_op}
 use Rattle.cell_rep.specs.Reps.{answer_of}
 use Rattle.cell_rep.specs.declared.rep.CellRep.{CellRep}
 use Rattle.crash_backoff.specs.declared.moment.Moment.{Moment}
 use Rattle.diego_names.specs.declared.instance.Instance.{Instance}
+use Rattle.bbs_model.specs.Found.{suspect_in}
 use Rattle.bbs_model.specs.PortView.{PortView, rows_seen, Looks, IsQuiet}
 use Rattle.bbs_model.specs.Runs.{state_after_all}
 use Rattle.bbs_model.specs.Valid.{IsValid}
@@ -23,8 +25,8 @@ use Rattle.convergence.specs.declared.report.Report.{Report}
 use Rattle.converge_laws.specs.Accepted.{AreAccepted, AreApart}
 use Rattle.converge_laws.specs.Converged.{IsConverged}
 use Rattle.converge_laws.specs.Laws.{after_work, after_plan}
-use Rattle.converge_laws.specs.Stages.{HaveAnswered, IsPlaceable, IsPlanned, IsClaimOf, AreWithout, PlacesAll}
-use Rattle.converge_laws.proofs.Public.{run-valid, answered-ground, work-ground, work-leaves_nothing, plan-ground, plan-leaves_held, round-converges}
+use Rattle.converge_laws.specs.Stages.{HaveAnswered, IsClaimOf, AreWithout, PlacesAll}
+use Rattle.converge_laws.proofs.Public.{run-valid, answered-ground, work-ground, work-leaves_suspicions, plan-ground, round-converges, claim-unsuspected}
 use Rattle.converge_round.specs.Askings.{present, StandApart, questions}
 use Rattle.converge_round.specs.Callings.{Calling, IsNoted}
 use Rattle.converge_round.specs.Each.{Each}
@@ -172,6 +174,10 @@ module _ (by : ℕ) (now : Moment) (line : ℕ) (s s' : Standing) (r : Report) (
   apart_claims = apart_by_subjects cs (subst Differ (sym subjects)
       (all_cells places_rows (placements places_rows roomy) (placed-differ roomy (jobs places_rows) differ_jobs) roomy
       (differ_pairs (map (λ (x : Answer). x.cell) roomy) (open_answers places_rows h.opened.reps got roomy h.opens.heard.apart h.opens.placed.open_are).differ)))
+      (λ c inside.
+      let n = (served.named c inside) in
+      ap (λ (d : Command). suspect_in d.op) n.claims.is
+      ∙ claim-unsuspected n.claims.job n.claims.instance n.answer.cell (claim_op n.answer.cell n.claims.job n.claims.instance) (claims_itself n.claims.job n.claims.instance n.answer.cell))
 
   -- which cells are there
   valid_worked : IsValid (after_work rows now)
@@ -180,12 +186,9 @@ module _ (by : ℕ) (now : Moment) (line : ℕ) (s s' : Standing) (r : Report) (
   answered_worked : HaveAnswered (after_work rows now) got before now
   answered_worked = answered-ground rows (after_work rows now) got before now (work-ground rows now valid all.worked) answered
 
-  is_planned : IsPlanned planned before now
-  is_planned = plan-leaves_held (after_work rows now) got before now valid_worked (work-leaves_nothing rows now valid all.worked) answered_worked all.planned
-
   there_later : (cell : List ℕ) (epoch : ℕ) → is_there planned now cell epoch ≡ is_there rows now cell epoch
   there_later cell epoch =
-      (plan-ground (after_work rows now) got before now valid_worked (work-leaves_nothing rows now valid all.worked) answered_worked all.planned).there cell epoch
+      (plan-ground (after_work rows now) got before now valid_worked (work-leaves_suspicions rows now valid all.worked) answered_worked all.planned).there cell epoch
       ∙ (work-ground rows now valid all.worked).there cell epoch
 
   got_there : (x : Answer) → Contains got x → is_there rows now x.cell x.epoch ≡ true
@@ -219,10 +222,7 @@ module _ (by : ℕ) (now : Moment) (line : ℕ) (s s' : Standing) (r : Report) (
     claims = λ c inside.
         let p = claims_there c inside in
         (p.0, p.1, p.2, p.3, subst (λ (x : Rows). is_there x now p.2 p.1.epoch ≡ true) (sym rows_opened) p.4);
-    rows_placed = λ key a is state.
-        let planned_here : IsPlanned places_rows before now = subst (λ (x : Rows). IsPlanned x before now) (sym rows_opened) is_planned in
-        let wanted = subst (IsPlaceable places_rows before now key) is (planned_here.ordinary key) in
-        waiting-claimed places_rows roomy cs differ_jobs none_unplaced subjects (name.Lrp key) (row-waits places_rows key a wanted.0 is state);
+    rows_placed = λ key a is state wanted. waiting-claimed places_rows roomy cs differ_jobs none_unplaced subjects (name.Lrp key) (row-waits places_rows key a wanted is state);
     tasks_placed = λ n t is state. waiting-claimed places_rows roomy cs differ_jobs none_unplaced subjects (name.Task n) (task-waits places_rows n t is state);
   }
 

@@ -1,20 +1,21 @@
 -- What a round asks of a row is refused for nothing but want of room, while the row is as it was.
-use Rattle.std.proofs.Common.{◌≡◌, ◌⊎◌, ℕ, ◌+◌, ◌-◌, Bool, true, false, cond, not, nat_lt, nat_le, is_some, List, Option, Some, None, refl, sym, ap, subst, ◌∙◌, arith, inl, inr}
-use Rattle.std.specs.Option.{option_map_or}
+use Rattle.std.proofs.Common.{◌≡◌, ◌⊎◌, ℕ, ◌+◌, ◌-◌, Bool, true, false, cond, not, ◌&&◌, ◌==◌, ◌++◌, nat_lt, nat_le, is_some, is_none, List, Option, Some, None, refl, sym, ap, subst, ◌∙◌, arith, inl, inr}
+use Rattle.std.specs.Option.{option_map_or, option_and_then}
+use Rattle.cell_records.specs.Presence.{is_present}
 use Rattle.cell_records.specs.declared.cell_row.CellRow.{CellRow}
 use Rattle.crash_backoff.specs.Backoff.{due_from}
 use Rattle.crash_backoff.specs.declared.moment.Moment.{Moment}
 use Rattle.diego_names.specs.declared.instance.Instance.{Instance}
 use Rattle.diego_names.specs.declared.key.Key.{Key}
 use Rattle.lrp_records.specs.Moves.{lrp_move, from_state}
-use Rattle.lrp_records.specs.States.{holder_of, is_same_instance}
+use Rattle.lrp_records.specs.States.{holder_of, cell_of, is_same_instance}
 use Rattle.lrp_records.specs.Steps.{turned, crashed, restarted_from}
 use Rattle.lrp_records.specs.declared.actual.Actual.{Actual}
 use Rattle.lrp_records.specs.declared.lrp_move.LrpMove.{LrpMove}
 use Rattle.lrp_records.specs.declared.lrp_move.LrpMove.TheVariants as move
 use Rattle.lrp_records.specs.declared.move_end.MoveEnd.{MoveEnd}
 use Rattle.lrp_records.specs.declared.move_end.MoveEnd.TheVariants as end
-use Rattle.lrp_records.specs.declared.presence.Presence.TheVariants.{Ordinary, Evacuating}
+use Rattle.lrp_records.specs.declared.presence.Presence.TheVariants.{Ordinary, Evacuating, Suspect}
 use Rattle.lrp_records.specs.declared.refusal.LrpRefusal.{LrpRefusal}
 use Rattle.lrp_records.specs.declared.refusal.LrpRefusal.TheVariants.{NotDue, WrongInstance}
 use Rattle.lrp_records.specs.declared.state.LrpState.{LrpState}
@@ -28,19 +29,21 @@ use Rattle.task_records.specs.declared.move_end.TaskEnd.TheVariants as task_end
 use Rattle.task_records.specs.declared.refusal.TaskRefusal.TheVariants as task_why
 use Rattle.task_records.specs.declared.move_kind.TaskMove.{TaskMove}
 use Rattle.task_records.specs.declared.move_kind.TaskMove.TheVariants as task
-use Rattle.bbs_model.specs.Attempts.{if_known, put, drop_row}
+use Rattle.bbs_model.specs.Attempts.{Refusals, unless_refused, if_known, put, drop_row}
 use Rattle.bbs_model.specs.Cells.{vanish}
+use Rattle.bbs_model.specs.Domains.{holds_at, told_end}
 use Rattle.bbs_model.specs.Found.{found_by}
 use Rattle.bbs_model.specs.Limits.{most_actual}
-use Rattle.bbs_model.specs.Lrps.{moved_to, is_running_as, stays_because, new_row, domain_of}
+use Rattle.bbs_model.specs.Lrps.{moved_to, is_running_as, runs_as, stays_because, new_row, domain_of, lease_refusals, aside_refusals, set_aside}
 use Rattle.bbs_model.specs.Step.{attempt_at}
-use Rattle.bbs_model.specs.Tables.{find_actual, find_cell, find_task}
+use Rattle.bbs_model.specs.Tables.{find_actual, find_cell, find_domain, find_task}
 use Rattle.bbs_model.specs.Tasks.{task_moved_to}
-use Rattle.bbs_model.specs.Work.{wants, is_due}
+use Rattle.bbs_model.specs.Work.{wants, is_there, is_due}
 use Rattle.bbs_model.specs.declared.attempt.Attempt.{Attempt}
 use Rattle.bbs_model.specs.declared.attempt.Attempt.TheVariants.{Refuse, Keep, Change}
 use Rattle.bbs_model.specs.declared.command.Op.{Op}
 use Rattle.bbs_model.specs.declared.command.Op.TheVariants as op
+use Rattle.bbs_model.specs.declared.domain_row.DomainRow.{DomainRow}
 use Rattle.bbs_model.specs.declared.event.Row.TheVariants as row
 use Rattle.bbs_model.specs.declared.rows.Rows.{Rows}
 use Rattle.bbs_model.specs.declared.verdict.BoardRefusal.TheVariants as why
@@ -120,6 +123,45 @@ drops rows now key a i cell is e =
     subst (λ (o : Option Actual). IsFair (if_known o (λ old. cond (is_running_as old.state i) (drop_row (row.Actual old)) (Refuse (stays_because old.state i))))) (sym is)
     (subst (λ (b : Bool). IsFair (cond b (drop_row (row.Actual a)) (Refuse (stays_because a.state i)))) (sym (ap (λ (s : LrpState). is_running_as s i) e ∙ instance_itself i)) tt)
 
+-- a SUSPECT row, which runs too
+pub drops_suspect : (rows : Rows) (now : Moment) (key : Key) (a : Actual) (i : Instance) (cell : List ℕ) → find_actual rows key Suspect ≡ Some a → a.state ≡ lrp.Running i cell
+    → FairIf rows now (Some (op.DropSuspect key i))
+drops_suspect rows now key a i cell is e =
+    subst (λ (o : Option Actual). IsFair (if_known o (λ old. cond (is_running_as old.state i) (drop_row (row.Actual old)) (Refuse (stays_because old.state i))))) (sym is)
+    (subst (λ (b : Bool). IsFair (cond b (drop_row (row.Actual a)) (Refuse (stays_because a.state i)))) (sym (ap (λ (s : LrpState). is_running_as s i) e ∙ instance_itself i)) tt)
+
+-- the lease of a cell that isn't there is no cause to refuse
+no_lease : (c : Option CellRow) (epoch : ℕ) (now : Moment) (rest : Refusals) (x : Attempt) → option_map_or (λ (r : CellRow). r.epoch == epoch && is_present r now) c false ≡ false
+    → IsFair (unless_refused rest x) → IsFair (unless_refused (lease_refusals c epoch now ++ rest) x)
+no_lease None epoch now rest x gone h = h
+no_lease (Some c) epoch now rest x gone h = subst (λ (b : Bool). IsFair (cond b (Refuse (why.LeaseHolds c.until)) (unless_refused rest x))) (sym gone) h
+
+room_aside : (b : Bool) (x : Attempt) → IsFair x → IsFair (cond b (Refuse (why.TooMany most_actual)) x)
+room_aside true x h = inr refl
+room_aside false x h = h
+
+kept_or : (b : Bool) (x : Attempt) → IsFair x → IsFair (cond b Keep x)
+kept_or true x h = tt
+kept_or false x h = h
+
+-- an instance that runs on a cell that isn't there
+pub suspects : (rows : Rows) (now : Moment) (key : Key) (a : Actual) (i : Instance) (cell : List ℕ) → find_actual rows key Ordinary ≡ Some a → a.state ≡ lrp.Running i cell
+    → is_there rows now cell i.epoch ≡ false → FairIf rows now (Some (op.Suspect key i))
+suspects rows now key a i cell is e gone =
+    let f = found_by rows (op.Suspect key i) in
+    let aside : Refusals = aside_refusals f.suspect f in
+    let refusals = λ (c : Option (List ℕ)). lease_refusals (option_and_then (find_cell rows) c) i.epoch now ++ aside in
+    let step = λ (c : Option (List ℕ)) (old : Actual). cond (is_running_as old.state i) (unless_refused (refusals c) (set_aside Suspect old now)) (Refuse (stays_because old.state i)) in
+    let set : IsFair (unless_refused (refusals (Some cell)) (set_aside Suspect a now)) =
+    no_lease (find_cell rows cell) i.epoch now aside (set_aside Suspect a now) gone (room_aside (is_none f.suspect && nat_le most_actual f.counts.actual) (set_aside Suspect a now) tt) in
+    let runs : is_running_as a.state i ≡ true = ap (λ (s : LrpState). is_running_as s i) e ∙ instance_itself i in
+    let on_cell : IsFair (step (cell_of a.state) a) =
+    subst (λ (c : Option (List ℕ)). IsFair (step c a)) (sym (ap cell_of e))
+    (subst (λ (b : Bool). IsFair (cond b (unless_refused (refusals (Some cell)) (set_aside Suspect a now)) (Refuse (stays_because a.state i)))) (sym runs) set) in
+    let found : IsFair (if_known (find_actual rows key Ordinary) (step (option_and_then (λ (x : Actual). cell_of x.state) (find_actual rows key Ordinary)))) =
+    subst (λ (o : Option Actual). IsFair (if_known o (step (option_and_then (λ (x : Actual). cell_of x.state) o)))) (sym is) on_cell in
+    kept_or (runs_as f.suspect i && not (runs_as f.ordinary i)) (if_known (find_actual rows key Ordinary) (step (option_and_then (λ (x : Actual). cell_of x.state) (find_actual rows key Ordinary)))) found
+
 -- a task that is found
 known_task : (find : Option Task) (t : Task) (m : TaskMove) (now : Moment) → find ≡ Some t → IsFair (task_moved_to t (task_from_state t.state t m now))
     → IsFair (if_known find (λ old. task_moved_to old (task_move old m now)))
@@ -153,3 +195,11 @@ pub vanishes : (rows : Rows) (now : Moment) (c : CellRow) (n : List ℕ) → fin
 vanishes rows now c n is ended =
     subst (λ (o : Option CellRow). IsFair (vanish o now)) (sym is)
     (subst (λ (b : Bool). IsFair (cond b (Refuse (why.LeaseHolds c.until)) (drop_row (row.Cell c)))) (sym (ended_lease c.until now.0 ended)) tt)
+
+-- a domain whose time has ended
+pub forgets : (rows : Rows) (now : Moment) (d : DomainRow) (n : List ℕ) (until : ℕ) → find_domain rows n ≡ Some d → d.until ≡ Some until → nat_le until now.0 ≡ true
+    → FairIf rows now (Some (op.Forget n))
+forgets rows now d n until is ends ended =
+    let stale : holds_at d now ≡ false = ap (λ (u : Option ℕ). option_map_or (λ (at : ℕ). nat_lt now.0 at) u true) ends ∙ ended_lease until now.0 ended in
+    subst (λ (o : Option DomainRow). IsFair (if_known o (λ old. cond (holds_at old now) (Refuse (why.LeaseHolds (told_end old.until))) (drop_row (row.Domain old))))) (sym is)
+    (subst (λ (b : Bool). IsFair (cond b (Refuse (why.LeaseHolds (told_end d.until))) (drop_row (row.Domain d)))) (sym stale) tt)

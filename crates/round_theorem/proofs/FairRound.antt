@@ -1,5 +1,5 @@
 -- Where nobody else called, a round is refused for nothing but want of room.
-use Rattle.std.proofs.Common.{◌≡◌, ℕ, true, List, [], ◌++◌, map, Option, Some, refl, sym, ap, subst, ◌∙◌, ⊎_elim}
+use Rattle.std.proofs.Common.{◌≡◌, ℕ, true, List, [], ◌++◌, map, Option, Some, None, refl, sym, ap, subst, ◌∙◌, ⊎_elim}
 use Rattle.std.specs.List.{Contains, flat_map}
 use Rattle.std.specs.Option.{option_map_or}
 use Rattle.std.proofs.lemmas.List.{map-append}
@@ -8,6 +8,7 @@ use Rattle.auctioneer.specs.Asked.{AreJobs}
 use Rattle.auctioneer.specs.Laws.{job_in}
 use Rattle.auctioneer.specs.declared.placement.Placement.{Placement}
 use Rattle.auctioneer.specs.declared.placement.Placement.TheVariants.{On, NoRoom}
+use Rattle.bbs_model.specs.Found.{suspect_in}
 use Rattle.bbs_model.specs.PortView.{rows_seen}
 use Rattle.bbs_model.specs.Step.{attempt_of}
 use Rattle.bbs_model.specs.Valid.{IsValid}
@@ -27,7 +28,7 @@ use Rattle.convergence.specs.Subjects.{Subject, subject_in}
 use Rattle.convergence.specs.declared.report.Report.{Report}
 use Rattle.converge_laws.specs.Accepted.{IsOfRound}
 use Rattle.converge_laws.specs.Laws.{AreOfRound, after_work, after_plan}
-use Rattle.converge_laws.proofs.Public.{run-valid, run-ground, work_of_round, plan_of_round, inside_map, from_map, from_flat_map, subject_for, claim-of_round, claim-about}
+use Rattle.converge_laws.proofs.Public.{run-valid, run-ground, work_of_round, plan_of_round, inside_map, from_map, from_flat_map, subject_for, claim-of_round, claim-about, claim-unsuspected}
 use Rattle.converge_round.specs.Askings.{present, StandApart, questions}
 use Rattle.converge_round.specs.Jobs.{jobs}
 use Rattle.converge_round.specs.Places.{placements, jobs_on, without_room, unplaced, fail_of, fails_of}
@@ -45,8 +46,8 @@ use Rattle.round_theorem.proofs.ClaimParts.{claims-part, is-ready, names-stopped
 use Rattle.round_theorem.proofs.ClaimsMade.{about_job}
 use Rattle.round_theorem.proofs.FairClaims.{IsRowWaiting, placed-waits, fair-claim, note-of, fair-note}
 use Rattle.round_theorem.proofs.FairMoves.{IsFair}
-use Rattle.round_theorem.proofs.FairRuns.{KeepsThere, fair-run, as_itself, work-refused, plan-refused}
-use Rattle.round_theorem.proofs.FairTables.{IsAsBefore}
+use Rattle.round_theorem.proofs.FairRuns.{fair-run, as_itself, work-refused, plan-refused}
+use Rattle.round_theorem.proofs.FairTables.{IsAsBefore, KeepsThere}
 use Rattle.round_theorem.proofs.JobsPlaced.{placed-differ}
 use Rattle.round_theorem.proofs.Lists.{Differ, differ_pairs, differ_append, one_of_name}
 use Rattle.round_theorem.proofs.Parts.{IsPartOf, part_inside, part_differ, kept_part, differ_by}
@@ -131,6 +132,13 @@ module _ (now : Moment) (A : Rows) (roomy : List Answer) (valid : IsValid A) (n 
       let one : On j.0.job j.1.cell ≡ NoRoom m.0 = one_of_name job_in list differ (On j.0.job j.1.cell) (NoRoom m.0) j.2 m.1 names in
       absurd cc))
 
+  -- none of them changes a SUSPECT row
+  unsuspected : (c : Command) → Contains (claims ++ notes) c → suspect_in c.op ≡ None
+  unsuspected c inside = ⊎_elim
+      (λ here. let u = (under c here).2 in ap (λ (d : Command). suspect_in d.op) u.2 ∙ claim-unsuspected u.0 u.1 (under c here).0.cell (claim_op (under c here).0.cell u.0 u.1) (claims_itself u.0 u.1 (under c here).0.cell))
+      (λ here. let m = note_job c here in ap (λ (d : Command). suspect_in d.op) (note-of A now m.0 c m.2).is)
+      (Contains-append_cases claims notes c inside)
+
   of_round : AreOfRound now (claims ++ notes)
   of_round = record {
     ops = λ c inside. ⊎_elim
@@ -161,7 +169,7 @@ module _ (now : Moment) (A : Rows) (roomy : List Answer) (valid : IsValid A) (n 
       (Contains-append_cases claims notes c inside)
 
   pub claims-refused : AreRefusedForRoom A (claims ++ notes)
-  claims-refused = fair-run now A A (claims ++ notes) (apart_by_subjects (claims ++ notes) all_differ) of_round fair (λ cell epoch. refl) (λ c inside. as_itself A (subject_in c))
+  claims-refused = fair-run now A A (claims ++ notes) (apart_by_subjects (claims ++ notes) all_differ unsuspected) of_round fair (λ cell epoch. refl) (λ c inside. as_itself A (subject_in c))
 
 module _ (by : ℕ) (now : Moment) (line : ℕ) (s s' : Standing) (r : Report) (h : IsRound by now line s s' r) (apart : StandApart (names_of s.reps)) (none : r.foreign ≡ 0) where
   abbrev R : Rows

@@ -19,22 +19,29 @@ use Rattle.diego_names.specs.declared.key.Key.{Key}
 use Rattle.lrp_records.specs.declared.desired.Desired.{Desired}
 use Rattle.row_tables.proofs.Public.{key-find_row}
 use Rattle.task_records.specs.declared.task.Task.{Task}
+use Rattle.bbs_model.specs.Found.{suspect_in}
 use Rattle.bbs_model.specs.Tables.{find_desired, find_task, task_name_of}
 use Rattle.bbs_model.specs.declared.command.Command.{Command}
 use Rattle.bbs_model.specs.declared.rows.Rows.{Rows}
 use Rattle.convergence.specs.Subjects.{subject_in}
 use Rattle.converge_laws.specs.Accepted.{AreApart}
-use Rattle.converge_laws.proofs.Public.{inside_map, from_map, from_flat_map, subject_for, same_job_as, same_task_as}
+use Rattle.converge_laws.proofs.Public.{inside_first, inside_rest, inside_map, from_map, from_flat_map, subject_for, same_job_as, same_task_as}
 use Rattle.converge_round.specs.Jobs.{job_of_place, job_of_task, named_job}
 use Rattle.converge_round.specs.Places.{job_on, jobs_on}
 use Rattle.converge_round.proofs.Public.{from_kept}
 use Rattle.round_theorem.proofs.ClaimsMade.{about_job}
 use Rattle.round_theorem.proofs.Lists.{Differ, differ_append, one_of_name, kept_inside}
 
--- commands whose subjects differ are apart
-pub apart_by_subjects : (cs : List Command) → Differ (map subject_in cs) → AreApart cs
-apart_by_subjects [] h = tt
-apart_by_subjects (c ∷ cs) h = (λ d inside same. h.0 (subject_in d) (inside_map subject_in cs d inside) same, apart_by_subjects cs h.1)
+-- commands whose subjects differ are apart, where none changes a SUSPECT row
+pub apart_by_subjects : (cs : List Command) → Differ (map subject_in cs) → ((c : Command) → Contains cs c → suspect_in c.op ≡ None) → AreApart cs
+apart_by_subjects [] h plain = tt
+apart_by_subjects (c ∷ cs) h plain = (
+  λ d inside. record {
+    subject = λ same. h.0 (subject_in d) (inside_map subject_in cs d inside) same;
+    suspect = λ key changes about. let none : suspect_in c.op ≡ None = plain c (inside_first c cs) in absurd cc;
+  },
+  apart_by_subjects cs h.1 (λ d inside. plain d (inside_rest d c cs inside)),
+)
 
 -- names that lead to one row are one
 pub one_subject : (a b : JobName) → subject_for a ≡ subject_for b → a ≡ b

@@ -7,7 +7,8 @@ use Rattle.head_codec.specs.declared.fault.HeadFault.{HeadFault}
 use Rattle.head_codec.proofs.HeadLaws.{head_valid}
 use Rattle.head_codec.proofs.reading.read_head.Goals as goal
 
-valid_told : (version : ℕ) (bytes : List ℕ) (r : Result Rows HeadFault) → TellsHead r (head_reading version bytes) → IfOk r IsValid
+valid_told : (version : ℕ) (bytes : List ℕ) (r : Result Rows HeadFault) → TellsHead r (head_reading version bytes)
+    → IfOk r IsValid
 valid_told version bytes (Ok rows) told = head_valid version bytes rows told
 valid_told version bytes (Err fault) told = tt
 

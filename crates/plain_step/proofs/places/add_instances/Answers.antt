@@ -1,9 +1,0 @@
-use Rattle.std.proofs.Common.{ℕ, ◌∙◌}
-use Rattle.lrp_records.specs.declared.presence.Presence.TheVariants.{Ordinary}
-use Rattle.plain_step.proofs.Lists.{made_more}
-use Rattle.plain_step.proofs.places.add_instances.Goals as goal
-
-pub loop-index-preserved : goal.loop-index-preserved
-loop-index-preserved c =
-    c.in_ok-push.ensures.ok
-    ∙ made_more (λ (i : ℕ). (record { process = c.args.desired.now.process; index = i }, Ordinary)) c.args.all.now c.loop-index.all c.loop-index.index c.loop-index.invariant

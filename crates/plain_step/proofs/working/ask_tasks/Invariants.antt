@@ -1,7 +1,0 @@
-use Rattle.std.proofs.Common.{◌≡◌, ◌++◌, map, take}
-use Rattle.std.specs.List.{filter_map}
-use Rattle.bbs_model.specs.Work.{at, task_work}
-use Rattle.plain_step.proofs.working.ask_tasks.Given as goal
-
-abbrev pub invariant-loop-task : goal.invariant-loop-task
-invariant-loop-task l = l.asked ≡ l.fn.asked ++ map (at l.now) (filter_map (task_work l.rows l.now) (take l.task-index l.tasks))
