@@ -1,5 +1,5 @@
 -- What is read as an operation is spelled so, and what is spelled so is read.
-use Rattle.std.proofs.Common.{◌≡◌, ℕ, zero, suc, ◌+◌, ◌-◌, List, [], ◌∷◌, length, Ok, Err, refl, sym, ap, subst, ◌∙◌, ◌≤◌, true, arith}
+use Rattle.std.proofs.Common.{◌≡◌, ℕ, zero, suc, ◌+◌, ◌-◌, List, [], ◌∷◌, length, Ok, Err, refl, sym, ap, subst, ◌∙◌, ◌≤◌, arith}
 use Rattle.std.specs.Prelude.{slice_index_or}
 use Rattle.wire_fields.specs.declared.fault.FieldFault.TheVariants.{BadField}
 use Rattle.wire_fields.specs.Laws.{IsBytes, TextStandsAt}

@@ -1,5 +1,5 @@
 -- The laws of a field hold of a value seen otherwise, and of two and three values.
-use Rattle.std.proofs.Common.{◌≡◌, ℕ, ◌+◌, Bool, true, false, List, nat_eq, length, Result, Ok, refl, sym, ap, subst, ◌∙◌, ◌≤◌, arith, length-append}
+use Rattle.std.proofs.Common.{◌≡◌, ℕ, ◌+◌, true, false, List, nat_eq, length, Result, Ok, refl, sym, ap, subst, ◌∙◌, ◌≤◌, arith, length-append}
 use Rattle.wire_fields.specs.declared.fault.FieldFault.{FieldFault}
 use Rattle.wire_fields.specs.Laws.{TextStandsAt}
 use Rattle.wire_fields.specs.Reading.{◌>>=◌}

@@ -11,7 +11,6 @@ mod single;
 mod states;
 
 pub use old_rows::read_old_actual;
-
 use wire_fields::FieldFault;
 
 /// A value that stands in bytes as fields, one behind the other.

@@ -1,5 +1,5 @@
 //! What the rows of each of the five tables keep.
-ghost use Rattle.std.specs.Prelude.{◌≡◌};
+ghost use Rattle.std.specs.Prelude.{◌≡◌, refl};
 ghost use Rattle.bbs_codec.specs.Formats.{desired};
 ghost use Rattle.bbs_codec.specs.RowFormats.{actual_in, task_row, cell_row, domain_in};
 ghost use Rattle.head_codec.specs.Head.{is_held_before, row_is_running, suits_presence, desired_keep, actual_keep, tasks_keep, cells_keep, domains_keep};
@@ -84,6 +84,8 @@ impl HeadRow for Desired {
     fn stamp(&self) -> Option<u64> {
         None
     }
+
+    ghost latest = { λ row. refl };
 }
 
 impl HeadRow for Actual {
@@ -118,6 +120,8 @@ impl HeadRow for Actual {
     fn stamp(&self) -> Option<u64> {
         None
     }
+
+    ghost latest = { λ row. refl };
 }
 
 impl HeadRow for Task {
@@ -149,6 +153,8 @@ impl HeadRow for Task {
     fn stamp(&self) -> Option<u64> {
         Some(self.birth)
     }
+
+    ghost latest = { λ row. refl };
 }
 
 impl HeadRow for CellRow {
@@ -180,6 +186,8 @@ impl HeadRow for CellRow {
     fn stamp(&self) -> Option<u64> {
         Some(self.epoch)
     }
+
+    ghost latest = { λ row. refl };
 }
 
 impl HeadRow for DomainRow {
@@ -214,4 +222,6 @@ impl HeadRow for DomainRow {
     fn stamp(&self) -> Option<u64> {
         None
     }
+
+    ghost latest = { λ row. refl };
 }

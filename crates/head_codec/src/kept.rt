@@ -40,4 +40,7 @@ pub trait HeadRow: Fields + Rowed {
     /// The number in which it differs from the other rows.
     fn stamp(&self) -> Option<u64>
         ensures { result ≡ option_map (λ stamp. stamp self.now) keeps.stamp };
+
+    // It is written as version 2 has it.
+    ghost latest: { (row : Self) → (formats 2).spelling row ≡ Self.format.spelling row };
 }
