@@ -1,9 +1,11 @@
 -- The version of an area that is read of a disk is one of those that are read.
-use Rattle.std.proofs.Common.{◌≡◌, ℕ, zero, suc, Option, List, [], ◌∷◌, sym, ap, ◌∙◌, subst, refl, Ok}
+use Rattle.std.specs.Prelude.{◌==◌}
+use Rattle.std.proofs.lemmas.Bool.Decides.{nat_tests}
+use Rattle.std.proofs.Common.{◌≡◌, inl, inr, false, arith, ℕ, zero, suc, Option, List, [], ◌∷◌, sym, ap, ◌∙◌, subst, refl, Ok}
 use Rattle.disk_trait.specs.Past.{Image}
 use Rattle.disk_trait.specs.declared.area.Area.{Area}
 use Rattle.disk_trait.specs.declared.area.Area.TheVariants.{A, B}
-use Rattle.bbs_journal.specs.Header.{IsVersion, front, header_of}
+use Rattle.bbs_journal.specs.Header.{IsVersion, newest, front, header_of}
 use Rattle.bbs_journal.specs.Opening.{Headed, headed, active_of, IsOpening}
 use Rattle.bbs_journal.specs.declared.active.Active.{Active}
 use Rattle.bbs_journal.specs.declared.header.Header.{Header}
@@ -36,3 +38,8 @@ pub opening_version : (c : Image) (area : Area) (version generation : ℕ) (head
     → IsOpening c area version generation head payloads broken end → IsVersion version
 opening_version c area version generation head payloads broken end opening =
     headed_version c (record { area = area; version = version; generation = generation; head = head }) opening.head_is
+
+-- what is read and isn't of the first version is of the newest
+pub newest_if_not_first : (version : ℕ) → IsVersion version → (version == 1) ≡ false → version ≡ newest
+newest_if_not_first version (inl first) not_first = absurd (grind (arith, nat_tests))
+newest_if_not_first version (inr second) not_first = second
