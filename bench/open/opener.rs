@@ -8,7 +8,8 @@
 use std::collections::hash_map::{Entry, HashMap};
 use std::fs;
 
-const HEADER: &[u8] = b"\x01DIEGOBBS\x00\x01\x00\x00\x00\x00\x00\x00\x00\x01\x00\x00\x00\x18";
+const HEADER: &[u8] = b"\x01DIEGOBBS\x00\x02\x00\x00\x00\x00\x00\x00\x00\x01\x00\x00\x00\x1c";
+const HEAD: usize = 28;
 const PROCESSES: u32 = 5_000;
 const INSTANCES: u32 = 10;
 
@@ -32,6 +33,7 @@ struct Actual {
     count: u32,
     since: u32,
     error: bool,
+    domain: String,
 }
 
 struct Desired {
@@ -128,7 +130,7 @@ impl Board {
             22 => self.join(&mut r, now)?,
             _ => return None,
         }
-        if !r.bytes.is_empty() || self.next >= 1_000_000 {
+        if !r.bytes.is_empty() || self.next >= 1 << 40 {
             return None;
         }
         self.next += 1;
@@ -168,9 +170,11 @@ impl Board {
 
     fn make(&mut self, r: &mut Reader, now: u32) -> Option<()> {
         let key = Board::key(r)?;
-        if self.desired.get(&key.0)?.instances <= key.1 || self.actual.len() >= 100_000 {
+        let desired = self.desired.get(&key.0)?;
+        if desired.instances <= key.1 || self.actual.len() >= 100_000 {
             return None;
         }
+        let domain = desired.domain.clone();
         match self.actual.entry(key) {
             Entry::Occupied(_) => return None,
             Entry::Vacant(place) => {
@@ -180,6 +184,7 @@ impl Board {
                     count: 0,
                     since: now,
                     error: false,
+                    domain,
                 });
             }
         }
@@ -248,7 +253,7 @@ fn open(file: &str) {
     let area = fs::read(file).expect("the file is read");
     assert!(area[0] != 0 && area[1..23] == HEADER[1..], "the area is a board's");
     let mut board = Board::default();
-    let mut at = 47;
+    let mut at = HEADER.len() + HEAD;
     let mut frames = 0u64;
     while area[at] != 0 {
         let len = usize::from(u16::from_be_bytes([area[at + 1], area[at + 2]]));
@@ -262,7 +267,7 @@ fn open(file: &str) {
         u64::from(d.memory) + u64::from(d.disk) + u64::from(d.port) + d.domain.len() as u64
             + d.tag.iter().chain(&d.route).map(|t| t.len() as u64).sum::<u64>()
     }).sum::<u64>()
-        + board.actual.values().map(|a| u64::from(a.since) + u64::from(a.error) + a.cell.len() as u64).sum::<u64>()
+        + board.actual.values().map(|a| u64::from(a.since) + u64::from(a.error) + a.cell.len() as u64 + a.domain.len() as u64).sum::<u64>()
         + board.cells.values().map(|c| c.until + c.zone.len() as u64 + c.tag.iter().len() as u64 + u64::from(c.totals[0])).sum::<u64>();
     println!("{frames} frames, {} desired, {} actual, next {}, sum {used}", board.desired.len(), board.actual.len(), board.next);
 }
@@ -296,7 +301,7 @@ fn process(n: u32) -> Vec<u8> {
 
 fn make(frames: u64, file: &str) {
     let mut out = Writer { area: HEADER.to_vec() };
-    out.area.extend([0; 24]);
+    out.area.extend([0; HEAD]);
     let number = |n: u32| n.to_be_bytes();
     let cell = name("cell-1");
     let mut left = frames;

@@ -1,6 +1,7 @@
 -- What was loaded is a board, and stands as one.
-use Rattle.std.proofs.Common.{◌≡◌, inl, inr, ℕ, Bool, ◌+◌, ◌≤◌, List, [], ◌∷◌, ◌++◌, length, Option, Some, None, Result, Ok, Err, refl, sym, subst, ◌∙◌, arith}
+use Rattle.std.proofs.Common.{◌≡◌, inl, inr, ℕ, Bool, ◌+◌, ◌≤◌, List, [], ◌∷◌, ◌++◌, length, Option, Some, None, Result, Ok, Err, IfOk, refl, sym, ap, subst, ◌∙◌, arith}
 use Rattle.std.specs.Option.{ForSome}
+use Rattle.wire_fields.specs.Reading.{◌>>=◌}
 use Rattle.wire_fields.proofs.Public.{bind_ok}
 use Rattle.disk_trait.specs.Held.{Has, Leaves}
 use Rattle.disk_trait.specs.Past.{Past, Image, Images, ImagesSince, now, other, content}
@@ -19,7 +20,7 @@ use Rattle.disk_trait.specs.Shows.{Shows, Secures}
 use Rattle.bbs_journal.specs.declared.load_fault.LoadFault.{LoadFault}
 use Rattle.bbs_journal.proofs.Public.{accepted, length-heading, opens_once, recovered, ready}
 use Rattle.bbs_model.specs.declared.rows.Rows.{Rows}
-use Rattle.bbs_board.specs.Opening.{rows_in, followed, board_of, IsBoard, IsRefused}
+use Rattle.bbs_board.specs.Opening.{rows_in, followed, board_of, Blames, IsBoard, IsRefused}
 use Rattle.bbs_board.specs.Kept.{IsFound, Kept}
 use Rattle.bbs_board.specs.View.{Holds}
 use Rattle.bbs_board.proofs.Logs.{reached_end}
@@ -123,6 +124,18 @@ loaded_holds t0 t1 area version generation head payloads broken end rows since g
         rows_are = rows_are;
       });
     }
+
+-- the defect that stands first behind the head of a board is the board's
+pub board_blames : (version : ℕ) (area : Area) (head : List ℕ) (payloads : List (List ℕ)) (broken : Option ℕ) (rows : Rows) (fault : LoadFault) → rows_in version area head ≡ Ok rows
+    → Blames fault (followed version area broken rows (23 + length head) payloads) → Blames fault (board_of version area head payloads broken)
+board_blames version area head payloads broken rows fault read blames =
+    subst (Blames fault) (sym (ap (λ (r : Result Rows LoadFault). r >>= λ start. followed version area broken start (23 + length head) payloads) read)) blames
+
+-- what is shown in the end was shown at first, where a load left the content as it was
+pub shown_before : {B E : Type 0} (result : Result B E) (after : B → Past) (p : Past) (P : B → Image → Type 0)
+    → IfOk result (λ b. (c : Image) → Shows (Some (after b)) c → P b c) → IfOk result (λ b. Secures p (after b)) → IfOk result (λ b. (c : Image) → Shows (Some p) c → P b c)
+shown_before (Ok b) after p P found secures = λ c shows. found c (λ area. secures.keeps.same area ∙ shows area)
+shown_before (Err e) after p P found secures = tt
 
 -- ---- an image is opened in one way
 

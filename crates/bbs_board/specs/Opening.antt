@@ -19,11 +19,6 @@ use Rattle.bbs_model.specs.Tables.{find_desired}
 use Rattle.bbs_model.specs.declared.command.Command.{Command}
 use Rattle.bbs_model.specs.declared.rows.Rows.{Rows}
 
--- what was read of the head of an area, which stands at 23: its rows, or its defect at its place there
-abbrev pub in_area : Area → Result Rows CodecFault → Result Rows LoadFault
-in_area area (Ok rows) = Ok rows
-in_area area (Err fault) = Err (Damaged area (23 + fault_place fault))
-
 -- the row with the domain of its process among these rows, or without one where that isn't desired
 abbrev pub with_domain : Rows → Actual → Actual
 with_domain rows a = record a { domain = domain_of (find_desired rows a.key.process) }
@@ -37,9 +32,14 @@ with_domains rows = record rows { actual = map (with_domain rows) rows.actual }
 abbrev pub settled : ℕ → Rows → Rows
 settled version rows = if version == 1 then with_domains rows else rows
 
+-- what was read of the head of an area, which stands at 23: the rows that it comes to, or its defect at its place there
+abbrev pub in_area : ℕ → Area → Result Rows CodecFault → Result Rows LoadFault
+in_area version area (Ok rows) = Ok (settled version rows)
+in_area version area (Err fault) = Err (Damaged area (23 + fault_place fault))
+
 -- the rows that the head of an area comes to, or its first defect
 abbrev pub rows_in : ℕ → Area → List ℕ → Result Rows LoadFault
-rows_in version area head = in_area area (head_reading version head) >>= λ rows. Ok (settled version rows)
+rows_in version area head = in_area version area (head_reading version head)
 
 -- the rows after a command, where it is legal
 abbrev pub after_legal : Rows → Command → Option Rows

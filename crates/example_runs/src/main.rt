@@ -11,12 +11,14 @@ use std::process::ExitCode;
 const NOT_PLAYED: u8 = 10;
 
 /// The scenarios, in the order of their names.
-const NAMES: [&str; 7] = [
+const NAMES: [&str; 9] = [
     "apps-and-a-migration",
     "crash-loop",
     "first-run",
     "rolling-evacuation",
     "silent-cell",
+    "stale-domain",
+    "suspected-instance",
     "task-outcome-once",
     "two-cells",
 ];

@@ -94,5 +94,5 @@ PrintsPieces script pieces = words_alone script empty ≡ flat_map (λ piece. pi
 -- a run on an empty board writes these payloads behind what the disk reads
 abbrev pub Writes : Script → List (List ℕ) → Type 0
 Writes script payloads =
-    (written_behind empty.base (record { area = A; version = 1; generation = 1; head = []; payloads = [] })
+    (written_behind empty.base (record { area = A; version = 2; generation = 1; head = []; payloads = [] })
     (items_alone script empty)).payloads ≡ payloads
