@@ -2,7 +2,7 @@
 use Rattle.std.specs.List.{IsDistinct}
 use Rattle.std.proofs.Common.{ℕ, ◌≤◌, [], ◌∷◌, arith}
 use Rattle.lrp_records.specs.declared.desired.Desired.{Desired}
-use Rattle.bbs_model.specs.Valid.{AreDesired, AreActual, AreTasks, AreCells}
+use Rattle.bbs_model.specs.Valid.{AreDesired, AreActual, AreTasks, AreCells, AreDomains}
 
 pub one_desired : (row : Desired) → row.instances ≤ 1 → AreDesired (row ∷ [])
 one_desired row few = record { rising = tt; few = omega arith; each = (omega arith, tt); wanted = omega arith }
@@ -17,3 +17,6 @@ no_tasks next = record { rising = tt; few = omega arith; each = tt; births = tt 
 pub no_cells : (next : ℕ) → AreCells next []
 unfolding IsDistinct
 no_cells next = record { rising = tt; few = omega arith; each = tt; epochs = tt }
+
+pub no_domains : AreDomains []
+no_domains = record { rising = tt; few = omega arith }

@@ -10,7 +10,8 @@ use Rattle.lrp_records.specs.declared.desired.Desired.{Desired}
 use Rattle.lrp_records.specs.declared.presence.Presence.TheVariants.{Ordinary}
 use Rattle.lrp_records.specs.declared.state.LrpState.TheVariants.{Claimed}
 use Rattle.bbs_model.specs.Tables.{no_rows}
-use Rattle.bbs_model.specs.Valid.{IsValid, AreDesired, AreActual, AreTasks, AreCells}
+use Rattle.bbs_model.specs.Valid.{IsValid, AreDesired, AreActual, AreTasks, AreCells, AreDomains}
+use Rattle.bbs_model.specs.declared.domain_row.DomainRow.{DomainRow}
 
 -- the names of the board
 abbrev pub web : List ℕ
@@ -26,7 +27,7 @@ abbrev pub wants : (process domain : List ℕ) → ℕ → Desired
 wants process domain instances = record { process = process; domain = domain; instances = instances; memory = 64; disk = 128; tag = None; route = None; port = 8080 }
 
 abbrev pub claim : List ℕ → ℕ → ℕ → ℕ → List ℕ → Moment → Actual
-claim process index epoch number cell since = record { key = record { process = process; index = index }; presence = Ordinary; state = Claimed (record { epoch = epoch; number = number }) cell; count = 0; since = since; error = false }
+claim process index epoch number cell since = record { key = record { process = process; index = index }; presence = Ordinary; state = Claimed (record { epoch = epoch; number = number }) cell; count = 0; since = since; error = false; domain = None }
 
 abbrev pub joined : List ℕ → List ℕ → Amounts → ℕ → CellRow
 joined cell zone totals epoch = record { cell = cell; zone = zone; tag = None; totals = totals; epoch = epoch; until = 600; evacuating = false }
@@ -53,6 +54,9 @@ cells_board z1 z2 totals = record {
   epochs = IsDistinct-cons nat_eq 0 (1 ∷ []) (refl, tt) (IsDistinct-cons nat_eq 1 [] tt none_alike);
 }
 
+pub domains_board : (row : DomainRow) → AreDomains (row ∷ [])
+domains_board row = record { rising = tt; few = omega arith }
+
 pub tasks_board : (next : ℕ) → AreTasks next []
 tasks_board next = record { rising = tt; few = omega arith; each = tt; births = none_alike }
 
@@ -63,6 +67,7 @@ desired_alone rows desired = record {
   actual = record { rising = tt; few = omega arith; each = tt };
   tasks = tasks_board 0;
   cells = record { rising = tt; few = omega arith; each = tt; epochs = none_alike };
+  domains = record { rising = tt; few = omega arith };
   next = omega arith;
 }
 

@@ -9,4 +9,6 @@ mod laws;
 #[cfg(test)]
 mod plain;
 #[cfg(test)]
+mod rows;
+#[cfg(test)]
 mod tests;

@@ -2,11 +2,13 @@
 //! makes the port and lends it.
 ghost use Rattle.bbs_model.specs.Valid.{IsValid};
 
+use crate::rows::unclaimed;
 use bbs_laws::first_board_is_valid;
 use bbs_model::{BoardRefusal, Change, Command, Event, Op, Port, Reply, Row, Rows};
+use cell_records::Amounts;
 use crash_backoff::Moment;
-use diego_names::{Key, List, Name};
-use lrp_records::Desired;
+use diego_names::{Instance, Key, List, Name};
+use lrp_records::{Actual, Desired, LrpState, Presence};
 use plain_step::{PlainPort, call_twice};
 use std::alloc::Global;
 use std::process::Abort;
@@ -21,6 +23,7 @@ fn first_board(alloc: Global) -> Rows
         actual: List::new(alloc),
         tasks: List::new(alloc),
         cells: List::new(alloc),
+        domains: List::new(alloc),
         next: 0,
     }
 }
@@ -133,4 +136,111 @@ fn both_are_heard(rt: &impl Abort, alloc: Global, port: &mut PlainPort) -> Resul
 fn two_calls_over_a_port_are_heard(rt: HostRuntime) -> Result<(), Fail> {
     let mut port = port(rt.alloc())?;
     both_are_heard(&rt, rt.alloc(), &mut port)
+}
+
+const OWN: Instance = Instance {
+    epoch: 0,
+    number: 1,
+};
+
+// A cell joins whose lease ends at once.
+fn join(cell: Name) -> Command {
+    let totals = Amounts {
+        memory: 1024,
+        disk: 4096,
+        containers: 10,
+    };
+    let op = Op::Join {
+        cell,
+        zone: cell,
+        tag: None,
+        totals,
+        ttl: 0,
+    };
+    at(0, op)
+}
+
+fn start(process: Name, cell: Name) -> Command {
+    let key = Key { process, index: 0 };
+    let op = Op::Start {
+        key,
+        instance: OWN,
+        cell,
+    };
+    at(2, op)
+}
+
+fn suspect(process: Name) -> Command {
+    let key = Key { process, index: 0 };
+    let op = Op::Suspect { key, instance: OWN };
+    at(3, op)
+}
+
+// An instance runs on a cell until it is suspected.
+fn suspicion(web: Name) -> [Command; 5] {
+    [
+        join(web),
+        desire(web),
+        make(web, 0),
+        start(web, web),
+        suspect(web),
+    ]
+}
+
+fn event(change: Change, row: Actual) -> Event {
+    let row = Row::Actual(row);
+    Event { change, row }
+}
+
+// The ORDINARY row of the instance, in the domain of its process.
+fn ordinary(process: Name, since: u32) -> Actual {
+    Actual {
+        domain: Some(process),
+        ..unclaimed(process, 0, since)
+    }
+}
+
+fn kept_aside(process: Name, cell: Name) -> Actual {
+    let state = LrpState::Running {
+        instance: OWN,
+        cell,
+    };
+    Actual {
+        presence: Presence::Suspect,
+        state,
+        ..ordinary(process, 2)
+    }
+}
+
+// The SUSPECT row is told before the ORDINARY row, and both keep the domain.
+fn told_of_a_suspicion(web: Name) -> [Event; 2] {
+    [
+        event(Change::Created, kept_aside(web, web)),
+        event(Change::Changed, ordinary(web, 3)),
+    ]
+}
+
+// Whether so many changes are heard in all, and these are the last of them.
+fn hears_last<P: Port>(
+    alloc: Global,
+    port: &mut P,
+    count: usize,
+    last: &[Event],
+) -> Result<bool, Fail> {
+    let heard = port.events(alloc, 0, 10)?;
+    let events = heard.events.items();
+    Ok(events.len() == count && events.ends_with(last))
+}
+
+fn two_changes_are_heard(rt: &impl Abort, alloc: Global, port: &mut PlainPort) -> Result<(), Fail> {
+    let web = Name::read(b"web")?;
+    call_each(rt, port, 0, &suspicion(web));
+    assert!(rt; hears_last(alloc, port, 6, &told_of_a_suspicion(web))?);
+    Ok(())
+}
+
+#[test]
+fn a_suspicion_is_heard_as_two_changes(rt: HostRuntime) -> Result<(), Fail> {
+    let mut port = port(rt.alloc())?;
+    two_changes_are_heard(&rt, rt.alloc(), &mut port)
 }

@@ -4,11 +4,11 @@ ghost use Rattle.lrp_records.specs.declared.presence.Presence.TheVariants as pre
 ghost use Rattle.lrp_records.specs.declared.state.LrpState.TheVariants as states;
 ghost use Rattle.bbs_model.specs.Valid.{IsValid};
 
-use bbs_model::Rows;
+use crate::rows::unclaimed;
+use bbs_model::{DomainRow, Rows};
 use cell_records::{Amounts, CellRow};
-use crash_backoff::Moment;
-use diego_names::{Instance, Key, List, Name};
-use lrp_records::{Actual, Desired, LrpState, Presence};
+use diego_names::{Instance, List, Name};
+use lrp_records::{Actual, Desired, LrpState};
 use std::alloc::Global;
 use std::test::Fail;
 
@@ -46,18 +46,13 @@ pub(crate) fn claimed(process: Name, index: u32, epoch: u64, number: u32, cell: 
       count = 0;
       since = record { 0 = 1 };
       error = false;
+      domain = None;
     } }
 {
+    let instance = Instance { epoch, number };
     Actual {
-        key: Key { process, index },
-        presence: Presence::Ordinary,
-        state: LrpState::Claimed {
-            instance: Instance { epoch, number },
-            cell,
-        },
-        count: 0,
-        since: Moment(1),
-        error: false,
+        state: LrpState::Claimed { instance, cell },
+        ..unclaimed(process, index, 1)
     }
 }
 
@@ -84,6 +79,16 @@ pub(crate) fn cell(cell: Name, zone: Name, totals: Amounts, epoch: u64) -> CellR
     }
 }
 
+// A domain that is fresh for ever.
+fn vouched(domain: Name) -> DomainRow
+    ensures { result ≡ record { domain = domain; until = None } }
+{
+    DomainRow {
+        domain,
+        until: None,
+    }
+}
+
 // The rows after the round.
 pub(crate) fn board(alloc: Global) -> Result<Rows, Fail>
     ensures { IfOk result IsValid }
@@ -91,6 +96,7 @@ pub(crate) fn board(alloc: Global) -> Result<Rows, Fail>
     let process = Name::read(b"web")?;
     let c1 = Name::read(b"c1")?;
     let c2 = Name::read(b"c2")?;
+    let apps = Name::read(b"apps")?;
     let totals = Amounts {
         memory: 1024,
         disk: 4096,
@@ -105,12 +111,14 @@ pub(crate) fn board(alloc: Global) -> Result<Rows, Fail>
         cell(c1, Name::read(b"z1")?, totals, 0),
         cell(c2, Name::read(b"z2")?, totals, 1),
     ]?;
-    let desired = vec![in alloc; desired(process, Name::read(b"apps")?, 3)]?;
+    let desired = vec![in alloc; desired(process, apps, 3)]?;
+    let domains = vec![in alloc; vouched(apps)]?;
     Ok(Rows {
         desired: List::from(desired),
         actual: List::from(actual),
         tasks: List::new(alloc),
         cells: List::from(cells),
+        domains: List::from(domains),
         next: 9,
     })
 }

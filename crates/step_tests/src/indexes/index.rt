@@ -4,7 +4,7 @@ ghost use Rattle.bbs_model.specs.Valid.{IsValid};
 
 use super::boards::{board, desired};
 use bbs_index::Index;
-use bbs_model::{RowStore, Rows};
+use bbs_model::{DomainRow, RowStore, Rows};
 use diego_names::{Key, Name};
 use lrp_records::Presence;
 use std::alloc::Global;
@@ -21,6 +21,7 @@ fn are_the_boards(rt: &impl Abort, again: &Rows, rows: &Rows) {
     assert_eq!(rt; again.desired.items(), rows.desired.items());
     assert_eq!(rt; again.actual.items(), rows.actual.items());
     assert_eq!(rt; again.cells.items(), rows.cells.items());
+    assert_eq!(rt; again.domains.items(), rows.domains.items());
     assert!(rt; again.tasks.is_empty());
     assert_eq!(rt; again.next, 9);
 }
@@ -104,4 +105,39 @@ fn are_counted(rt: &impl Abort, index: &mut Index) -> Result<(), Fail>
 fn the_counts_follow_a_put_at_a_known_key_and_a_removal(rt: HostRuntime) -> Result<(), Fail> {
     let mut index = Index::new(rt.alloc());
     are_counted(&rt, &mut index)
+}
+
+fn vouched(domain: Name, until: Option<u64>) -> DomainRow {
+    DomainRow { domain, until }
+}
+
+// The second at which the domain ends, where it is there.
+fn end_of(index: &Index, domain: &Name) -> Option<Option<u64>> {
+    match index.domain(domain) {
+        Some(row) => Some(row.until),
+        None => None,
+    }
+}
+
+fn put(index: &mut Index, row: DomainRow) -> Result<(), Fail> {
+    index.reserve(1)?;
+    index.put_domain(row);
+    Ok(())
+}
+
+// Puts a domain twice and takes it away, and checks what is found.
+fn is_found(rt: &impl Abort, index: &mut Index) -> Result<(), Fail> {
+    let apps = Name::read(b"apps")?;
+    put(index, vouched(apps, Some(10)))?;
+    put(index, vouched(apps, None))?;
+    assert_eq!(rt; end_of(index, &apps), Some(None));
+    index.remove_domain(&apps);
+    assert_eq!(rt; end_of(index, &apps), None);
+    Ok(())
+}
+
+#[test]
+fn a_domain_is_found_as_it_was_put_last(rt: HostRuntime) -> Result<(), Fail> {
+    let mut index = Index::new(rt.alloc());
+    is_found(&rt, &mut index)
 }

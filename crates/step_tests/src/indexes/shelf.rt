@@ -1,11 +1,11 @@
 ghost use Rattle.std.specs.FinMap.{nat_cmp-IsAntisymmetric};
 ghost use Rattle.std.specs.Cmp.{nat_cmp_total};
 
+use crate::rows::unclaimed;
 use bbs_index::Shelf;
 use bbs_model::Rowed;
-use crash_backoff::Moment;
-use diego_names::{Key, Name};
-use lrp_records::{Actual, Desired, LrpState, Presence};
+use diego_names::Name;
+use lrp_records::{Actual, Desired, Presence};
 use std::alloc::Global;
 use std::process::Abort;
 use std::test::Fail;
@@ -91,44 +91,41 @@ fn a_removal_takes_one_row(rt: HostRuntime) -> Result<(), Fail> {
     loses_one(&rt, &mut shelf)
 }
 
-fn put_both(shelf: &mut Shelf<Actual>) -> Result<(), Fail> {
-    let process = Name::read(b"web")?;
+fn put_each(shelf: &mut Shelf<Actual>) -> Result<(), Fail> {
+    let ordinary = unclaimed(Name::read(b"web")?, 0, 0);
     let evacuating = Actual {
-        key: Key { process, index: 0 },
         presence: Presence::Evacuating,
-        state: LrpState::Unclaimed,
-        count: 0,
-        since: Moment(0),
-        error: false,
+        ..ordinary
     };
-    let ordinary = Actual {
-        presence: Presence::Ordinary,
-        ..evacuating
+    let suspect = Actual {
+        presence: Presence::Suspect,
+        ..ordinary
     };
-    shelf.reserve(2)?;
+    shelf.reserve(3)?;
+    shelf.put(suspect);
     shelf.put(evacuating);
     shelf.put(ordinary);
     Ok(())
 }
 
-// Checks that these are an ORDINARY row and an EVACUATING one.
-fn are_both(rt: &impl Abort, rows: &[Actual]) {
-    assert_eq!(rt; rows.len(), 2);
-    for (row, wanted) in rows.iter().zip([0, 1]) {
+// Checks that these are an ORDINARY row, an EVACUATING and a SUSPECT one.
+fn are_three(rt: &impl Abort, rows: &[Actual]) {
+    assert_eq!(rt; rows.len(), 3);
+    for (row, wanted) in rows.iter().zip([0, 1, 2]) {
         assert_eq!(rt; row.presence.rank(), wanted);
     }
 }
 
-fn keeps_both(rt: &impl Abort, alloc: Global, shelf: &mut Shelf<Actual>) -> Result<(), Fail> {
-    put_both(shelf)?;
-    are_both(rt, shelf.rows(alloc)?.as_slice());
+fn keeps_each(rt: &impl Abort, alloc: Global, shelf: &mut Shelf<Actual>) -> Result<(), Fail> {
+    put_each(shelf)?;
+    are_three(rt, shelf.rows(alloc)?.as_slice());
     Ok(())
 }
 
 #[test]
-fn an_instance_keeps_both_of_its_rows(rt: HostRuntime) -> Result<(), Fail> {
+fn an_instance_keeps_each_of_its_rows(rt: HostRuntime) -> Result<(), Fail> {
     let mut shelf = Shelf::new(rt.alloc());
-    keeps_both(&rt, rt.alloc(), &mut shelf)
+    keeps_each(&rt, rt.alloc(), &mut shelf)
 }
 
 // A row that is its own number, beside another.

@@ -14,10 +14,12 @@ use plain_step::run_all;
 use std::alloc::Global;
 use std::process::Abort;
 use std::test::Fail;
+use suspicion::{domains, suspicions};
 use tasks::two_tasks;
 
 mod commands;
 mod instances;
+mod suspicion;
 mod tasks;
 
 fn first_board(alloc: Global) -> Rows
@@ -29,6 +31,7 @@ fn first_board(alloc: Global) -> Rows
         actual: List::new(alloc),
         tasks: List::new(alloc),
         cells: List::new(alloc),
+        domains: List::new(alloc),
         next: 0,
     }
 }
@@ -63,6 +66,7 @@ fn are_alike(one: &Rows, other: &Rows) -> bool {
         && one.actual.items() == other.actual.items()
         && one.tasks.items() == other.tasks.items()
         && one.cells.items() == other.cells.items()
+        && one.domains.items() == other.domains.items()
         && one.next == other.next
 }
 
@@ -127,6 +131,8 @@ fn all_run_alike(rt: &impl Abort, alloc: Global, rows: &mut Rows) -> Result<(), 
     run_alike(rt, alloc, rows, &crashes(&n), 13)?;
     run_alike(rt, alloc, rows, &two_tasks(&n), 10)?;
     run_alike(rt, alloc, rows, &end_of_a_process(&n), 8)?;
+    run_alike(rt, alloc, rows, &suspicions(&n), 8)?;
+    run_alike(rt, alloc, rows, &domains(n.web), 3)?;
     Ok(())
 }
 

@@ -1,19 +1,23 @@
 //! What each command comes to, by what a board has at its keys.
+use crate::rows::unclaimed as new_row;
 use bbs_model::{
-    Attempt, BoardRefusal, Command, Counts, Edit, Found, Op, Row, Verdict, attempt_at, judge,
+    Attempt, BoardRefusal, Command, Counts, DomainRow, Edit, Found, Op, Row, Verdict, attempt_at,
+    judge,
 };
 use cell_records::{Amounts, CellRow};
 use crash_backoff::Moment;
-use diego_names::{Instance, Key, Name, NameFault};
+use diego_names::{Instance, Key, Name, NameFault, StateName};
 use lrp_records::{Actual, Desired, LrpRefusal, LrpState, Presence};
 use std::process::Abort;
 use std::test::Fail;
 use task_records::{Task, TaskRefusal, TaskState};
 
 mod cells;
+mod domains;
 mod evacuation;
 mod lrps;
 mod processes;
+mod suspicion;
 mod tasks;
 
 // The moment of each command below.
@@ -34,20 +38,27 @@ const NO_ROWS: Found = Found {
     desired: None,
     ordinary: None,
     evacuating: None,
+    suspect: None,
     task: None,
     cell: None,
+    domain: None,
     counts: Counts {
         desired: 0,
         wanted: 0,
         actual: 0,
         tasks: 0,
         cells: 0,
+        domains: 0,
     },
     next: 17,
 };
 
 fn web() -> Result<Name, NameFault> {
     Name::read(b"web")
+}
+
+fn apps() -> Result<Name, NameFault> {
+    Name::read(b"apps")
 }
 
 fn c1() -> Result<Name, NameFault> {
@@ -107,10 +118,14 @@ fn a_full_board_refuses_only_what_would_change_it(rt: HostRuntime) -> Result<(),
     let unknown = refuse(BoardRefusal::Unknown);
     let full = Verdict::Refused(BoardRefusal::BoardFull);
     for (next, attempt, want) in [
-        (999_999, change, Verdict::Ok),
-        (1_000_000, change, full),
-        (1_000_000, Attempt::Keep, Verdict::Same),
-        (1_000_000, unknown, Verdict::Refused(BoardRefusal::Unknown)),
+        (1_099_511_627_775, change, Verdict::Ok),
+        (1_099_511_627_776, change, full),
+        (1_099_511_627_776, Attempt::Keep, Verdict::Same),
+        (
+            1_099_511_627_776,
+            unknown,
+            Verdict::Refused(BoardRefusal::Unknown),
+        ),
     ] {
         assert_eq!(rt; judge(next, &attempt), want);
     }

@@ -1,21 +1,36 @@
 //! The life of a board by the plain step.
 ghost use Rattle.bbs_model.specs.Valid.{IsValid};
 
+use crate::rows::unclaimed;
 use bbs_laws::first_board_is_valid;
-use bbs_model::{Command, Op, Rows, Verdict};
+use bbs_model::{BoardRefusal, Command, DomainRow, Op, Rows, Verdict};
 use cell_records::Amounts;
 use crash_backoff::Moment;
 use diego_names::{Instance, Key, List, Name};
-use lrp_records::Desired;
+use lrp_records::{Actual, Desired, LrpRefusal, LrpState, Presence};
 use plain_step::run_all;
 use std::alloc::Global;
 use std::process::Abort;
 use std::test::Fail;
 
+mod domains;
 mod kinds;
 mod lives;
+mod suspicion;
 
 const OK: Verdict = Verdict::Ok;
+
+const SAME: Verdict = Verdict::Same;
+
+const UNKNOWN: Verdict = Verdict::Refused(BoardRefusal::Unknown);
+
+fn refused(why: BoardRefusal) -> Verdict {
+    Verdict::Refused(why)
+}
+
+fn lrp(why: LrpRefusal) -> Verdict {
+    Verdict::Refused(BoardRefusal::Lrp(why))
+}
 
 // The board at the beginning of its life.
 fn no_rows(alloc: Global) -> Rows
@@ -27,6 +42,7 @@ fn no_rows(alloc: Global) -> Rows
         actual: List::new(alloc),
         tasks: List::new(alloc),
         cells: List::new(alloc),
+        domains: List::new(alloc),
         next: 0,
     }
 }
@@ -172,6 +188,39 @@ fn evacuate(process: Name, index: u32, instance: Instance) -> Op {
 fn drop_evacuating(process: Name, index: u32, instance: Instance) -> Op {
     let key = Key { process, index };
     Op::DropEvacuating { key, instance }
+}
+
+fn suspect(process: Name, index: u32, instance: Instance) -> Op {
+    let key = Key { process, index };
+    Op::Suspect { key, instance }
+}
+
+fn drop_suspect(process: Name, index: u32, instance: Instance) -> Op {
+    let key = Key { process, index };
+    Op::DropSuspect { key, instance }
+}
+
+fn fresh(domain: Name, ttl: u32) -> Op {
+    Op::Fresh { domain, ttl }
+}
+
+fn forget(domain: Name) -> Op {
+    Op::Forget { domain }
+}
+
+// An instance that runs since the beginning.
+fn running(process: Name, index: u32, domain: Name, instance: Instance, cell: Name) -> Actual {
+    let state = LrpState::Running { instance, cell };
+    Actual {
+        state,
+        domain: Some(domain),
+        ..unclaimed(process, index, 0)
+    }
+}
+
+fn since(second: u32, row: Actual) -> Actual {
+    let since = Moment(second);
+    Actual { since, ..row }
 }
 
 fn new_task(name: Name) -> Op {

@@ -48,6 +48,7 @@ fn board(alloc: Global, web: Name, next: u64) -> Result<Rows, Fail>
         actual: List::new(alloc),
         tasks: List::new(alloc),
         cells: List::new(alloc),
+        domains: List::new(alloc),
         next,
     })
 }
@@ -82,7 +83,7 @@ fn a_desire_is_refused_by_the_first_cause(rt: HostRuntime) -> Result<(), Fail> {
     let exists = Verdict::Refused(BoardRefusal::Exists);
     assert_eq!(rt; desire(alloc, 9, web, api, 1000)?, Verdict::Ok);
     assert_eq!(rt; desire(alloc, 9, web, api, 1001)?, many);
-    assert_eq!(rt; desire(alloc, 1_000_000, web, api, 1)?, full);
-    assert_eq!(rt; desire(alloc, 1_000_000, web, web, 1)?, exists);
+    assert_eq!(rt; desire(alloc, 1_099_511_627_776, web, api, 1)?, full);
+    assert_eq!(rt; desire(alloc, 1_099_511_627_776, web, web, 1)?, exists);
     Ok(())
 }

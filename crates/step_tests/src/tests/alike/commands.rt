@@ -62,7 +62,7 @@ pub(crate) fn process(process: Name, instances: u32) -> Desired {
     }
 }
 
-fn join(cell: Name) -> Op {
+pub(crate) fn join(cell: Name) -> Op {
     let totals = Amounts {
         memory: 1024,
         disk: 4096,
@@ -82,7 +82,7 @@ fn renew(cell: Name, epoch: u64) -> Op {
     Op::Renew { cell, epoch, ttl }
 }
 
-fn desire(process_name: Name) -> Op {
+pub(crate) fn desire(process_name: Name) -> Op {
     let desired = process(process_name, 2);
     Op::Desire { desired }
 }

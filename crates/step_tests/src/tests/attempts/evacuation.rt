@@ -1,6 +1,5 @@
 use super::lrps::{claimed, lrp, running, unclaimed};
 use super::*;
-use diego_names::StateName;
 
 // The two rows of an instance, on a board with so many actual rows.
 fn rows(ordinary: Option<Actual>, evacuating: Option<Actual>, actual: u32) -> Found {

@@ -1,16 +1,11 @@
 use super::*;
-use diego_names::StateName;
 
-// An instance that no container has, since the moment 100.
+// An instance that no container has, since the moment 100, in the domain of its process.
 pub fn unclaimed() -> Result<Actual, NameFault> {
-    let process = web()?;
+    let domain = apps()?;
     Ok(Actual {
-        key: Key { process, index: 2 },
-        presence: Presence::Ordinary,
-        state: LrpState::Unclaimed,
-        count: 0,
-        since: Moment(100),
-        error: false,
+        domain: Some(domain),
+        ..new_row(web()?, 2, 100)
     })
 }
 

@@ -4,7 +4,7 @@ fn desired(instances: u32) -> Result<Desired, NameFault> {
     let process = web()?;
     Ok(Desired {
         process,
-        domain: process,
+        domain: apps()?,
         instances,
         memory: 64,
         disk: 128,
@@ -140,7 +140,7 @@ fn wanted(instances: u32, actual: u32) -> Result<Found, NameFault> {
     })
 }
 
-// The row that is made of an instance.
+// The row that is made of an instance, in the domain of its process.
 fn made() -> Result<Actual, NameFault> {
     Ok(Actual {
         since: NOW,

@@ -1,5 +1,4 @@
 use super::*;
-use diego_names::StateName;
 
 // A task that no cell has, since the moment 380.
 fn pending() -> Result<Task, NameFault> {

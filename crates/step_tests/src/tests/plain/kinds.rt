@@ -1,30 +1,16 @@
 ghost use Rattle.bbs_model.specs.Valid.{IsValid};
 
 use super::*;
-use bbs_model::BoardRefusal;
 use diego_names::StateName;
-use lrp_records::LrpRefusal;
 use task_records::TaskRefusal;
 
-const SAME: Verdict = Verdict::Same;
-
 const EXISTS: Verdict = Verdict::Refused(BoardRefusal::Exists);
-
-const UNKNOWN: Verdict = Verdict::Refused(BoardRefusal::Unknown);
 
 // The container that each command below names.
 const OWN: Instance = Instance {
     epoch: 0,
     number: 1,
 };
-
-fn refused(why: BoardRefusal) -> Verdict {
-    Verdict::Refused(why)
-}
-
-fn lrp(why: LrpRefusal) -> Verdict {
-    Verdict::Refused(BoardRefusal::Lrp(why))
-}
 
 fn key(process: Name) -> Key {
     Key { process, index: 0 }
@@ -163,6 +149,38 @@ fn parting(n: &Names) -> [(u32, Op, Verdict); 7] {
     ]
 }
 
+// The cell has come anew, goes silent and leaves a SUSPECT row behind, which is dropped.
+fn suspecting(n: &Names) -> [(u32, Op, Verdict); 10] {
+    let own = container(34, 1);
+    let holds = BoardRefusal::LeaseHolds { until: 1600 };
+    [
+        (1000, join(n.c1, n.z1, (1024, 4096, 10), 600), OK),
+        (1000, desire(n.p, n.z1, 1), OK),
+        (1000, make(n.p, 0), OK),
+        (1001, start(n.p, 0, own, n.c1), OK),
+        (1599, suspect(n.p, 0, own), refused(holds)),
+        (1600, suspect(n.p, 0, own), OK),
+        (1600, suspect(n.p, 0, own), SAME),
+        (1601, drop_suspect(n.p, 0, own), OK),
+        (1601, drop_suspect(n.p, 0, own), UNKNOWN),
+        (1601, Op::Undesire { process: n.p }, OK),
+    ]
+}
+
+// A domain is fresh for ten seconds, and forgotten with all else.
+fn forgetting(n: &Names) -> [(u32, Op, Verdict); 7] {
+    let holds = BoardRefusal::LeaseHolds { until: 1710 };
+    [
+        (1700, fresh(n.z1, 10), OK),
+        (1700, fresh(n.z1, 10), SAME),
+        (1709, forget(n.z1), refused(holds)),
+        (1710, forget(n.z1), OK),
+        (1710, forget(n.z1), UNKNOWN),
+        (1710, remove(n.p), OK),
+        (1710, Op::Vanish { cell: n.c1 }, OK),
+    ]
+}
+
 fn all_come_to(rt: &impl Abort, alloc: Global, rows: &mut Rows) -> Result<(), Fail>
     requires { IsValid rows.old }
 {
@@ -172,9 +190,12 @@ fn all_come_to(rt: &impl Abort, alloc: Global, rows: &mut Rows) -> Result<(), Fa
     each_comes_to(rt, alloc, rows, &leaving(&n))?;
     each_comes_to(rt, alloc, rows, &tasks(&n))?;
     each_comes_to(rt, alloc, rows, &parting(&n))?;
+    assert_eq!(rt; rows.next, 34);
+    each_comes_to(rt, alloc, rows, &suspecting(&n))?;
+    each_comes_to(rt, alloc, rows, &forgetting(&n))?;
     assert_eq!(rt; (rows.desired.len(), rows.actual.len()), (0, 0));
     assert_eq!(rt; (rows.tasks.len(), rows.cells.len()), (0, 0));
-    assert_eq!(rt; rows.next, 34);
+    assert_eq!(rt; (rows.domains.len(), rows.next), (0, 45));
     Ok(())
 }
 

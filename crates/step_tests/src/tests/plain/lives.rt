@@ -1,26 +1,18 @@
 ghost use Rattle.bbs_model.specs.Valid.{IsValid};
 
 use super::*;
-use lrp_records::{Actual, LrpState, Presence};
 
 const SMALL: (u32, u32, u32) = (1024, 4096, 10);
 
 const LARGE: (u32, u32, u32) = (4096, 16384, 50);
 
-// The ORDINARY row of an instance.
-fn row(process: Name, index: u32, state: LrpState, since: u32, count: u32) -> Actual {
+fn claimed(process: Name, index: u32, domain: Name, instance: Instance, cell: Name) -> Actual {
+    let state = LrpState::Claimed { instance, cell };
     Actual {
-        key: Key { process, index },
-        presence: Presence::Ordinary,
         state,
-        count,
-        since: Moment(since),
-        error: false,
+        domain: Some(domain),
+        ..unclaimed(process, index, 1)
     }
-}
-
-fn claimed(process: Name, index: u32, instance: Instance, cell: Name) -> Actual {
-    row(process, index, LrpState::Claimed { instance, cell }, 1, 0)
 }
 
 // Two cells join, and a process of three instances is placed on them.
@@ -49,9 +41,9 @@ fn place(rt: &impl Abort, alloc: Global, rows: &mut Rows) -> Result<(), Fail>
     let cells = rows.cells.items().iter().map(|row| (row.epoch, row.until));
     assert!(rt; cells.eq([(0, 600), (1, 600)]));
     let placed = [
-        claimed(web, 0, container(0, 1), n.c1),
-        claimed(web, 1, container(1, 1), n.c2),
-        claimed(web, 2, container(0, 2), n.c1),
+        claimed(web, 0, apps, container(0, 1), n.c1),
+        claimed(web, 1, apps, container(1, 1), n.c2),
+        claimed(web, 2, apps, container(0, 2), n.c1),
     ];
     assert_eq!(rt; rows.actual.items(), placed.as_slice());
     Ok(())
@@ -127,8 +119,8 @@ fn live(rt: &impl Abort, alloc: Global, rows: &mut Rows) -> Result<(), Fail>
     requires { IsValid rows.old }
 {
     let n = all_names()?;
-    let wishes = joins_and_wishes(&n, Name::read(b"cf-apps")?);
-    each_comes_to(rt, alloc, rows, &wishes)?;
+    let apps = Name::read(b"cf-apps")?;
+    each_comes_to(rt, alloc, rows, &joins_and_wishes(&n, apps))?;
     let births = rows.tasks.items().iter().map(|task| task.birth);
     assert!(rt; births.eq([6]));
     each_comes_to(rt, alloc, rows, &placements(&n))?;
@@ -137,7 +129,7 @@ fn live(rt: &impl Abort, alloc: Global, rows: &mut Rows) -> Result<(), Fail>
     assert_eq!(rt; (rows.tasks.len(), rows.actual.len()), (0, 5));
     each_comes_to(rt, alloc, rows, &placements_anew(&n))?;
     assert_eq!(rt; rows.next, 31);
-    assert_eq!(rt; rows.actual.items(), last_rows(&n).as_slice());
+    assert_eq!(rt; rows.actual.items(), last_rows(&n, apps).as_slice());
     Ok(())
 }
 
@@ -147,20 +139,18 @@ fn a_board_lives_through_a_crash_and_an_evacuation(rt: HostRuntime) -> Result<()
     live(&rt, rt.alloc(), &mut rows)
 }
 
-fn runs(instance: Instance, cell: Name) -> LrpState {
-    LrpState::Running { instance, cell }
-}
-
 // What runs at the end, of which one has crashed once.
-fn last_rows(n: &Names) -> [Actual; 4] {
-    let p0 = runs(container(1, 2), n.c2);
-    let p1 = runs(container(0, 2), n.c1);
-    let p2 = runs(container(2, 2), n.c3);
-    let q0 = runs(container(0, 1), n.c1);
+fn last_rows(n: &Names, apps: Name) -> [Actual; 4] {
+    let crashed = running(n.p, 0, apps, container(1, 2), n.c2);
+    let p2 = running(n.p, 2, apps, container(2, 2), n.c3);
+    let q0 = running(n.q, 0, apps, container(0, 1), n.c1);
     [
-        row(n.p, 0, p0, 35, 1),
-        row(n.p, 1, p1, 35, 0),
-        row(n.p, 2, p2, 5, 0),
-        row(n.q, 0, q0, 5, 0),
+        Actual {
+            count: 1,
+            ..since(35, crashed)
+        },
+        since(35, running(n.p, 1, apps, container(0, 2), n.c1)),
+        since(5, p2),
+        since(5, q0),
     ]
 }

@@ -1,7 +1,7 @@
 use Rattle.std.proofs.Common.{◌≡◌, None, [], ◌∷◌, sym, ap, subst, ◌∙◌, arith}
 use Rattle.lrp_records.specs.declared.desired.Desired.{Desired}
-use Rattle.bbs_model.specs.Valid.{AreDesired, AreActual, AreTasks, AreCells}
-use Rattle.step_tests.proofs.Boards.{one_desired, no_actual, no_tasks, no_cells}
+use Rattle.bbs_model.specs.Valid.{AreDesired, AreActual, AreTasks, AreCells, AreDomains}
+use Rattle.step_tests.proofs.Boards.{one_desired, no_actual, no_tasks, no_cells, no_domains}
 use Rattle.step_tests.proofs.tests.verdicts.board.Goals as goal
 
 pub returns : goal.returns
@@ -13,5 +13,6 @@ returns c =
       actual = subst (AreActual c.args.next) (sym c.new.ensures) (no_actual c.args.next);
       tasks = subst (AreTasks c.args.next) (sym c.new-2.ensures) (no_tasks c.args.next);
       cells = subst (AreCells c.args.next) (sym c.new-3.ensures) (no_cells c.args.next);
+      domains = subst AreDomains (sym c.new-4.ensures) no_domains;
       next = c.requires;
     }
