@@ -3,7 +3,7 @@ use Rattle.std.proofs.Common.{ℕ, ◌≤◌, List, length, Option, Some, None, 
 use Rattle.wire_fields.proofs.Public.{IsField-instance, IsField-optional_instance, length-field_u16, length-field_u32, length-field_u64, length-field_name, length-field_truth, length-field_instance, length-no_name, length-some_name, length-no_instance, length-some_instance, IsField-name, IsField-optional_name, IsField-u16, IsField-u32, IsField-u64, IsField-truth}
 use Rattle.diego_names.specs.declared.instance.Instance.{Instance}
 use Rattle.bbs_codec.specs.Format.{number16, number32, number64, truth, name, optional_name, instance, optional_instance}
-use Rattle.bbs_codec.specs.Formats.{key, amounts, desired, update_fields, work_fields, held, removal, new_task_fields, task_work_fields, outcome, joining, renewal, joined}
+use Rattle.bbs_codec.specs.Formats.{key, amounts, desired, update_fields, work_fields, held, removal, new_task_fields, task_work_fields, outcome, joining, renewal, joined, freshness}
 use Rattle.bbs_codec.proofs.Records.{HasLaws, laws-seen, laws-both, laws-three}
 
 laws-number16 : HasLaws number16 2 2
@@ -91,3 +91,6 @@ laws-renewal = laws-three laws-name laws-number64 laws-number32
 
 pub laws-joined : HasLaws joined 10 89
 laws-joined = laws-both laws-name laws-number64
+
+pub laws-freshness : HasLaws freshness 6 85
+laws-freshness = laws-both laws-name laws-number32

@@ -1,10 +1,10 @@
 -- The laws of a field hold of a value seen otherwise, and of two and three values.
-use Rattle.std.proofs.Common.{◌≡◌, ℕ, ◌+◌, List, length, Result, Ok, refl, sym, ap, subst, ◌∙◌, ◌≤◌, arith, length-append}
+use Rattle.std.proofs.Common.{◌≡◌, ℕ, ◌+◌, true, false, List, nat_eq, length, Result, Ok, refl, sym, ap, subst, ◌∙◌, ◌≤◌, arith, length-append}
 use Rattle.wire_fields.specs.declared.fault.FieldFault.{FieldFault}
 use Rattle.wire_fields.specs.Laws.{TextStandsAt}
 use Rattle.wire_fields.specs.Reading.{◌>>=◌}
 use Rattle.wire_fields.proofs.Public.{IsRead, IsRead-written, ok_is, bind_ok, IsField-pair}
-use Rattle.bbs_codec.specs.Format.{Format, IsFormat, seen_at, both, three, seen}
+use Rattle.bbs_codec.specs.Format.{Format, IsFormat, seen_at, both, three, seen, seen_where, nothing, old_or, format_in}
 
 -- a value that was read, where the other one was read
 pub record IsSeen {X Y : Type 0} (make : X → Y) (read : List ℕ → ℕ → Result (X × ℕ) FieldFault) (bytes : List ℕ) (at : ℕ) (y : Y) (after : ℕ) : Type 0 where
@@ -69,6 +69,60 @@ laws-seen {f = f} {parts = parts} same laws = record {
   least = λ y fits. laws.least (parts y) fits;
   most = λ y fits. laws.most (parts y) fits;
 }
+
+-- a value is made of another, which has its parts, where it is one of these
+pub record IsSameWhere {X Y : Type 0} (P : Y → Type 0) (make : X → Y) (parts : Y → X) : Type 0 where
+  pub made : (y : Y) → P y → make (parts y) ≡ y
+  pub parted : (x : X) → parts (make x) ≡ x
+  pub within : (x : X) → P (make x)
+
+IsFormat-seen_where : {X Y : Type 0} {P : Y → Type 0} {f : Format X} {make : X → Y} {parts : Y → X}
+    → IsSameWhere P make parts → IsFormat f → IsFormat (seen_where P make parts f)
+unfolding seen_at
+IsFormat-seen_where {X} {Y} {P} {f} {make} {parts} same is =
+    let reads : IsRead (λ y. P y × f.Fits (parts y)) (λ y. f.spelling (parts y)) (seen_at make f.read) = record {
+      again = λ bytes at y fits stands.
+          seen_again make f.read bytes at (parts y) (at + length (f.spelling (parts y))) (is.again bytes at (parts y) fits.1 stands)
+          ∙ ap (λ (v : Y). Ok (v, at + length (f.spelling (parts y)))) (same.made y fits.0);
+    } in
+    record {
+      spelled = λ bytes at y after ib e.
+          let x = seen_found make f.read bytes at y after e in
+          let x-is : x.value ≡ parts y = sym (same.parted x.value) ∙ ap parts x.made in
+          let found = is.spelled bytes at x.value after ib x.is_read in (
+            subst (λ (v : X). TextStandsAt bytes at (f.spelling v)) x-is found.0,
+            subst (λ (v : X). after ≡ at + length (f.spelling v)) x-is found.1,
+            (subst P x.made (same.within x.value), subst f.Fits x-is found.2),
+          );
+      again = reads.again;
+      back = IsRead-written reads;
+      cut = λ bytes at k y fits lt e. ap (λ (r : Result (X × ℕ) FieldFault). r >>= λ x. Ok (make x.0, x.1)) (is.cut bytes at k (parts y) fits.1 lt e);
+    }
+
+pub laws-seen_where : {X Y : Type 0} {P : Y → Type 0} {f : Format X} {low high : ℕ} {make : X → Y} {parts : Y → X}
+    → IsSameWhere P make parts → HasLaws f low high → HasLaws (seen_where P make parts f) low high
+laws-seen_where {f = f} {parts = parts} same laws = record {
+  field = IsFormat-seen_where {f = f} same laws.field;
+  least = λ y fits. laws.least (parts y) fits.1;
+  most = λ y fits. laws.most (parts y) fits.1;
+}
+
+pub IsFormat-nothing : {X : Type 0} → IsFormat {X = X} nothing
+IsFormat-nothing {X} =
+    let none : Format X = nothing in
+    let reads : IsRead none.Fits none.spelling none.read = record { again = λ bytes at x fits stands. absurd fits } in
+    record {
+      spelled = λ bytes at x after ib e. absurd cc;
+      again = reads.again;
+      back = IsRead-written reads;
+      cut = λ bytes at k x fits lt e. absurd fits;
+    }
+
+-- the format of each version is one, where both are
+pub IsFormat-in : {X : Type 0} {old latest : Format X} → IsFormat old → IsFormat latest → (version : ℕ)
+    → IsFormat (format_in version old latest)
+IsFormat-in {old = old} {latest} was is version =
+    elim (nat_eq version 1) as (λ b. IsFormat (old_or b old latest)) [ true ↦ was | false ↦ is ]
 
 pub laws-both : {X Y : Type 0} {f : Format X} {g : Format Y} {a b c d : ℕ} → HasLaws f a b → HasLaws g c d → HasLaws (both f g) (a + c) (b + d)
 laws-both {X} {Y} {f} {g} first second = record {

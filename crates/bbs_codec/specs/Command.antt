@@ -1,5 +1,5 @@
 -- A command in bytes, and how bytes are read as a command.
-use Rattle.std.specs.Prelude.{ℕ, ◌<◌, ◌^◌, ◌&&◌, Bool, List, ◌++◌, length, nat_lt, nat_le, Result, Ok, Err, if◌then◌else◌}
+use Rattle.std.specs.Prelude.{ℕ, ◌<◌, ◌≤◌, ◌^◌, ◌&&◌, Bool, List, ◌++◌, length, nat_lt, nat_le, Result, Ok, Err, nat_eq, if◌then◌else◌}
 use Rattle.std.specs.Int.{w8, w32}
 use Rattle.wire_fields.specs.Field.{field_number}
 use Rattle.wire_fields.specs.Reading.{◌>>=◌, number_at}
@@ -31,22 +31,31 @@ abbrev pub as_part : {X : Type 0} → Result X FieldFault → Result X CodecFaul
 as_part (Ok x) = Ok x
 as_part (Err fault) = Err (fault_of fault)
 
--- there are operations of this kind
-abbrev pub is_kind : ℕ → Bool
-is_kind kind = nat_le 1 kind && nat_le kind 25
+-- the last of the kinds that areas of a version may have
+abbrev pub most_kind : ℕ → ℕ
+most_kind version = if nat_eq version 1 then 25 else 29
+
+-- areas of this version may have the command
+abbrev pub IsReadIn : ℕ → Command → Type 0
+IsReadIn version c = (said c.op).kind ≤ most_kind version
+
+-- areas of this version may have operations of this kind
+abbrev pub is_kind : ℕ → ℕ → Bool
+is_kind version kind = nat_le 1 kind && nat_le kind (most_kind version)
 
 -- the kind in front, and the place after it
-unfoldable pub kind_at : List ℕ → Result (ℕ × ℕ) CodecFault
-kind_at bytes = as_part (number_at w8 bytes 0) >>= λ kind. if is_kind kind.0 then Ok kind else Err (BadKind 0)
+unfoldable pub kind_at : ℕ → List ℕ → Result (ℕ × ℕ) CodecFault
+kind_at version bytes =
+    as_part (number_at w8 bytes 0) >>= λ kind. if is_kind version kind.0 then Ok kind else Err (BadKind 0)
 
 -- an operation that was read, as a command of that moment
 abbrev pub dated : Moment → Result (Op × ℕ) FieldFault → Result (Command × ℕ) CodecFault
 dated now op = as_part op >>= λ o. Ok (record { now = now; op = o.0 }, o.1)
 
 -- the command in front, and the place after it
-unfoldable pub command_at : List ℕ → Result (Command × ℕ) CodecFault
-command_at bytes = do
-  kind ← kind_at bytes
+unfoldable pub command_at : ℕ → List ℕ → Result (Command × ℕ) CodecFault
+command_at version bytes = do
+  kind ← kind_at version bytes
   now ← as_part (number_at w32 bytes kind.1)
   dated (record { 0 = now.0 }) (op_at kind.0 bytes now.1)
 
@@ -58,6 +67,6 @@ ended bytes read = if nat_lt read.1 (length bytes) then Err (Trailing read.1) el
 abbrev pub last_command : List ℕ → Moment → Result (Op × ℕ) FieldFault → Result Command CodecFault
 last_command bytes now op = dated now op >>= ended bytes
 
--- the command that the bytes are, or the first fault
-unfoldable pub reading : List ℕ → Result Command CodecFault
-reading bytes = command_at bytes >>= ended bytes
+-- the command that the bytes are in an area of this version, or the first fault
+unfoldable pub reading : ℕ → List ℕ → Result Command CodecFault
+reading version bytes = command_at version bytes >>= ended bytes

@@ -1,5 +1,5 @@
 -- Values that are spelled as fields, one behind the other.
-use Rattle.std.specs.Prelude.{ℕ, ◌<◌, ◌^◌, Bool, List, ◌++◌, Option, Result, Ok, IfSome}
+use Rattle.std.specs.Prelude.{ℕ, ◌<◌, ◌^◌, Bool, true, false, List, [], ◌++◌, nat_eq, Option, Result, Ok, Err, IfSome}
 use Rattle.std.specs.Int.{w16, w32, w64}
 use Rattle.diego_names.specs.Name.{IsName}
 use Rattle.diego_names.specs.declared.instance.Instance.{Instance}
@@ -7,6 +7,7 @@ use Rattle.wire_fields.specs.Field.{field_number, field_name, field_optional_nam
 use Rattle.wire_fields.specs.Laws.{IsField, FitsInstance}
 use Rattle.wire_fields.specs.Reading.{◌>>=◌, number_at, name_at, optional_name_at, truth_at, instance_at, optional_instance_at}
 use Rattle.wire_fields.specs.declared.fault.FieldFault.{FieldFault}
+use Rattle.wire_fields.specs.declared.fault.FieldFault.TheVariants.{BadField}
 
 -- which values have a spelling, how each is spelled, and how the value at a place is read
 pub record Format (X : Type 0) : Type 1 where
@@ -34,6 +35,27 @@ both f g = record { Fits = λ p. f.Fits p.0 × g.Fits p.1; spelling = λ p. f.sp
 -- the same bytes, with their value made of another, which has its parts
 abbrev pub seen : {X Y : Type 0} → (X → Y) → (Y → X) → Format X → Format Y
 seen make parts f = record { Fits = λ y. f.Fits (parts y); spelling = λ y. f.spelling (parts y); read = seen_at make f.read }
+
+-- the same bytes for those values alone of which they tell all
+abbrev pub seen_where : {X Y : Type 0} → (Y → Type 0) → (X → Y) → (Y → X) → Format X → Format Y
+seen_where P make parts f = record {
+  Fits = λ y. P y × f.Fits (parts y);
+  spelling = λ y. f.spelling (parts y);
+  read = seen_at make f.read;
+}
+
+-- no value has a spelling
+abbrev pub nothing : {X : Type 0} → Format X
+nothing = record { Fits = λ _. ⊥; spelling = λ _. []; read = λ _ at. Err (BadField at) }
+
+-- the old format, or the other one
+abbrev pub old_or : {X : Type 0} → Bool → Format X → Format X → Format X
+old_or true old latest = old
+old_or false old latest = latest
+
+-- the format of a version, where version 1 has an old one
+abbrev pub format_in : {X : Type 0} → ℕ → Format X → Format X → Format X
+format_in version old latest = old_or (nat_eq version 1) old latest
 
 -- three formats, one behind the other
 abbrev pub three : {X Y Z : Type 0} → Format X → Format Y → Format Z → Format (X × Y × Z)

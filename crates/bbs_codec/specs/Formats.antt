@@ -82,3 +82,7 @@ renewal = three name number64 number32
 -- a cell, and its epoch
 abbrev pub joined : Format (List ℕ × ℕ)
 joined = both name number64
+
+-- a domain, and how long it is fresh
+abbrev pub freshness : Format (List ℕ × ℕ)
+freshness = both name number32

@@ -3,9 +3,9 @@ use Rattle.std.specs.Prelude.{ℕ, ◌-◌, List, [], ◌∷◌, Result, Err, sl
 use Rattle.wire_fields.specs.declared.fault.FieldFault.{FieldFault}
 use Rattle.wire_fields.specs.declared.fault.FieldFault.TheVariants.{BadField}
 use Rattle.bbs_model.specs.declared.command.Op.{Op}
-use Rattle.bbs_model.specs.declared.command.Op.TheVariants.{Desire, Update, Undesire, Make, Claim, Start, Crash, Unclaim, Restart, Remove, PlaceFail, Evacuate, DropEvacuating, NewTask, StartTask, CompleteTask, CancelTask, ResolveTask, DeleteTask, KickTask, ExpireTask, Join, Renew, Drain, Vanish}
+use Rattle.bbs_model.specs.declared.command.Op.TheVariants.{Desire, Update, Undesire, Make, Claim, Start, Crash, Unclaim, Restart, Remove, PlaceFail, Evacuate, DropEvacuating, NewTask, StartTask, CompleteTask, CancelTask, ResolveTask, DeleteTask, KickTask, ExpireTask, Join, Renew, Drain, Vanish, Fresh, Forget, Suspect, DropSuspect}
 use Rattle.bbs_codec.specs.Format.{Format, seen_at, name}
-use Rattle.bbs_codec.specs.Formats.{key, desired, update_fields, work_fields, held, removal, new_task_fields, task_work_fields, outcome, joining, renewal, joined}
+use Rattle.bbs_codec.specs.Formats.{key, desired, update_fields, work_fields, held, removal, new_task_fields, task_work_fields, outcome, joining, renewal, joined, freshness}
 
 -- the number of its kind, its fields in bytes, and that they have a spelling
 pub record Said : Type 1 where
@@ -44,6 +44,10 @@ said (Join cell zone tag totals ttl) = says 22 joining ((cell, zone, tag), total
 said (Renew cell epoch ttl) = says 23 renewal (cell, epoch, ttl)
 said (Drain cell epoch) = says 24 joined (cell, epoch)
 said (Vanish cell) = says 25 name cell
+said (Fresh domain ttl) = says 26 freshness (domain, ttl)
+said (Forget domain) = says 27 name domain
+said (Suspect k container) = says 28 held (k, container)
+said (DropSuspect k container) = says 29 held (k, container)
 
 -- how an operation is read at a place
 abbrev pub Reader : Type 0
@@ -77,6 +81,10 @@ readers =
     ∷ seen_at (λ p. Renew p.0 p.1 p.2) renewal.read
     ∷ seen_at (λ p. Drain p.0 p.1) joined.read
     ∷ seen_at Vanish name.read
+    ∷ seen_at (λ p. Fresh p.0 p.1) freshness.read
+    ∷ seen_at Forget name.read
+    ∷ seen_at (λ p. Suspect p.0 p.1) held.read
+    ∷ seen_at (λ p. DropSuspect p.0 p.1) held.read
     ∷ []
 
 -- the operation of this kind at a place

@@ -1,5 +1,5 @@
 -- The formats of a board's rows, as a head has them.
-use Rattle.std.specs.Prelude.{ℕ, Bool, true, false, List, [], ◌∷◌, ◌++◌, Option, Result, Ok, Err, slice_index_or, if◌then◌else◌}
+use Rattle.std.specs.Prelude.{◌≡◌, ◌≢◌, ℕ, Bool, true, false, List, [], ◌∷◌, ◌++◌, Option, Some, None, Result, Ok, Err, slice_index_or, if◌then◌else◌}
 use Rattle.std.specs.Int.{w8}
 use Rattle.cell_records.specs.declared.amounts.Amounts.{Amounts}
 use Rattle.cell_records.specs.declared.cell_row.CellRow.{CellRow}
@@ -7,17 +7,18 @@ use Rattle.diego_names.specs.declared.instance.Instance.{Instance}
 use Rattle.diego_names.specs.declared.key.Key.{Key}
 use Rattle.lrp_records.specs.declared.actual.Actual.{Actual}
 use Rattle.lrp_records.specs.declared.presence.Presence.{Presence}
-use Rattle.lrp_records.specs.declared.presence.Presence.TheVariants.{Ordinary, Evacuating}
+use Rattle.lrp_records.specs.declared.presence.Presence.TheVariants.{Ordinary, Evacuating, Suspect}
 use Rattle.lrp_records.specs.declared.state.LrpState.{LrpState}
 use Rattle.lrp_records.specs.declared.state.LrpState.TheVariants as lrp
 use Rattle.task_records.specs.declared.state.TaskState.{TaskState}
 use Rattle.task_records.specs.declared.state.TaskState.TheVariants as task
 use Rattle.task_records.specs.declared.task.Task.{Task}
+use Rattle.bbs_model.specs.declared.domain_row.DomainRow.{DomainRow}
 use Rattle.wire_fields.specs.Field.{field_number}
 use Rattle.wire_fields.specs.Reading.{◌>>=◌, number_at}
 use Rattle.wire_fields.specs.declared.fault.FieldFault.{FieldFault}
 use Rattle.wire_fields.specs.declared.fault.FieldFault.TheVariants.{BadField}
-use Rattle.bbs_codec.specs.Format.{Format, seen_at, both, three, seen, number32, number64, truth, name, optional_name, instance}
+use Rattle.bbs_codec.specs.Format.{Format, seen_at, both, three, seen, seen_where, nothing, format_in, number32, number64, truth, name, optional_name, instance}
 use Rattle.bbs_codec.specs.Formats.{key, amounts}
 
 -- how a value is read at a place
@@ -55,14 +56,29 @@ cases case readers = record {
   read = case_at readers;
 }
 
+-- the case of a presence
+abbrev pub presence_case : Presence → Case
+presence_case Ordinary = case_alone 0
+presence_case Evacuating = case_alone 1
+presence_case Suspect = case_alone 2
+
+-- how each case of it is read
+abbrev pub presence_readers : List (Reads Presence)
+presence_readers = alone Ordinary ∷ alone Evacuating ∷ alone Suspect ∷ []
+
+-- 0 for the ORDINARY row, 1 for the EVACUATING one, 2 for the SUSPECT one
+abbrev pub presence : Format Presence
+presence = cases presence_case presence_readers
+
 -- the row is the EVACUATING one
 abbrev pub is_evacuating : Presence → Bool
 is_evacuating Ordinary = false
 is_evacuating Evacuating = true
+is_evacuating Suspect = false
 
--- 0 for the ORDINARY row, 1 for the EVACUATING one
-abbrev pub presence : Format Presence
-presence = seen (λ b. if b then Evacuating else Ordinary) is_evacuating truth
+-- in version 1 the presence is a truth value, and no row is SUSPECT
+abbrev pub old_presence : Format Presence
+old_presence = seen_where (λ p. p ≢ Suspect) (λ b. if b then Evacuating else Ordinary) is_evacuating truth
 
 -- a container, and its cell
 abbrev pub holder : Format (Instance × List ℕ)
@@ -108,9 +124,48 @@ task_readers =
 abbrev pub task_state : Format TaskState
 task_state = cases task_case task_readers
 
+-- the case of an end
+abbrev pub end_case : Option ℕ → Case
+end_case None = case_alone 0
+end_case (Some until) = case_of 1 number64 until
+
+-- how each case of it is read
+abbrev pub end_readers : List (Reads (Option ℕ))
+end_readers = alone None ∷ seen_at Some number64.read ∷ []
+
+-- 0, or 1 and the second of the end
+abbrev pub optional_end : Format (Option ℕ)
+optional_end = cases end_case end_readers
+
+-- what an actual row is made of in version 1
+abbrev pub OldParts : Type 0
+OldParts = (Key × Presence × LrpState) × (ℕ × ℕ) × Bool
+
+-- the row of these parts
+abbrev pub old_actual_of : OldParts → Actual
+old_actual_of p = record {
+  key = p.0.0;
+  presence = p.0.1;
+  state = p.0.2;
+  count = p.1.0;
+  since = record { 0 = p.1.1 };
+  error = p.2;
+  domain = None;
+}
+
+-- the parts of a row
+abbrev pub old_actual_parts : Actual → OldParts
+old_actual_parts a = ((a.key, a.presence, a.state), (a.count, a.since.0), a.error)
+
+-- an actual row in version 1, which has no domain
+abbrev pub old_actual : Format Actual
+old_actual =
+    seen_where (λ (a : Actual). a.domain ≡ None) old_actual_of old_actual_parts
+    (three (three key old_presence lrp_state) (both number32 number32) truth)
+
 -- what an actual row is made of
 abbrev pub ActualParts : Type 0
-ActualParts = (Key × Presence × LrpState) × (ℕ × ℕ) × Bool
+ActualParts = (Key × Presence × LrpState) × (ℕ × ℕ) × (Bool × Option (List ℕ))
 
 -- the row of these parts
 abbrev pub actual_of : ActualParts → Actual
@@ -120,18 +175,23 @@ actual_of p = record {
   state = p.0.2;
   count = p.1.0;
   since = record { 0 = p.1.1 };
-  error = p.2;
+  error = p.2.0;
+  domain = p.2.1;
 }
 
 -- the parts of a row
 abbrev pub actual_parts : Actual → ActualParts
-actual_parts a = ((a.key, a.presence, a.state), (a.count, a.since.0), a.error)
+actual_parts a = ((a.key, a.presence, a.state), (a.count, a.since.0), (a.error, a.domain))
 
 -- an actual row
 abbrev pub actual : Format Actual
 actual =
     seen actual_of actual_parts
-    (three (three key presence lrp_state) (both number32 number32) truth)
+    (three (three key presence lrp_state) (both number32 number32) (both truth optional_name))
+
+-- an actual row in a version
+abbrev pub actual_in : ℕ → Format Actual
+actual_in version = format_in version old_actual actual
 
 -- what a task's row is made of
 abbrev pub TaskParts : Type 0
@@ -184,3 +244,11 @@ abbrev pub cell_row : Format CellRow
 cell_row =
     seen cell_from cell_parts
     (three (three name name optional_name) amounts (three number64 number64 truth))
+
+-- the row of a domain: its name, and when it ends, if it does
+abbrev pub domain_row : Format DomainRow
+domain_row = seen (λ p. record { domain = p.0; until = p.1 }) (λ d. (d.domain, d.until)) (both name optional_end)
+
+-- the row of a domain in a version: version 1 has none
+abbrev pub domain_in : ℕ → Format DomainRow
+domain_in version = format_in version nothing domain_row

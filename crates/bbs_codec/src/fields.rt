@@ -4,11 +4,13 @@ ghost use Rattle.wire_fields.specs.Field.{PutsText};
 ghost use Rattle.bbs_codec.specs.Format.{Format};
 
 mod board_rows;
+mod old_rows;
 mod records;
 mod rows;
 mod single;
 mod states;
 
+pub use old_rows::read_old_actual;
 use wire_fields::FieldFault;
 
 /// A value that stands in bytes as fields, one behind the other.

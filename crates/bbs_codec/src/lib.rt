@@ -10,7 +10,7 @@ mod trailing;
 mod writing;
 
 pub use fault::CodecFault;
-pub use fields::Fields;
+pub use fields::{Fields, read_old_actual};
 pub use laws::{
     commands_are_read_back, commands_have_one_spelling, no_spelling_begins_another,
     spellings_are_bounded,

@@ -2,7 +2,7 @@
 mod faults;
 mod spellings;
 
-use bbs_codec::{read_command, write_command};
+use bbs_codec::{CodecFault, read_command, write_command};
 use bbs_model::{Command, Op};
 use crash_backoff::Moment;
 use diego_names::Instance;
@@ -13,7 +13,16 @@ const INSTANCE: Instance = Instance {
     number: 9,
 };
 
-// Whether the operation, at second 9, is written as these bytes and no more, and read back.
+// What is read of these bytes of a command in an area of version 1, which has no kinds above 25.
+fn in_old_area(command: Command, bytes: &[u8]) -> Result<Command, CodecFault> {
+    match bytes.first() {
+        Some(kind) if *kind > 25 => Err(CodecFault::BadKind { at: 0 }),
+        _ => Ok(command),
+    }
+}
+
+// Whether the operation, at second 9, is written as these bytes and no more, and read back: in version
+// 2, and in version 1 if that has its kind.
 fn is_spelled(op: Op, bytes: &[u8]) -> bool {
     let command = Command { now: Moment(9), op };
     let mut out = [7; 512];
@@ -21,10 +30,7 @@ fn is_spelled(op: Op, bytes: &[u8]) -> bool {
     if out[len] != 7 || &out[..len] != bytes {
         return false;
     }
-    match read_command(bytes) {
-        Ok(read) => read == command,
-        Err(_) => false,
-    }
+    read_command(bytes, 2) == Ok(command) && read_command(bytes, 1) == in_old_area(command, bytes)
 }
 
 fn spells(rt: &impl Abort, op: Op, bytes: &[u8]) {

@@ -2,3 +2,4 @@
 mod all_tables;
 mod bad_heads;
 mod full_tables;
+mod old_heads;

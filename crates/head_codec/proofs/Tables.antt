@@ -1,6 +1,7 @@
--- The rows that a board keeps are those of its four tables.
+-- The rows that a board keeps are those of its five tables.
 use Rattle.std.proofs.Common.{◌≡◌, ℕ, ◌<◌, ◌≤◌, true, not, List, [], ◌∷◌, Option, Some, None, sum_by, refl, ap, arith}
 use Rattle.std.specs.Prelude.{nat_lt, nat_le}
+use Rattle.std.specs.List.{AllByRecursion}
 use Rattle.std.proofs.lemmas.Bool.Decides.{nat_tests}
 use Rattle.std.proofs.lemmas.List.Sums.{sum_by-cons}
 use Rattle.cell_records.specs.declared.cell_row.CellRow.{CellRow}
@@ -11,16 +12,17 @@ use Rattle.lrp_records.specs.States.{holder_of}
 use Rattle.lrp_records.specs.declared.actual.Actual.{Actual}
 use Rattle.lrp_records.specs.declared.desired.Desired.{Desired}
 use Rattle.lrp_records.specs.declared.presence.Presence.{Presence}
-use Rattle.lrp_records.specs.declared.presence.Presence.TheVariants.{Ordinary, Evacuating}
+use Rattle.lrp_records.specs.declared.presence.Presence.TheVariants.{Ordinary, Evacuating, Suspect}
 use Rattle.lrp_records.specs.declared.state.LrpState.{LrpState}
 use Rattle.lrp_records.specs.declared.state.LrpState.TheVariants as lrp
 use Rattle.task_records.specs.declared.task.Task.{Task}
 use Rattle.bbs_model.specs.Limits.{most_instances}
-use Rattle.bbs_model.specs.Tables.{process_of, task_name_of, cell_name_of}
-use Rattle.bbs_model.specs.Valid.{HasFewInstances, AreDesired, IsHeldBefore, IsRunning, SuitsPresence, IsActualRow, AreActual, IsTaskRow, AreTasks, HasJoined, AreCells}
+use Rattle.bbs_model.specs.Tables.{process_of, task_name_of, cell_name_of, domain_name_of}
+use Rattle.bbs_model.specs.Valid.{HasFewInstances, AreDesired, IsHeldBefore, IsRunning, SuitsPresence, IsActualRow, AreActual, IsTaskRow, AreTasks, HasJoined, AreCells, AreDomains}
+use Rattle.bbs_model.specs.declared.domain_row.DomainRow.{DomainRow}
 use Rattle.task_records.specs.States.{runner_of}
 use Rattle.bbs_model.proofs.Public.{each_weaker}
-use Rattle.head_codec.specs.Head.{is_held_before, row_is_running, suits_presence, desired_keep, actual_keep, tasks_keep, cells_keep}
+use Rattle.head_codec.specs.Head.{is_held_before, row_is_running, suits_presence, desired_keep, actual_keep, tasks_keep, cells_keep, domains_keep}
 use Rattle.head_codec.proofs.Followers.{IsTable}
 use Rattle.head_codec.proofs.Pushes.{both_true, true_both, not_true}
 
@@ -65,10 +67,14 @@ suits Ordinary row e = tt
 suits Evacuating row e =
     let parts = both_true (row_is_running row.state) (not row.error) e in
     (running row.state parts.0, not_true row.error parts.1)
+suits Suspect row e =
+    let parts = both_true (row_is_running row.state) (not row.error) e in
+    (running row.state parts.0, not_true row.error parts.1)
 
 does_suit : (p : Presence) (row : Actual) → SuitsPresence p row → suits_presence p row ≡ true
 does_suit Ordinary row h = refl
 does_suit Evacuating row h = true_both (row_is_running row.state) (not row.error) (runs row.state h.0) (ap not h.1)
+does_suit Suspect row h = true_both (row_is_running row.state) (not row.error) (runs row.state h.0) (ap not h.1)
 
 pub AreDesired-table : (next : ℕ) (rows : List Desired) → IsTable name_order process_of desired_keep next rows → AreDesired rows
 AreDesired-table next rows t = record {
@@ -141,4 +147,23 @@ cells_table next rows h = record {
   each = each_weaker (HasJoined next) (λ (c : CellRow). nat_lt c.epoch next ≡ true) (λ c lt. is_below c.epoch next lt) rows h.each;
   wanted = omega (arith, sum_zero rows);
   distinct = h.epochs;
+}
+
+pub AreDomains-table : (next : ℕ) (rows : List DomainRow) → IsTable name_order domain_name_of domains_keep next rows
+    → AreDomains rows
+AreDomains-table next rows t = record { rising = t.rising; few = t.few }
+
+-- any row of a domain suits
+each_suits : (rows : List DomainRow) → AllByRecursion (λ (d : DomainRow). true ≡ true) rows
+each_suits [] = tt
+each_suits (row ∷ rows) = (refl, each_suits rows)
+
+pub domains_table : (next : ℕ) (rows : List DomainRow) → AreDomains rows
+    → IsTable name_order domain_name_of domains_keep next rows
+domains_table next rows h = record {
+  rising = h.rising;
+  few = h.few;
+  each = each_suits rows;
+  wanted = omega (arith, sum_zero rows);
+  distinct = tt;
 }

@@ -1,15 +1,20 @@
-//! What the rows of each of the four tables keep.
-ghost use Rattle.std.specs.Prelude.{◌≡◌};
-ghost use Rattle.head_codec.specs.Head.{is_held_before, row_is_running, suits_presence, desired_keep, actual_keep, tasks_keep, cells_keep};
+//! What the rows of each of the five tables keep.
+ghost use Rattle.std.specs.Prelude.{◌≡◌, refl};
+ghost use Rattle.bbs_codec.specs.Formats.{desired};
+ghost use Rattle.bbs_codec.specs.RowFormats.{actual_in, task_row, cell_row, domain_in};
+ghost use Rattle.head_codec.specs.Head.{is_held_before, row_is_running, suits_presence, desired_keep, actual_keep, tasks_keep, cells_keep, domains_keep};
 ghost use Rattle.task_records.specs.States.{runner_of};
 
 use crate::kept::HeadRow;
-use bbs_codec::Fields;
-use bbs_model::{MOST_ACTUAL, MOST_CELLS, MOST_INSTANCES, MOST_PROCESSES, MOST_TASKS};
+use bbs_codec::{Fields, read_old_actual};
+use bbs_model::{
+    DomainRow, MOST_ACTUAL, MOST_CELLS, MOST_DOMAINS, MOST_INSTANCES, MOST_PROCESSES, MOST_TASKS,
+};
 use cell_records::CellRow;
 use diego_names::Instance;
 use lrp_records::{Actual, Desired, LrpState, Presence};
 use task_records::{Task, TaskState};
+use wire_fields::FieldFault;
 
 /// Whether the container, if there is one, is of a cell that joined before this transition.
 fn is_held_before(next: u64, container: Option<Instance>) -> bool
@@ -30,13 +35,13 @@ fn is_running(state: LrpState) -> bool
     }
 }
 
-/// Whether the row is RUNNING without an error, where it is an EVACUATING one.
+/// Whether the row is RUNNING without an error, where it is an EVACUATING or a SUSPECT one.
 fn suits_presence(row: &Actual) -> bool
     ensures { result ≡ suits_presence row.now.presence row.now }
 {
     match row.presence {
         Presence::Ordinary => true,
-        Presence::Evacuating => is_running(row.state) && !row.error,
+        Presence::Evacuating | Presence::Suspect => is_running(row.state) && !row.error,
     }
 }
 
@@ -52,6 +57,12 @@ fn runner(state: TaskState) -> Option<Instance>
 
 impl HeadRow for Desired {
     ghost keeps = { desired_keep };
+
+    ghost formats = { λ _. desired };
+
+    fn read_in(bytes: &[u8], version: u16, at: usize) -> Result<(Desired, usize), FieldFault> {
+        Desired::read_at(bytes, at)
+    }
 
     #[tactic(auto, using(crate::proofs::RowLengths::short))]
     fn is_short(self) {
@@ -73,10 +84,21 @@ impl HeadRow for Desired {
     fn stamp(&self) -> Option<u64> {
         None
     }
+
+    ghost latest = { λ row. refl };
 }
 
 impl HeadRow for Actual {
     ghost keeps = { actual_keep };
+
+    ghost formats = { actual_in };
+
+    fn read_in(bytes: &[u8], version: u16, at: usize) -> Result<(Actual, usize), FieldFault> {
+        if version == 1 {
+            return read_old_actual(bytes, at);
+        }
+        Actual::read_at(bytes, at)
+    }
 
     #[tactic(auto, using(crate::proofs::RowLengths::short))]
     fn is_short(self) {
@@ -98,10 +120,18 @@ impl HeadRow for Actual {
     fn stamp(&self) -> Option<u64> {
         None
     }
+
+    ghost latest = { λ row. refl };
 }
 
 impl HeadRow for Task {
     ghost keeps = { tasks_keep };
+
+    ghost formats = { λ _. task_row };
+
+    fn read_in(bytes: &[u8], version: u16, at: usize) -> Result<(Task, usize), FieldFault> {
+        Task::read_at(bytes, at)
+    }
 
     #[tactic(auto, using(crate::proofs::RowLengths::short))]
     fn is_short(self) {
@@ -123,10 +153,18 @@ impl HeadRow for Task {
     fn stamp(&self) -> Option<u64> {
         Some(self.birth)
     }
+
+    ghost latest = { λ row. refl };
 }
 
 impl HeadRow for CellRow {
     ghost keeps = { cells_keep };
+
+    ghost formats = { λ _. cell_row };
+
+    fn read_in(bytes: &[u8], version: u16, at: usize) -> Result<(CellRow, usize), FieldFault> {
+        CellRow::read_at(bytes, at)
+    }
 
     #[tactic(auto, using(crate::proofs::RowLengths::short))]
     fn is_short(self) {
@@ -148,4 +186,42 @@ impl HeadRow for CellRow {
     fn stamp(&self) -> Option<u64> {
         Some(self.epoch)
     }
+
+    ghost latest = { λ row. refl };
+}
+
+impl HeadRow for DomainRow {
+    ghost keeps = { domains_keep };
+
+    ghost formats = { domain_in };
+
+    fn read_in(bytes: &[u8], version: u16, at: usize) -> Result<(DomainRow, usize), FieldFault> {
+        if version == 1 {
+            return Err(FieldFault::BadField { at });
+        }
+        DomainRow::read_at(bytes, at)
+    }
+
+    #[tactic(auto, using(crate::proofs::RowLengths::short))]
+    fn is_short(self) {
+        self.fits();
+    }
+
+    fn most() -> usize {
+        MOST_DOMAINS as usize
+    }
+
+    fn suits(&self, next: u64) -> bool {
+        true
+    }
+
+    fn wants(&self) -> u32 {
+        0
+    }
+
+    fn stamp(&self) -> Option<u64> {
+        None
+    }
+
+    ghost latest = { λ row. refl };
 }

@@ -46,6 +46,7 @@ fn keep<X: HeadRow>(table: &mut Table<X>, next: u64, row: X) -> Result<bool, Out
 fn read_row<X: HeadRow>(
     table: &mut Table<X>,
     bytes: &[u8],
+    version: u16,
     next: u64,
     at: usize,
 ) -> Result<usize, HeadFault>
@@ -53,15 +54,15 @@ fn read_row<X: HeadRow>(
     requires seen { IsSeen X.Key.cmp X.key X.keeps
         table.old.rows table.old.last table.old.wanted table.old.stamps }
     ensures ok { IfOk result (λ after. row_kept (may_follow X.Key.cmp X.key X.keeps next)
-        (table.old.rows, at) (X.format.read bytes.now at) ≡ Ok (table.new.rows, after)) }
+        (table.old.rows, at) ((X.formats version).read bytes.now at) ≡ Ok (table.new.rows, after)) }
     ensures err { IfErr result (λ fault. BlamesHead fault
         (row_kept (may_follow X.Key.cmp X.key X.keeps next)
-        (table.old.rows, at) (X.format.read bytes.now at))) }
+        (table.old.rows, at) ((X.formats version).read bytes.now at))) }
     ensures seen { IfOk result (λ after. IsSeen X.Key.cmp X.key X.keeps
         table.new.rows table.new.last table.new.wanted table.new.stamps) }
     ensures within { IfOk result (λ after. after ≤ length bytes.now) }
 {
-    match X::read_at(bytes, at) {
+    match X::read_in(bytes, version, at) {
         Ok((row, after)) => {
             if keep(table, next, row)? {
                 Ok(after)
@@ -73,17 +74,18 @@ fn read_row<X: HeadRow>(
     }
 }
 
-/// Reads so many rows from a place on, and gives the place behind them.
+/// Reads so many rows of a head of this version from a place on, and gives the place behind them.
 pub fn read_rows<X: HeadRow>(
     alloc: Global,
     bytes: &[u8],
+    version: u16,
     next: u64,
     count: u32,
     at: usize,
 ) -> Result<(List<X>, usize), HeadFault>
     requires { at ≤ length bytes.now }
-    ensures told { TellsHead result (head_rows_at X.format.read (may_follow X.Key.cmp X.key X.keeps next)
-        count bytes.now ([], at)) }
+    ensures told { TellsHead result (head_rows_at (X.formats version).read
+        (may_follow X.Key.cmp X.key X.keeps next) count bytes.now ([], at)) }
     ensures within { IfOk result (λ read. read.1 ≤ length bytes.now) }
 {
     let mut table = Table {
@@ -94,7 +96,7 @@ pub fn read_rows<X: HeadRow>(
     };
     let mut place = at;
     for _row in 0..count {
-        place = read_row(&mut table, bytes, next, place)?;
+        place = read_row(&mut table, bytes, version, next, place)?;
     }
     let Table { rows, .. } = table;
     Ok((rows, place))

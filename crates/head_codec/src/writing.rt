@@ -10,8 +10,9 @@ use bbs_model::Rows;
 use diego_names::OutOfMemory;
 use std::alloc::Global;
 
-/// How many transitions a board had, and how many rows each of its tables has.
-pub type Counts = (u64, ((u32, u32), (u32, u32)));
+/// How many transitions a board had, and how many rows each of its tables has: of desired and actual
+/// rows, tasks, cells and domains.
+pub type Counts = (u64, ((u32, u32), (u32, (u32, u32))));
 
 /// The most bytes that the counts take, or a row of any table.
 pub const ROW_BYTES: usize = 344;
@@ -30,7 +31,7 @@ fn append<X: Fields>(out: &mut Vec<u8>, value: X) -> Result<(), OutOfMemory>
     Ok(())
 }
 
-/// Writes a row behind what is written. It takes no memory where there is room for `ROW_BYTES`.
+/// Writes a row behind what is written, as version 2 has it. It takes no memory where there is room for `ROW_BYTES`.
 pub fn append_row<X: HeadRow>(out: &mut Vec<u8>, row: &X) -> Result<(), OutOfMemory>
     ensures bytes { OnOk result (out.new.items
         ≡ out.old.items ++ X.format.spelling row.entry.now) }
@@ -44,7 +45,7 @@ pub fn append_row<X: HeadRow>(out: &mut Vec<u8>, row: &X) -> Result<(), OutOfMem
     append(out, *row)
 }
 
-/// Writes the front of a head, behind which the rows of its tables stand, one after the other. It
+/// Writes the front of a head of version 2, behind which the rows of its tables stand, one after the other. It
 /// takes no memory where there is room for `ROW_BYTES`.
 pub fn append_front(out: &mut Vec<u8>, front: Counts) -> Result<(), OutOfMemory>
     ensures bytes { OnOk result (out.new.items ≡ out.old.items ++ counts.spelling front) }
@@ -75,16 +76,19 @@ fn counts(rows: &Rows) -> Counts
         rows.next,
         (
             (rows.desired.len() as u32, rows.actual.len() as u32),
-            (rows.tasks.len() as u32, rows.cells.len() as u32),
+            (
+                rows.tasks.len() as u32,
+                (rows.cells.len() as u32, rows.domains.len() as u32),
+            ),
         ),
     )
 }
 
-/// The rows of a board in bytes. Every board that a program can hold has a spelling.
+/// The rows of a board in bytes, in version 2. Every board that a program can hold has a spelling.
 pub fn write_head(alloc: Global, rows: &Rows) -> Result<Vec<u8>, OutOfMemory>
     requires { IsValid rows.now }
-    ensures bytes { IfOk result (λ bytes. bytes.items ≡ head_spelled rows.now) }
-    ensures fits { IfOk result (λ bytes. FitsHead rows.now) }
+    ensures bytes { IfOk result (λ bytes. bytes.items ≡ head_spelled 2 rows.now) }
+    ensures fits { IfOk result (λ bytes. FitsHead 2 rows.now) }
 {
     let mut out = Vec::new(alloc);
     append_front(&mut out, counts(rows))?;
@@ -92,5 +96,6 @@ pub fn write_head(alloc: Global, rows: &Rows) -> Result<Vec<u8>, OutOfMemory>
     append_rows(&mut out, rows.actual.items())?;
     append_rows(&mut out, rows.tasks.items())?;
     append_rows(&mut out, rows.cells.items())?;
+    append_rows(&mut out, rows.domains.items())?;
     Ok(out)
 }

@@ -2,9 +2,10 @@
 #![tactic(auto, unfolding(crate::specs::Format::seen_at))]
 
 ghost use Rattle.std.specs.Prelude.{◌≡◌};
-ghost use Rattle.bbs_codec.specs.RowFormats.{actual, actual_parts, task_row, task_parts, cell_row, cell_parts};
+ghost use Rattle.bbs_codec.specs.RowFormats.{actual, actual_parts, task_row, task_parts, cell_row, cell_parts, domain_row};
 
 use crate::fields::Fields;
+use bbs_model::DomainRow;
 use cell_records::{Amounts, CellRow};
 use crash_backoff::Moment;
 use diego_names::{Key, Name};
@@ -12,8 +13,8 @@ use lrp_records::{Actual, LrpState, Presence};
 use task_records::{Task, TaskState};
 use wire_fields::FieldFault;
 
-/// The key, presence and state of an actual row, its count and moment, and its error.
-type ActualParts = ((Key, Presence, LrpState), (u32, u32), bool);
+/// The key, presence and state of an actual row, its count and moment, and its error and domain.
+type ActualParts = ((Key, Presence, LrpState), (u32, u32), (bool, Option<Name>));
 
 fn actual_parts(row: Actual) -> ActualParts
     ensures { result ≡ actual_parts row }
@@ -21,7 +22,7 @@ fn actual_parts(row: Actual) -> ActualParts
     (
         (row.key, row.presence, row.state),
         (row.count, row.since.0),
-        row.error,
+        (row.error, row.domain),
     )
 }
 
@@ -30,7 +31,7 @@ impl Fields for Actual {
 
     fn read_at(bytes: &[u8], at: usize) -> Result<(Actual, usize), FieldFault> {
         let (parts, at) = ActualParts::read_at(bytes, at)?;
-        let ((key, presence, state), (count, since), error) = parts;
+        let ((key, presence, state), (count, since), (error, domain)) = parts;
         let row = Actual {
             key,
             presence,
@@ -38,6 +39,7 @@ impl Fields for Actual {
             count,
             since: Moment(since),
             error,
+            domain,
         };
         Ok((row, at))
     }
@@ -128,5 +130,23 @@ impl Fields for CellRow {
 
     fn fits(self) {
         cell_parts(self).fits();
+    }
+}
+
+impl Fields for DomainRow {
+    ghost format = { domain_row };
+
+    fn read_at(bytes: &[u8], at: usize) -> Result<(DomainRow, usize), FieldFault> {
+        let (domain, at) = Name::read_at(bytes, at)?;
+        let (until, at) = <Option<u64>>::read_at(bytes, at)?;
+        Ok((DomainRow { domain, until }, at))
+    }
+
+    fn put_at(self, out: &mut [u8], at: usize) -> usize {
+        (self.domain, self.until).put_at(out, at)
+    }
+
+    fn fits(self) {
+        (self.domain, self.until).fits();
     }
 }

@@ -1,8 +1,7 @@
 //! The values that are told by the number of their case.
 #![tactic(auto, unfolding(crate::specs::Format::seen_at))]
 
-ghost use Rattle.std.specs.Prelude.{◌≡◌};
-ghost use Rattle.bbs_codec.specs.RowFormats.{presence, is_evacuating, lrp_state, task_state};
+ghost use Rattle.bbs_codec.specs.RowFormats.{presence, lrp_state, task_state, optional_end};
 
 use crate::fields::Fields;
 use diego_names::{Instance, Name};
@@ -10,30 +9,25 @@ use lrp_records::{LrpState, Presence};
 use task_records::TaskState;
 use wire_fields::{FieldFault, put_u8, read_u8};
 
-fn evacuating(presence: Presence) -> bool
-    ensures { result ≡ is_evacuating presence }
-{
-    match presence {
-        Presence::Ordinary => false,
-        Presence::Evacuating => true,
-    }
-}
-
 impl Fields for Presence {
     ghost format = { presence };
 
     fn read_at(bytes: &[u8], at: usize) -> Result<(Presence, usize), FieldFault> {
-        let (is_there, at) = bool::read_at(bytes, at)?;
-        let read = if is_there {
-            Presence::Evacuating
-        } else {
-            Presence::Ordinary
-        };
-        Ok((read, at))
+        let (number, next) = read_u8(bytes, at)?;
+        match number {
+            0 => Ok((Presence::Ordinary, next)),
+            1 => Ok((Presence::Evacuating, next)),
+            2 => Ok((Presence::Suspect, next)),
+            _ => Err(FieldFault::BadField { at }),
+        }
     }
 
     fn put_at(self, out: &mut [u8], at: usize) -> usize {
-        evacuating(self).put_at(out, at)
+        match self {
+            Presence::Ordinary => put_u8(out, at, 0),
+            Presence::Evacuating => put_u8(out, at, 1),
+            Presence::Suspect => put_u8(out, at, 2),
+        }
     }
 
     fn fits(self) {}
@@ -127,4 +121,32 @@ impl Fields for TaskState {
             (instance, cell).fits();
         }
     }
+}
+
+impl Fields for Option<u64> {
+    ghost format = { optional_end };
+
+    fn read_at(bytes: &[u8], at: usize) -> Result<(Option<u64>, usize), FieldFault> {
+        let (number, next) = read_u8(bytes, at)?;
+        match number {
+            0 => Ok((None, next)),
+            1 => {
+                let (until, next) = u64::read_at(bytes, next)?;
+                Ok((Some(until), next))
+            }
+            _ => Err(FieldFault::BadField { at }),
+        }
+    }
+
+    fn put_at(self, out: &mut [u8], at: usize) -> usize {
+        match self {
+            None => put_u8(out, at, 0),
+            Some(until) => {
+                let at = put_u8(out, at, 1);
+                until.put_at(out, at)
+            }
+        }
+    }
+
+    fn fits(self) {}
 }

@@ -34,5 +34,9 @@ pub fn kind_of(op: &Op) -> u8
         Op::Renew { .. } => 23,
         Op::Drain { .. } => 24,
         Op::Vanish { .. } => 25,
+        Op::Fresh { .. } => 26,
+        Op::Forget { .. } => 27,
+        Op::Suspect { .. } => 28,
+        Op::DropSuspect { .. } => 29,
     }
 }

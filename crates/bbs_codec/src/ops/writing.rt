@@ -17,9 +17,26 @@ fn put<T: Fields>(out: &mut [u8], at: usize, value: T) -> usize
     value.put_at(out, at)
 }
 
+/// Writes the fields of an operation on domains, or on SUSPECT rows.
+fn put_late_op(out: &mut [u8], at: usize, op: &Op) -> usize
+    requires kind { 26 ≤ (said op.now).kind }
+    requires room { (said op.now).Fits → at + length (said op.now).fields ≤ length out.old }
+    ensures bytes { PutsText out.old at (said op.entry.now).fields out.new result }
+    ensures fits { (said op.entry.now).Fits }
+{
+    match *op {
+        Op::Fresh { domain, ttl } => put(out, at, (domain, ttl)),
+        Op::Forget { domain } => put(out, at, domain),
+        Op::Suspect { key, instance } | Op::DropSuspect { key, instance } => {
+            put(out, at, (key, instance))
+        }
+        _ => unreachable!(),
+    }
+}
+
 /// Writes the fields of an operation on cells.
 fn put_cell_op(out: &mut [u8], at: usize, op: &Op) -> usize
-    requires kind { 22 ≤ (said op.now).kind }
+    requires kind { (22 ≤ (said op.now).kind) × ((said op.now).kind ≤ 25) }
     requires room { (said op.now).Fits → at + length (said op.now).fields ≤ length out.old }
     ensures bytes { PutsText out.old at (said op.entry.now).fields out.new result }
     ensures fits { (said op.entry.now).Fits }
@@ -131,6 +148,7 @@ pub fn put_op(out: &mut [u8], at: usize, op: &Op) -> usize
         0..=3 => put_process_op(out, at, op),
         4..=13 => put_lrp_op(out, at, op),
         14..=21 => put_task_op(out, at, op),
-        _ => put_cell_op(out, at, op),
+        22..=25 => put_cell_op(out, at, op),
+        _ => put_late_op(out, at, op),
     }
 }

@@ -113,6 +113,20 @@ fn operations_of_cells_on_keys_are_spelled_as_their_table_says(
                 instance,
             },
         ),
+        (
+            28,
+            Op::Suspect {
+                key: web_1(web),
+                instance,
+            },
+        ),
+        (
+            29,
+            Op::DropSuspect {
+                key: web_1(web),
+                instance,
+            },
+        ),
     ];
     for (kind, op) in kinds {
         let mut bytes = *b"\0\0\0\0\x09\x03web\0\0\0\x01\0\0\0\0\0\0\x01\x02\0\0\0\x09";
@@ -185,5 +199,16 @@ fn operations_on_cells_are_spelled_as_their_table_says(rt: HostRuntime) -> Resul
     let drain = Op::Drain { cell, epoch };
     spells(&rt, drain, b"\x18\0\0\0\x09\x02c1\0\0\0\0\0\0\x01\x02");
     spells(&rt, Op::Vanish { cell }, b"\x19\0\0\0\x09\x02c1");
+    Ok(())
+}
+
+#[test]
+fn operations_on_domains_are_spelled_as_their_table_says(rt: HostRuntime) -> Result<(), Fail> {
+    let domain = Name::read(b"d1")?;
+    let fresh = Op::Fresh { domain, ttl: 60 };
+    spells(&rt, fresh, b"\x1a\0\0\0\x09\x02d1\0\0\0\x3c");
+    let for_ever = Op::Fresh { domain, ttl: 0 };
+    spells(&rt, for_ever, b"\x1a\0\0\0\x09\x02d1\0\0\0\0");
+    spells(&rt, Op::Forget { domain }, b"\x1b\0\0\0\x09\x02d1");
     Ok(())
 }

@@ -7,9 +7,10 @@ use Rattle.head_codec.specs.declared.fault.HeadFault.{HeadFault}
 use Rattle.head_codec.proofs.HeadLaws.{head_valid}
 use Rattle.head_codec.proofs.reading.read_head.Goals as goal
 
-valid_told : (bytes : List ℕ) (r : Result Rows HeadFault) → TellsHead r (head_reading bytes) → IfOk r IsValid
-valid_told bytes (Ok rows) told = head_valid bytes rows told
-valid_told bytes (Err fault) told = tt
+valid_told : (version : ℕ) (bytes : List ℕ) (r : Result Rows HeadFault) → TellsHead r (head_reading version bytes)
+    → IfOk r IsValid
+valid_told version bytes (Ok rows) told = head_valid version bytes rows told
+valid_told version bytes (Err fault) told = tt
 
 pub returns-clause-valid : goal.returns-clause-valid
-returns-clause-valid c = valid_told c.args.bytes.now c.read_tables.result c.read_tables.ensures
+returns-clause-valid c = valid_told c.args.version c.args.bytes.now c.read_tables.result c.read_tables.ensures

@@ -1,17 +1,22 @@
-use Rattle.std.proofs.Common.{◌≡◌, ℕ, List, [], ◌++◌, length, ap, ◌∙◌, append_assoc}
+use Rattle.std.proofs.Common.{◌≡◌, ℕ, List, [], ◌++◌, ap, ◌∙◌, append_assoc}
 use Rattle.std.specs.List.{flat_map}
 use Rattle.cell_records.specs.declared.cell_row.CellRow.{CellRow}
 use Rattle.lrp_records.specs.declared.actual.Actual.{Actual}
 use Rattle.lrp_records.specs.declared.desired.Desired.{Desired}
 use Rattle.task_records.specs.declared.task.Task.{Task}
+use Rattle.bbs_model.specs.declared.domain_row.DomainRow.{DomainRow}
 use Rattle.bbs_codec.specs.Formats.{desired}
-use Rattle.head_codec.specs.Head.{Counts, counts, head_spelled}
-use Rattle.bbs_codec.specs.RowFormats.{actual, task_row, cell_row}
+use Rattle.head_codec.specs.Head.{Counts, counts, head_counts, head_spelled}
+use Rattle.bbs_codec.specs.RowFormats.{actual, task_row, cell_row, domain_row}
 use Rattle.head_codec.proofs.writing.write_head.Goals as goal
 
--- five texts, each put behind the one before it
-joined : (c d a t r : List ℕ) → ((((([] ++ c) ++ d) ++ a) ++ t) ++ r) ≡ c ++ (d ++ (a ++ (t ++ r)))
-joined c d a t r = append_assoc ((c ++ d) ++ a) t r ∙ append_assoc (c ++ d) a (t ++ r) ∙ append_assoc c d (a ++ (t ++ r))
+-- six texts, each put behind the one before it
+joined : (c d a t r m : List ℕ) → (((((([] ++ c) ++ d) ++ a) ++ t) ++ r) ++ m) ≡ c ++ (d ++ (a ++ (t ++ (r ++ m))))
+joined c d a t r m =
+    append_assoc (((c ++ d) ++ a) ++ t) r m
+    ∙ append_assoc ((c ++ d) ++ a) t (r ++ m)
+    ∙ append_assoc (c ++ d) a (t ++ (r ++ m))
+    ∙ append_assoc c d (a ++ (t ++ (r ++ m)))
 
 pub returns-clause-bytes : goal.returns-clause-bytes
 unfolding head_spelled
@@ -23,10 +28,12 @@ returns-clause-bytes c =
     let a = ap (λ (l : List Actual). flat_map actual.spelling l) c.items-2.ensures in
     let t = ap (λ (l : List Task). flat_map task_row.spelling l) c.items-3.ensures in
     let r = ap (λ (l : List CellRow). flat_map cell_row.spelling l) c.items-4.ensures in
-    put c.in_ok-append_rows-4.ensures.bytes
-    (put c.in_ok-append_rows-3.ensures.bytes (put c.in_ok-append_rows-2.ensures.bytes (put c.in_ok-append_rows.ensures.bytes front d) a) t) r
-    ∙ joined (counts.spelling (rows.next, ((length rows.desired, length rows.actual), (length rows.tasks, length rows.cells)))) (flat_map desired.spelling rows.desired)
-    (flat_map actual.spelling rows.actual) (flat_map task_row.spelling rows.tasks) (flat_map cell_row.spelling rows.cells)
+    let m = ap (λ (l : List DomainRow). flat_map domain_row.spelling l) c.items-5.ensures in
+    let first = put c.in_ok-append_rows-2.ensures.bytes (put c.in_ok-append_rows.ensures.bytes front d) a in
+    let second = put c.in_ok-append_rows-4.ensures.bytes (put c.in_ok-append_rows-3.ensures.bytes first t) r in
+    put c.in_ok-append_rows-5.ensures.bytes second m
+    ∙ joined (counts.spelling (head_counts rows)) (flat_map desired.spelling rows.desired) (flat_map actual.spelling rows.actual)
+    (flat_map task_row.spelling rows.tasks) (flat_map cell_row.spelling rows.cells) (flat_map domain_row.spelling rows.domains)
   where
     put : {new old text whole more : List ℕ} → new ≡ old ++ text → old ≡ whole → text ≡ more → new ≡ whole ++ more
     put e g h = cc
