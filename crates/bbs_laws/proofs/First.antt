@@ -11,5 +11,6 @@ IsValid-no_rows = record {
   actual = record { rising = tt; few = omega arith; each = tt };
   tasks = record { rising = tt; few = omega arith; each = tt; births = tt };
   cells = record { rising = tt; few = omega arith; each = tt; epochs = tt };
+  domains = record { rising = tt; few = omega arith };
   next = omega arith;
 }

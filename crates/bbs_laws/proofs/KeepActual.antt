@@ -74,6 +74,7 @@ with_actual rows actual valid room h = record {
   actual = AreActual-longer rows.next actual h;
   tasks = AreTasks-longer rows.next rows.tasks valid.tasks;
   cells = AreCells-longer rows.next rows.cells valid.cells;
+  domains = valid.domains;
   next = omega arith;
 }
 

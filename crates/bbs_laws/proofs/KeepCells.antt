@@ -32,6 +32,7 @@ with_cells rows cells valid room h = record {
   actual = AreActual-longer rows.next rows.actual valid.actual;
   tasks = AreTasks-longer rows.next rows.tasks valid.tasks;
   cells = h;
+  domains = valid.domains;
   next = omega arith;
 }
 

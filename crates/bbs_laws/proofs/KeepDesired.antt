@@ -29,6 +29,7 @@ with_desired rows desired valid room h = record {
   actual = AreActual-longer rows.next rows.actual valid.actual;
   tasks = AreTasks-longer rows.next rows.tasks valid.tasks;
   cells = AreCells-longer rows.next rows.cells valid.cells;
+  domains = valid.domains;
   next = omega arith;
 }
 

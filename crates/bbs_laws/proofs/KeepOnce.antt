@@ -38,7 +38,7 @@ use Rattle.bbs_laws.proofs.KeepFound.{there}
 use Rattle.bbs_laws.proofs.KeepLogs.{IsValid-after_item, IsLawful-append, IsLawful-take, replay_log-append, place-within, legal_at}
 use Rattle.bbs_laws.proofs.KeepRuns.{next-rows_after}
 use Rattle.bbs_laws.proofs.KeepSteps.{none_from, by_passing, by_knowing, by_joining}
-use Rattle.bbs_laws.proofs.KeepWalk.{each-evacuate, IsNoTask, IsOfFound, each-attempt}
+use Rattle.bbs_laws.proofs.KeepWalk.{each-keeps_aside, IsNoTask, IsOfFound, each-attempt}
 
 ended_first : (found : Option Task) → option_map_or (λ (t : Task). is_completed t.state) found false ≡ true
     → option_map_or (λ (t : Task). is_unfinished t.state) found false ≡ false
@@ -59,12 +59,14 @@ module _ (rows : Rows) (valid : IsValid rows) (b : ℕ) (past : b < rows.next) (
   rests-put (row.Actual a) other is = is
   rests-put (row.Task t) other is = absurd other
   rests-put (row.Cell c) other is = is
+  rests-put (row.Domain d) other is = is
 
   rests-drop : (asked : Op) (r : Row) → IsOfFound (found_by rows asked) r → Rests (drop_row r)
   rests-drop asked (row.Desired d) known is = is
   rests-drop asked (row.Actual a) known is = is
   rests-drop asked (row.Task t) known is = absurd known
   rests-drop asked (row.Cell c) known is = is
+  rests-drop asked (row.Domain d) known is = is
 
   rests-new_task : (name : List ℕ) (memory disk : ℕ) (tag : Option (List ℕ)) → Rests (new_task (found_by rows (op.NewTask name memory disk tag)) name memory disk tag now)
   rests-new_task name memory disk tag =
@@ -96,7 +98,8 @@ module _ (rows : Rows) (valid : IsValid rows) (b : ℕ) (past : b < rows.next) (
 
   rests-attempt : (asked : Op) → Rests (attempt_at (found_by rows asked) now asked)
   rests-attempt = each-attempt rows now (λ asked attempt. Rests attempt) (λ asked why is. is) (λ asked is. is) (λ asked. rests-put) rests-drop
-      (λ key instance. each-evacuate Rests (λ why is. is) (λ is. is) (found_by rows (op.Evacuate key instance)) instance now (λ old known runs passed is. is))
+      (λ asked place is aside refusals instance. each-keeps_aside Rests (λ why is. is) (λ is. is) place.1 aside
+      refusals (found_by rows asked) instance now (λ old known runs passed is. is))
       rests-new_task rests-move_task rests-move_task_by_cell
 
 pub rests-after_item : (rows : Rows) (item : Item) (b : ℕ) → IsValid rows → b < rows.next → awaits_outcome rows b ≡ false → awaits_outcome (after_item rows item) b ≡ false

@@ -25,10 +25,12 @@ next-edited rows (Put (row.Desired d)) = refl
 next-edited rows (Put (row.Actual a)) = refl
 next-edited rows (Put (row.Task t)) = refl
 next-edited rows (Put (row.Cell c)) = refl
+next-edited rows (Put (row.Domain d)) = refl
 next-edited rows (Drop (row.Desired d)) = refl
 next-edited rows (Drop (row.Actual a)) = refl
 next-edited rows (Drop (row.Task t)) = refl
 next-edited rows (Drop (row.Cell c)) = refl
+next-edited rows (Drop (row.Domain d)) = refl
 
 next-edited_again : (rows : Rows) (edit : Option Edit) → (edited_again rows edit).next ≡ rows.next
 next-edited_again rows None = refl

@@ -1,5 +1,5 @@
 -- What an attempt has passed: its refusals, and that there are the rows that it asks for.
-use Rattle.std.proofs.Common.{◌≡◌, ℕ, ◌<◌, ◌≤◌, Bool, true, false, ◌&&◌, cond, [], ◌∷◌, Option, Some, None, is_some, is_none, nat_le, nat_lt, ◌==◌, refl, arith}
+use Rattle.std.proofs.Common.{◌≡◌, ℕ, ◌<◌, ◌≤◌, Bool, true, false, ◌&&◌, cond, [], ◌∷◌, ◌++◌, Option, Some, None, is_some, is_none, nat_le, nat_lt, ◌==◌, refl, arith}
 use Rattle.std.specs.List.{AllByRecursion}
 use Rattle.std.proofs.lemmas.Bool.Decides.{nat_tests}
 use Rattle.cell_records.specs.declared.cell_row.CellRow.{CellRow}
@@ -12,6 +12,11 @@ use Rattle.bbs_model.specs.declared.verdict.BoardRefusal.TheVariants.{Unknown, U
 -- no cause of these holds
 abbrev pub ArePassed : Refusals → Type 0
 ArePassed cs = AllByRecursion (λ (c : Bool × BoardRefusal). c.0 ≡ false) cs
+
+-- the later ones of these are passed
+pub passed_later : (first later : Refusals) → ArePassed (first ++ later) → ArePassed later
+passed_later [] later h = h
+passed_later (c ∷ first) later h = passed_later first later h.1
 
 pub none_from : {X : Type 0} (o : Option X) → is_some o ≡ false → o ≡ None
 none_from None h = refl

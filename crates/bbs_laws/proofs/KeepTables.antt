@@ -15,9 +15,10 @@ use Rattle.lrp_records.proofs.Public.{IsKeyOrder-place_order}
 use Rattle.row_tables.specs.Table.{find_row, put_row, without_row}
 use Rattle.row_tables.proofs.Public.{IsRising-put_row, IsRising-without_row, sum_by-without_row}
 use Rattle.task_records.specs.declared.task.Task.{Task}
-use Rattle.bbs_model.specs.Limits.{most_processes, most_wanted, most_actual, most_tasks, most_cells}
-use Rattle.bbs_model.specs.Tables.{process_of, task_name_of, cell_name_of}
-use Rattle.bbs_model.specs.Valid.{HasFewInstances, AreDesired, IsHeldBefore, IsActualRow, AreActual, IsTaskRow, AreTasks, HasJoined, AreCells}
+use Rattle.bbs_model.specs.Limits.{most_processes, most_wanted, most_actual, most_tasks, most_cells, most_domains}
+use Rattle.bbs_model.specs.Tables.{process_of, task_name_of, cell_name_of, domain_name_of}
+use Rattle.bbs_model.specs.Valid.{HasFewInstances, AreDesired, IsHeldBefore, IsActualRow, AreActual, IsTaskRow, AreTasks, HasJoined, AreCells, AreDomains}
+use Rattle.bbs_model.specs.declared.domain_row.DomainRow.{DomainRow}
 use Rattle.task_records.specs.States.{runner_of}
 use Rattle.bbs_model.proofs.Public.{each_weaker}
 use Rattle.bbs_laws.proofs.KeepEach.{each-put_row, each-without_row, few-put_row, few-without_row, distinct-put_row_known, distinct-put_row_above, distinct-without_row}
@@ -157,4 +158,20 @@ AreCells-without next cell rows h = record {
   few = few-without_row name_order cell_name_of IsKeyOrder-name_order most_cells cell rows h.rising h.few;
   each = each-without_row name_order cell_name_of (HasJoined next) cell rows h.each;
   epochs = distinct-without_row name_order cell_name_of (λ (c : CellRow). c.epoch) cell rows h.epochs;
+}
+
+-- domains
+pub AreDomains-put : (row : DomainRow) (rows : List DomainRow) → AreDomains rows
+    → (find_row name_order domain_name_of row.domain rows ≡ None → length rows < most_domains)
+    → AreDomains (put_row name_order domain_name_of row rows)
+AreDomains-put row rows h room = record {
+  rising = IsRising-put_row name_order domain_name_of IsKeyOrder-name_order row rows h.rising;
+  few = few-put_row name_order domain_name_of IsKeyOrder-name_order most_domains row rows h.rising h.few room;
+}
+
+pub AreDomains-without : (domain : List ℕ) (rows : List DomainRow) → AreDomains rows
+    → AreDomains (without_row name_order domain_name_of domain rows)
+AreDomains-without domain rows h = record {
+  rising = IsRising-without_row name_order domain_name_of domain rows h.rising;
+  few = few-without_row name_order domain_name_of IsKeyOrder-name_order most_domains domain rows h.rising h.few;
 }

@@ -68,6 +68,7 @@ with_tasks rows tasks valid room h = record {
   actual = AreActual-longer rows.next rows.actual valid.actual;
   tasks = h;
   cells = AreCells-longer rows.next rows.cells valid.cells;
+  domains = valid.domains;
   next = omega arith;
 }
 

@@ -14,9 +14,9 @@ use Rattle.task_records.specs.declared.task.Task.{Task}
 use Rattle.bbs_model.specs.Attempts.{if_joined, put, drop_row}
 use Rattle.bbs_model.specs.Found.{task_in, found_by}
 use Rattle.bbs_laws.specs.Events.{StandsIn, SaysSo, AreTrue, TellsTruth}
-use Rattle.bbs_model.specs.Lrps.{evacuating_row, left_row}
+use Rattle.bbs_model.specs.Lrps.{aside_row, left_row}
 use Rattle.bbs_model.specs.Step.{attempt_at, changed_by, advanced, with_row, without_place_of, has_place_of, events_in}
-use Rattle.bbs_model.specs.Tables.{process_of, task_name_of, cell_name_of}
+use Rattle.bbs_model.specs.Tables.{process_of, task_name_of, cell_name_of, domain_name_of}
 use Rattle.bbs_model.specs.Tasks.{new_task_refusals, task_moved_to}
 use Rattle.bbs_model.specs.declared.attempt.Attempt.{Attempt}
 use Rattle.bbs_model.specs.declared.command.Command.{Command}
@@ -28,7 +28,7 @@ use Rattle.bbs_model.specs.declared.event.Row.TheVariants as row
 use Rattle.bbs_model.specs.declared.rows.Rows.{Rows}
 use Rattle.bbs_laws.proofs.KeepFound.{there, Stands-found}
 use Rattle.bbs_laws.proofs.KeepSteps.{by_passing, by_knowing, by_joining}
-use Rattle.bbs_laws.proofs.KeepWalk.{each-evacuate, each-attempt}
+use Rattle.bbs_laws.proofs.KeepWalk.{each-keeps_aside, each-attempt}
 
 -- a row that was put stands there, with or without a further transition
 Stands-with_row : (rows : Rows) (r : Row) → StandsIn (with_row rows r) r
@@ -36,12 +36,15 @@ Stands-with_row rows (row.Desired d) = find_row-put_row_same name_order process_
 Stands-with_row rows (row.Actual a) = find_row-put_row_same place_order place_of IsKeyOrder-place_order a rows.actual
 Stands-with_row rows (row.Task t) = find_row-put_row_same name_order task_name_of IsKeyOrder-name_order t rows.tasks
 Stands-with_row rows (row.Cell c) = find_row-put_row_same name_order cell_name_of IsKeyOrder-name_order c rows.cells
+Stands-with_row rows (row.Domain d) =
+    find_row-put_row_same name_order domain_name_of IsKeyOrder-name_order d rows.domains
 
 Stands-advanced : (rows : Rows) (r : Row) → StandsIn rows r → StandsIn (advanced rows) r
 Stands-advanced rows (row.Desired d) h = h
 Stands-advanced rows (row.Actual a) h = h
 Stands-advanced rows (row.Task t) h = h
 Stands-advanced rows (row.Cell c) h = h
+Stands-advanced rows (row.Domain d) h = h
 
 -- nothing stands where a row was taken away
 free-without : (rows : Rows) (r : Row) → has_place_of (advanced (without_place_of rows r)) r ≡ false
@@ -49,6 +52,8 @@ free-without rows (row.Desired d) = ap (λ o. is_some o) (find_row-without_row_s
 free-without rows (row.Actual a) = ap (λ o. is_some o) (find_row-without_row_same place_order place_of IsKeyOrder-place_order (place_of a) rows.actual)
 free-without rows (row.Task t) = ap (λ o. is_some o) (find_row-without_row_same name_order task_name_of IsKeyOrder-name_order t.name rows.tasks)
 free-without rows (row.Cell c) = ap (λ o. is_some o) (find_row-without_row_same name_order cell_name_of IsKeyOrder-name_order c.cell rows.cells)
+free-without rows (row.Domain d) =
+    ap (λ o. is_some o) (find_row-without_row_same name_order domain_name_of IsKeyOrder-name_order d.domain rows.domains)
 
 says-put : (test : Bool) (r : Row) (old new : Rows) → has_place_of old r ≡ test → StandsIn new r → SaysSo (cond test Changed Created) r old new
 says-put true r old new place stands = (place, stands)
@@ -88,8 +93,9 @@ module _ (rows : Rows) (now : Moment) where
   told-attempt : (asked : Op) → IsTold (attempt_at (found_by rows asked) now asked)
   told-attempt = each-attempt rows now (λ asked attempt. IsTold attempt) (λ asked why. tt) (λ asked. tt)
       (λ asked r is. told-put r) (λ asked r known. told-drop r (Stands-found rows asked r known))
-      (λ key instance. each-evacuate IsTold (λ why. tt) tt (found_by rows (op.Evacuate key instance)) instance now (λ old known runs passed.
-      let kept = row.Actual (evacuating_row old) in
+      (λ asked place is aside refusals instance. each-keeps_aside IsTold (λ why. tt) tt place.1 aside refusals
+      (found_by rows asked) instance now (λ old known runs passed.
+      let kept = row.Actual (aside_row place.1 old) in
       let left = row.Actual (left_row old now) in
       let between = with_row rows kept in
       record {

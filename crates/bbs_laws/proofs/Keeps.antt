@@ -2,6 +2,7 @@
 use Rattle.std.proofs.Common.{◌≡◌, ℕ, ◌<◌, ◌≤◌, Bool, true, false, cond, Option, nat_le, refl, subst}
 use Rattle.crash_backoff.specs.declared.moment.Moment.{Moment}
 use Rattle.lrp_records.specs.declared.lrp_move.LrpMove.TheVariants as lrp
+use Rattle.lrp_records.specs.declared.presence.Presence.TheVariants.{Evacuating, Suspect}
 use Rattle.task_records.specs.declared.move_kind.TaskMove.TheVariants as task
 use Rattle.task_records.specs.Moves.{task_move}
 use Rattle.task_records.specs.declared.move_end.TaskEnd.{TaskEnd}
@@ -13,7 +14,7 @@ use Rattle.bbs_model.specs.Tasks.{new_task_refusals, task_moved_to}
 use Rattle.bbs_model.specs.Found.{found_by}
 use Rattle.bbs_model.specs.Limits.{most_wanted, most_transitions}
 use Rattle.bbs_model.specs.Step.{attempt_at, attempt_of, judged, IsLegal, changed_by, edited, rows_after}
-use Rattle.bbs_model.specs.Tables.{find_cell, wanted}
+use Rattle.bbs_model.specs.Tables.{find_actual, find_cell, wanted}
 use Rattle.bbs_model.specs.Valid.{IsValid}
 use Rattle.bbs_model.specs.declared.attempt.Attempt.{Attempt}
 use Rattle.bbs_model.specs.declared.attempt.Attempt.TheVariants.{Refuse, Keep, Change}
@@ -25,10 +26,11 @@ use Rattle.bbs_model.specs.declared.rows.Rows.{Rows}
 use Rattle.bbs_model.specs.declared.verdict.BoardRefusal.TheVariants.{BoardFull}
 use Rattle.bbs_model.specs.declared.verdict.Verdict.TheVariants as verdict
 use Rattle.bbs_laws.proofs.KeepCells.{IsValid-join, IsValid-renew, IsValid-drain, IsValid-vanish}
+use Rattle.bbs_laws.proofs.KeepDomains.{IsValid-fresh, IsValid-forget}
 use Rattle.bbs_laws.proofs.KeepDesired.{IsValid-desire, IsValid-update, IsValid-undesire}
-use Rattle.bbs_laws.proofs.KeepLrps.{IsValid-make, IsValid-move_lrp, IsValid-move_lrp_by_cell, IsValid-evacuate, IsValid-drop_evacuating}
+use Rattle.bbs_laws.proofs.KeepLrps.{IsValid-make, IsValid-move_lrp, IsValid-move_lrp_by_cell, IsValid-evacuate, IsValid-suspect, IsValid-drop_aside}
 use Rattle.bbs_laws.proofs.KeepSteps.{below_from, by_passing, by_knowing, by_joining}
-use Rattle.bbs_laws.proofs.KeepWalk.{each-evacuate, each-attempt}
+use Rattle.bbs_laws.proofs.KeepWalk.{each-keeps_aside, each-attempt}
 use Rattle.bbs_laws.proofs.KeepTasks.{IsValid-new_task, IsValid-move_task, IsValid-move_task_by_cell}
 
 -- an attempt that comes to Ok is a change of a board that may make another transition
@@ -67,7 +69,8 @@ module _ (rows : Rows) (valid : IsValid rows) (room : rows.next < most_transitio
   IsValid-attempt_at (op.Remove key instance) = IsValid-move_lrp rows valid room key (lrp.Remove instance) now tt
   IsValid-attempt_at (op.PlaceFail key) = IsValid-move_lrp rows valid room key lrp.PlaceFail now tt
   IsValid-attempt_at (op.Evacuate key instance) = IsValid-evacuate rows valid room key instance now
-  IsValid-attempt_at (op.DropEvacuating key instance) = IsValid-drop_evacuating rows valid room key instance
+  IsValid-attempt_at (op.DropEvacuating key instance) =
+      IsValid-drop_aside rows valid room (find_actual rows key Evacuating) instance
   IsValid-attempt_at (op.NewTask name memory disk tag) = IsValid-new_task rows valid room name memory disk tag now
   IsValid-attempt_at (op.StartTask name instance cell) =
       IsValid-move_task_by_cell rows valid room name instance cell (task.Start instance cell) now (λ before. before)
@@ -81,6 +84,11 @@ module _ (rows : Rows) (valid : IsValid rows) (room : rows.next < most_transitio
   IsValid-attempt_at (op.Renew cell epoch ttl) = IsValid-renew rows valid room cell epoch ttl now
   IsValid-attempt_at (op.Drain cell epoch) = IsValid-drain rows valid room cell epoch
   IsValid-attempt_at (op.Vanish cell) = IsValid-vanish rows valid room (find_cell rows cell) now
+  IsValid-attempt_at (op.Fresh domain ttl) = IsValid-fresh rows valid room domain ttl now
+  IsValid-attempt_at (op.Forget domain) = IsValid-forget rows valid room domain now
+  IsValid-attempt_at (op.Suspect key instance) = IsValid-suspect rows valid room key instance now
+  IsValid-attempt_at (op.DropSuspect key instance) =
+      IsValid-drop_aside rows valid room (find_actual rows key Suspect) instance
 
 pub IsValid-rows_after : (rows : Rows) (c : Command) → IsValid rows → IsLegal rows c → IsValid (rows_after rows c)
 IsValid-rows_after rows c valid legal = IsValid-attempt_at rows valid (legal_changes rows c legal).room c.now c.op
@@ -104,7 +112,8 @@ module _ (rows : Rows) (valid : IsValid rows) (now : Moment) where
   fits-attempt : (asked : Op) → FitsAtOnce (attempt_at (found_by rows asked) now asked)
   fits-attempt = each-attempt rows now (λ asked attempt. FitsAtOnce attempt) (λ asked why after. tt) (λ asked after. tt)
       (λ asked r is after. after.desired.wanted) (λ asked r is after. after.desired.wanted)
-      (λ key instance. each-evacuate FitsAtOnce (λ why after. tt) (λ after. tt) (found_by rows (op.Evacuate key instance)) instance now (λ old known runs passed after. valid.desired.wanted))
+      (λ asked place is aside refusals instance. each-keeps_aside FitsAtOnce (λ why after. tt) (λ after. tt) place.1
+      aside refusals (found_by rows asked) instance now (λ old known runs passed after. valid.desired.wanted))
       (λ name memory disk tag. by_passing FitsAtOnce (λ why after. tt) (new_task_refusals (found_by rows (op.NewTask name memory disk tag))) _ (λ passed after. after.desired.wanted))
       (λ asked move. by_knowing FitsAtOnce (λ why after. tt) (found_by rows asked).task (λ old. task_moved_to old (task_move old move now)) (λ old known. fits-moved_to old (task_move old move now)))
       (λ asked epoch move. by_knowing FitsAtOnce (λ why after. tt) (found_by rows asked).task (λ old. if_joined (found_by rows asked).cell epoch (λ c. task_moved_to old (task_move old move now))) (λ old known.

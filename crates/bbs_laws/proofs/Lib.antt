@@ -6,6 +6,7 @@ pub mod KeepActual
 pub mod KeepLrps
 pub mod KeepTasks
 pub mod KeepCells
+pub mod KeepDomains
 pub mod Keeps
 pub mod KeepRuns
 pub mod KeepLogs

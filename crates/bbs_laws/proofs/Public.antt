@@ -1,6 +1,6 @@
 -- The lemmas that other crates may cite.
 pub use Rattle.bbs_laws.proofs.KeepSteps.{by_test, by_passing, by_knowing, by_joining}
-pub use Rattle.bbs_laws.proofs.KeepWalk.{each-evacuate}
+pub use Rattle.bbs_laws.proofs.KeepWalk.{each-keeps_aside}
 pub use Rattle.bbs_laws.proofs.KeepBirths.{waits-below}
 pub use Rattle.bbs_laws.proofs.Keeps.{IsValid-rows_after, wanted-first, legal_changes}
 pub use Rattle.bbs_laws.proofs.KeepRuns.{next-rows_after}

@@ -25,14 +25,17 @@ next-with_change Created (row.Desired d) rows = refl
 next-with_change Created (row.Actual a) rows = refl
 next-with_change Created (row.Task t) rows = refl
 next-with_change Created (row.Cell c) rows = refl
+next-with_change Created (row.Domain d) rows = refl
 next-with_change Changed (row.Desired d) rows = refl
 next-with_change Changed (row.Actual a) rows = refl
 next-with_change Changed (row.Task t) rows = refl
 next-with_change Changed (row.Cell c) rows = refl
+next-with_change Changed (row.Domain d) rows = refl
 next-with_change Removed (row.Desired d) rows = refl
 next-with_change Removed (row.Actual a) rows = refl
 next-with_change Removed (row.Task t) rows = refl
 next-with_change Removed (row.Cell c) rows = refl
+next-with_change Removed (row.Domain d) rows = refl
 
 next-with_events : (es : List Event) (rows : Rows) → (with_events es rows).next ≡ rows.next
 next-with_events [] rows = refl

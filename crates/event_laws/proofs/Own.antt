@@ -1,6 +1,6 @@
 -- Each edit of an attempt is of a row at one of the command's own keys, and drops a row that stands.
-use Rattle.std.proofs.Common.{◌≡◌, ℕ, ◌+◌, ◌==◌, true, cond, List, Option, Some, None, nat_lt, refl, ap, sym, ◌∙◌}
-use Rattle.std.specs.Option.{option_and_then}
+use Rattle.std.proofs.Common.{◌≡◌, ℕ, ◌+◌, ◌==◌, true, cond, List, ◌++◌, Option, Some, None, nat_eq, nat_lt, refl, ap, sym, ◌∙◌}
+use Rattle.std.specs.Option.{option_and_then, option_eq}
 use Rattle.std.specs.declared.cmp.Ordering.{Ordering}
 use Rattle.cell_records.specs.declared.amounts.Amounts.{Amounts}
 use Rattle.cell_records.specs.declared.cell_row.CellRow.{CellRow}
@@ -19,7 +19,7 @@ use Rattle.lrp_records.specs.declared.lrp_move.LrpMove.TheVariants as lrp
 use Rattle.lrp_records.specs.declared.move_end.MoveEnd.{MoveEnd}
 use Rattle.lrp_records.specs.declared.move_end.MoveEnd.TheVariants as end
 use Rattle.lrp_records.specs.declared.presence.Presence.{Presence}
-use Rattle.lrp_records.specs.declared.presence.Presence.TheVariants.{Ordinary, Evacuating}
+use Rattle.lrp_records.specs.declared.presence.Presence.TheVariants.{Ordinary, Evacuating, Suspect}
 use Rattle.lrp_records.proofs.Public.{KeepsPlace-lrp_move, IsKeyOrder-place_order}
 use Rattle.row_tables.specs.Table.{IsKeyOrder, find_row}
 use Rattle.row_tables.proofs.Public.{key-find_row}
@@ -31,14 +31,15 @@ use Rattle.task_records.specs.declared.move_kind.TaskMove.{TaskMove}
 use Rattle.task_records.specs.declared.move_kind.TaskMove.TheVariants as task
 use Rattle.task_records.specs.declared.task.Task.{Task}
 use Rattle.task_records.proofs.Public.{KeepsTask-task_move}
-use Rattle.bbs_model.specs.Attempts.{if_known, if_joined, put, drop_row, unless_refused}
+use Rattle.bbs_model.specs.Attempts.{Refusals, if_known, if_joined, put, drop_row, unless_refused}
 use Rattle.bbs_model.specs.Cells.{join_refusals, vanish}
-use Rattle.bbs_model.specs.Found.{key_in, task_in, found_by}
+use Rattle.bbs_model.specs.Domains.{holds_at, lease_end, told_end, fresh_refusals, fresh_row}
+use Rattle.bbs_model.specs.Found.{key_in, task_in, domain_in, found_by}
 use Rattle.bbs_laws.specs.Events.{StandsIn}
-use Rattle.bbs_model.specs.Lrps.{new_row, make_refusals, moved_to, is_running_as, left_row, stays_because}
+use Rattle.bbs_model.specs.Lrps.{new_row, domain_of, make_refusals, moved_to, is_running_as, left_row, stays_because, aside_refusals, keeps_aside, drop_aside, lease_refusals}
 use Rattle.bbs_model.specs.Processes.{desire_refusals, asks_for, resize_refusals}
 use Rattle.bbs_model.specs.Step.{attempt_at, edited}
-use Rattle.bbs_model.specs.Tables.{process_of, task_name_of, cell_name_of, find_actual, find_task, find_cell}
+use Rattle.bbs_model.specs.Tables.{process_of, task_name_of, cell_name_of, domain_name_of, find_desired, find_actual, find_task, find_cell, find_domain}
 use Rattle.bbs_model.specs.Tasks.{new_task_refusals}
 use Rattle.bbs_model.specs.Tasks as tasks
 use Rattle.bbs_model.specs.declared.attempt.Attempt.{Attempt}
@@ -47,11 +48,12 @@ use Rattle.bbs_model.specs.declared.attempt.Edit.{Edit}
 use Rattle.bbs_model.specs.declared.attempt.Edit.TheVariants.{Put, Drop}
 use Rattle.bbs_model.specs.declared.command.Op.{Op}
 use Rattle.bbs_model.specs.declared.command.Op.TheVariants as op
+use Rattle.bbs_model.specs.declared.domain_row.DomainRow.{DomainRow}
 use Rattle.bbs_model.specs.declared.event.Row.{Row}
 use Rattle.bbs_model.specs.declared.event.Row.TheVariants as row
 use Rattle.bbs_model.specs.declared.rows.Rows.{Rows}
 use Rattle.bbs_model.specs.declared.verdict.BoardRefusal.TheVariants as why
-use Rattle.bbs_laws.proofs.Public.{by_test, by_passing, by_knowing, by_joining, each-evacuate}
+use Rattle.bbs_laws.proofs.Public.{by_test, by_passing, by_knowing, by_joining, each-keeps_aside}
 use Rattle.event_laws.specs.Frame.{own_process, own_instance, own_cell}
 
 -- the row has one of the command's own keys
@@ -60,6 +62,7 @@ IsOwn asked (row.Desired d) = own_process asked ≡ Some d.process
 IsOwn asked (row.Actual a) = own_instance asked a.presence ≡ Some a.key
 IsOwn asked (row.Task t) = task_in asked ≡ Some t.name
 IsOwn asked (row.Cell c) = own_cell asked ≡ Some c.cell
+IsOwn asked (row.Domain d) = domain_in asked ≡ Some d.domain
 
 -- a row that is dropped stands
 abbrev pub IsSound : Rows → Edit → Type 0
@@ -142,7 +145,9 @@ module _ (rows : Rows) (now : Moment) where
   -- instances
   makes : (key : Key) → let asked = op.Make key in AreOwn rows asked (attempt_at (found_by rows asked) now asked)
   makes key = let asked = op.Make key in
-      by_passing (AreOwn rows asked) (λ _. tt) (make_refusals (found_by rows asked) key) (put (row.Actual (new_row key now))) (λ _. puts asked (row.Actual (new_row key now)) refl)
+      let new = new_row key (domain_of (find_desired rows key.process)) now in
+      by_passing (AreOwn rows asked) (λ _. tt) (make_refusals (found_by rows asked) key) (put (row.Actual new)) (λ _.
+      puts asked (row.Actual new) refl)
 
   own_as : (asked : Op) (presence : Presence) (new old : Actual) → own_instance asked presence ≡ Some old.key → old.presence ≡ presence → place_of new ≡ place_of old
       → own_instance asked new.presence ≡ Some new.key
@@ -168,22 +173,43 @@ module _ (rows : Rows) (now : Moment) where
       by_joining (AreOwn rows asked) (λ _. tt) found.cell epoch (λ cell. moved_to old (lrp_move old move now)) (λ cell joined same.
       moves_to asked old (lrp_move old move now) (found_as Ordinary (key_in asked) old known) (KeepsPlace-lrp_move old move now)))
 
-  evacuates : (key : Key) (instance : Instance) → let asked = op.Evacuate key instance in AreOwn rows asked (attempt_at (found_by rows asked) now asked)
-  evacuates key instance =
-      let asked = op.Evacuate key instance in
-      each-evacuate (AreOwn rows asked) (λ _. tt) tt (found_by rows asked) instance now (λ old known runs passed.
-      let at = found_as Ordinary (Some key) old known in
-      (record { own = at.key; sound = tt }, record { own = own_as asked Ordinary (left_row old now) old at.key at.presence refl; sound = tt }))
+  -- a row aside is the command's own by its presence
+  keeps : (asked : Op) (presence : Presence) (key : Key) → key_in asked ≡ Some key
+      → own_instance asked presence ≡ Some key → (aside : Option Actual) (refusals : Refusals) (instance : Instance)
+      → AreOwn rows asked (keeps_aside presence aside refusals (found_by rows asked) instance now)
+  keeps asked presence key ordinary is_own aside refusals instance =
+      each-keeps_aside (AreOwn rows asked) (λ _. tt) tt presence aside refusals (found_by rows asked) instance now
+      (λ old known runs passed.
+      let at = found_as Ordinary (key_in asked) old known in (
+        record { own = is_own ∙ sym ordinary ∙ at.key; sound = tt },
+        record { own = own_as asked Ordinary (left_row old now) old at.key at.presence refl; sound = tt },
+      ))
 
-  drops_evacuating : (key : Key) (instance : Instance) → let asked = op.DropEvacuating key instance in AreOwn rows asked (attempt_at (found_by rows asked) now asked)
-  drops_evacuating key instance =
-      let asked = op.DropEvacuating key instance in
+  drops_aside : (asked : Op) (presence : Presence) (key : Key) → own_instance asked presence ≡ Some key
+      → (instance : Instance) → AreOwn rows asked (drop_aside (find_actual rows key presence) instance)
+  drops_aside asked presence key is_own instance =
       let stays = λ (old : Actual). Refuse (stays_because old.state instance) in
       let step = λ (old : Actual). cond (is_running_as old.state instance) (drop_row (row.Actual old)) (stays old) in
-      by_knowing (AreOwn rows asked) (λ _. tt) (found_by rows asked).evacuating step (λ old known.
+      by_knowing (AreOwn rows asked) (λ _. tt) (find_actual rows key presence) step (λ old known.
       by_test (AreOwn rows asked) (λ _. tt) (is_running_as old.state instance) (drop_row (row.Actual old)) (stays old) (λ _.
-      let at = found_as Evacuating (Some key) old known in
-      drops asked (row.Actual old) (own_as asked Evacuating old old at.key at.presence refl) at.stands) (λ _. tt))
+      let at = found_as presence (Some key) old known in
+      drops asked (row.Actual old) (own_as asked presence old old (is_own ∙ at.key) at.presence refl) at.stands)
+      (λ _. tt))
+
+  evacuates : (key : Key) (instance : Instance) → let asked = op.Evacuate key instance in
+      AreOwn rows asked (attempt_at (found_by rows asked) now asked)
+  evacuates key instance =
+      let asked = op.Evacuate key instance in
+      let found = found_by rows asked in
+      keeps asked Evacuating key refl refl found.evacuating (aside_refusals found.evacuating found) instance
+
+  suspects : (key : Key) (instance : Instance) → let asked = op.Suspect key instance in
+      AreOwn rows asked (attempt_at (found_by rows asked) now asked)
+  suspects key instance =
+      let asked = op.Suspect key instance in
+      let found = found_by rows asked in
+      keeps asked Suspect key refl refl found.suspect
+      (lease_refusals found.cell instance.epoch now ++ aside_refusals found.suspect found) instance
 
   -- tasks
   begins : (name : List ℕ) (memory disk : ℕ) (tag : Option (List ℕ)) → let asked = op.NewTask name memory disk tag in
@@ -242,6 +268,36 @@ module _ (rows : Rows) (now : Moment) where
       by_test (AreOwn rows asked) (λ _. tt) (nat_lt now.0 old.until) (Refuse (why.LeaseHolds old.until)) (drop_row (row.Cell old)) (λ _. tt) (λ _.
       let at = cell_at cell old known in drops asked (row.Cell old) at.0 at.1)
 
+  -- domains
+  puts_fresh : (domain : List ℕ) (ttl : ℕ) (old : Option DomainRow) → let asked = op.Fresh domain ttl in
+      AreOwn rows asked (fresh_row old (record { domain = domain; until = lease_end ttl now }))
+  puts_fresh domain ttl None =
+      puts (op.Fresh domain ttl) (row.Domain (record { domain = domain; until = lease_end ttl now })) refl
+  puts_fresh domain ttl (Some old) =
+      let asked = op.Fresh domain ttl in
+      let new : DomainRow = record { domain = domain; until = lease_end ttl now } in
+      by_test (AreOwn rows asked) (λ _. tt) (option_eq nat_eq old.until new.until) Keep (put (row.Domain new))
+      (λ _. tt) (λ _.
+      puts asked (row.Domain new) refl)
+
+  freshens : (domain : List ℕ) (ttl : ℕ) → let asked = op.Fresh domain ttl in
+      AreOwn rows asked (attempt_at (found_by rows asked) now asked)
+  freshens domain ttl =
+      let asked = op.Fresh domain ttl in
+      by_passing (AreOwn rows asked) (λ _. tt) (fresh_refusals (found_by rows asked)) _
+      (λ _. puts_fresh domain ttl (find_domain rows domain))
+
+  forgets : (domain : List ℕ) → let asked = op.Forget domain in
+      AreOwn rows asked (attempt_at (found_by rows asked) now asked)
+  forgets domain =
+      let asked = op.Forget domain in
+      let holds = λ (old : DomainRow). Refuse (why.LeaseHolds (told_end old.until)) in
+      by_knowing (AreOwn rows asked) (λ _. tt) (find_domain rows domain)
+      (λ old. cond (holds_at old now) (holds old) (drop_row (row.Domain old))) (λ old known.
+      by_test (AreOwn rows asked) (λ _. tt) (holds_at old now) (holds old) (drop_row (row.Domain old)) (λ _. tt) (λ _.
+      let at = at_its_key name_order domain_name_of IsKeyOrder-name_order rows.domains (Some domain) old known in
+      drops asked (row.Domain old) at.0 at.1))
+
   pub own-attempt : (asked : Op) → AreOwn rows asked (attempt_at (found_by rows asked) now asked)
   own-attempt (op.Desire desired) = desires desired
   own-attempt (op.Update process instances route port) = updates process instances route port
@@ -255,7 +311,8 @@ module _ (rows : Rows) (now : Moment) where
   own-attempt (op.Remove key instance) = moves (op.Remove key instance) (lrp.Remove instance)
   own-attempt (op.PlaceFail key) = moves (op.PlaceFail key) lrp.PlaceFail
   own-attempt (op.Evacuate key instance) = evacuates key instance
-  own-attempt (op.DropEvacuating key instance) = drops_evacuating key instance
+  own-attempt (op.DropEvacuating key instance) =
+      drops_aside (op.DropEvacuating key instance) Evacuating key refl instance
   own-attempt (op.NewTask name memory disk tag) = begins name memory disk tag
   own-attempt (op.StartTask name instance cell) = runs_by_cell (op.StartTask name instance cell) instance.epoch (task.Start instance cell)
   own-attempt (op.CompleteTask name instance failed) = runs (op.CompleteTask name instance failed) (task.Complete instance failed)
@@ -268,3 +325,7 @@ module _ (rows : Rows) (now : Moment) where
   own-attempt (op.Renew cell epoch ttl) = renews cell epoch ttl
   own-attempt (op.Drain cell epoch) = drains cell epoch
   own-attempt (op.Vanish cell) = vanishes_as cell (find_cell rows cell) refl
+  own-attempt (op.Fresh domain ttl) = freshens domain ttl
+  own-attempt (op.Forget domain) = forgets domain
+  own-attempt (op.Suspect key instance) = suspects key instance
+  own-attempt (op.DropSuspect key instance) = drops_aside (op.DropSuspect key instance) Suspect key refl instance

@@ -8,7 +8,7 @@ use Rattle.row_tables.proofs.Public.{find_row-put_row_same, find_row-without_row
 use Rattle.bbs_laws.specs.Events.{StandsIn, SaysSo, AreTrue}
 use Rattle.bbs_model.specs.Replay.{replay, AreLegal}
 use Rattle.bbs_model.specs.Step.{IsLegal, changed_by, advanced, edited, edited_again, rows_after, with_row, without_place_of, has_place_of, event_of, event_again, events_in}
-use Rattle.bbs_model.specs.Tables.{process_of, task_name_of, cell_name_of}
+use Rattle.bbs_model.specs.Tables.{process_of, task_name_of, cell_name_of, domain_name_of}
 use Rattle.bbs_model.specs.declared.attempt.Attempt.{Attempt}
 use Rattle.bbs_model.specs.declared.attempt.Attempt.TheVariants.{Change as Changes}
 use Rattle.bbs_model.specs.declared.attempt.Edit.{Edit}
@@ -101,12 +101,16 @@ Stands-with_row rows (row.Desired d) = find_row-put_row_same name_order process_
 Stands-with_row rows (row.Actual a) = find_row-put_row_same place_order place_of IsKeyOrder-place_order a rows.actual
 Stands-with_row rows (row.Task t) = find_row-put_row_same name_order task_name_of IsKeyOrder-name_order t rows.tasks
 Stands-with_row rows (row.Cell c) = find_row-put_row_same name_order cell_name_of IsKeyOrder-name_order c rows.cells
+Stands-with_row rows (row.Domain d) =
+    find_row-put_row_same name_order domain_name_of IsKeyOrder-name_order d rows.domains
 
 free-without : (rows : Rows) (r : Row) → has_place_of (without_place_of rows r) r ≡ false
 free-without rows (row.Desired d) = ap (λ o. is_some o) (find_row-without_row_same name_order process_of IsKeyOrder-name_order d.process rows.desired)
 free-without rows (row.Actual a) = ap (λ o. is_some o) (find_row-without_row_same place_order place_of IsKeyOrder-place_order (place_of a) rows.actual)
 free-without rows (row.Task t) = ap (λ o. is_some o) (find_row-without_row_same name_order task_name_of IsKeyOrder-name_order t.name rows.tasks)
 free-without rows (row.Cell c) = ap (λ o. is_some o) (find_row-without_row_same name_order cell_name_of IsKeyOrder-name_order c.cell rows.cells)
+free-without rows (row.Domain d) =
+    ap (λ o. is_some o) (find_row-without_row_same name_order domain_name_of IsKeyOrder-name_order d.domain rows.domains)
 
 shown : (change : Change) (r : Row) (rows : Rows) → IsShown change r (with_change change r rows)
 shown Created r rows = Stands-with_row rows r
@@ -122,14 +126,17 @@ shown-advanced Created (row.Desired d) rows h = h
 shown-advanced Created (row.Actual a) rows h = h
 shown-advanced Created (row.Task t) rows h = h
 shown-advanced Created (row.Cell c) rows h = h
+shown-advanced Created (row.Domain d) rows h = h
 shown-advanced Changed (row.Desired d) rows h = h
 shown-advanced Changed (row.Actual a) rows h = h
 shown-advanced Changed (row.Task t) rows h = h
 shown-advanced Changed (row.Cell c) rows h = h
+shown-advanced Changed (row.Domain d) rows h = h
 shown-advanced Removed (row.Desired d) rows h = h
 shown-advanced Removed (row.Actual a) rows h = h
 shown-advanced Removed (row.Task t) rows h = h
 shown-advanced Removed (row.Cell c) rows h = h
+shown-advanced Removed (row.Domain d) rows h = h
 
 said : (change : Change) (r : Row) (old new : Rows) → FitsRows change r old → IsShown change r new → SaysSo change r old new
 said Created r old new due after = (due, after)

@@ -57,6 +57,7 @@ fn has_place_of(rows: &Rows, row: &Row) -> bool
         Row::Actual(row) => find_in(rows.actual.items(), &(row.key, row.presence)).is_some(),
         Row::Task(row) => find_in(rows.tasks.items(), &row.name).is_some(),
         Row::Cell(row) => find_in(rows.cells.items(), &row.cell).is_some(),
+        Row::Domain(row) => find_in(rows.domains.items(), &row.domain).is_some(),
     }
 }
 
@@ -80,6 +81,10 @@ pub fn put(alloc: Global, rows: &mut Rows, row: &Row) -> Result<(), OutOfMemory>
         }
         Row::Cell(row) => {
             rows.cells = with(alloc, rows.cells.items(), row)?;
+            Ok(())
+        }
+        Row::Domain(row) => {
+            rows.domains = with(alloc, rows.domains.items(), row)?;
             Ok(())
         }
     }
@@ -107,6 +112,10 @@ pub fn take_away(alloc: Global, rows: &mut Rows, row: &Row) -> Result<(), OutOfM
             rows.cells = without(alloc, rows.cells.items(), &row.cell)?;
             Ok(())
         }
+        Row::Domain(row) => {
+            rows.domains = without(alloc, rows.domains.items(), &row.domain)?;
+            Ok(())
+        }
     }
 }
 
@@ -119,6 +128,7 @@ pub fn copy_of(alloc: Global, rows: &Rows) -> Result<Rows, OutOfMemory>
         actual: copied(alloc, rows.actual.items())?,
         tasks: copied(alloc, rows.tasks.items())?,
         cells: copied(alloc, rows.cells.items())?,
+        domains: copied(alloc, rows.domains.items())?,
         next: rows.next,
     })
 }

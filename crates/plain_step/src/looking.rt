@@ -1,13 +1,13 @@
 //! What a board has at the keys of a command, by plain scans.
 ghost use Rattle.std.specs.Option.{option_and_then};
 ghost use Rattle.std.specs.Prelude.{◌≡◌, ◌≤◌, sum_by};
-ghost use Rattle.bbs_model.specs.Found.{found_by, process_in, key_in, evacuating_in, task_in, cell_in};
-ghost use Rattle.bbs_model.specs.Tables.{counts_of, find_desired, find_actual, find_task, find_cell};
+ghost use Rattle.bbs_model.specs.Found.{found_by, process_in, evacuating_in, suspect_in, task_in, looked_cell, domain_in, ordinary_of};
+ghost use Rattle.bbs_model.specs.Tables.{counts_of, find_desired, find_actual, find_task, find_cell, find_domain};
 ghost use Rattle.bbs_model.specs.Valid.{IsValid};
 ghost use Rattle.lrp_records.specs.declared.desired.Desired.{Desired as ADesired};
-ghost use Rattle.lrp_records.specs.declared.presence.Presence.TheVariants.{Ordinary, Evacuating};
+ghost use Rattle.lrp_records.specs.declared.presence.Presence.TheVariants.{Evacuating, Suspect};
 
-use bbs_model::{Counts, Found, Op, Rows, find_in};
+use bbs_model::{Counts, DomainRow, Found, Op, Rows, find_in};
 use cell_records::CellRow;
 use lrp_records::{Actual, Desired, Presence};
 use task_records::Task;
@@ -23,6 +23,7 @@ pub fn counts(rows: &Rows) -> Counts
         actual: rows.actual.len() as u32,
         tasks: rows.tasks.len() as u32,
         cells: rows.cells.len() as u32,
+        domains: rows.domains.len() as u32,
     }
 }
 
@@ -31,12 +32,15 @@ pub fn found(rows: &Rows, op: &Op) -> Found
     requires { IsValid rows.now }
     ensures { result ≡ found_by rows.now op.now }
 {
+    let ordinary = ordinary_for(rows, op);
     Found {
         desired: desired_for(rows, op),
-        ordinary: ordinary_for(rows, op),
+        ordinary,
         evacuating: evacuating_for(rows, op),
+        suspect: suspect_for(rows, op),
         task: task_for(rows, op),
-        cell: cell_for(rows, op),
+        cell: cell_for(rows, op, &ordinary),
+        domain: domain_for(rows, op),
         counts: counts(rows),
         next: rows.next,
     }
@@ -52,7 +56,7 @@ fn desired_for(rows: &Rows, op: &Op) -> Option<Desired>
 }
 
 fn ordinary_for(rows: &Rows, op: &Op) -> Option<Actual>
-    ensures { result ≡ option_and_then (λ key. find_actual rows.now key Ordinary) (key_in op.now) }
+    ensures { result ≡ ordinary_of rows.now op.now }
 {
     match op.key() {
         Some(key) => find_in(rows.actual.items(), &(key, Presence::Ordinary)),
@@ -70,6 +74,16 @@ fn evacuating_for(rows: &Rows, op: &Op) -> Option<Actual>
     }
 }
 
+fn suspect_for(rows: &Rows, op: &Op) -> Option<Actual>
+    ensures { result
+        ≡ option_and_then (λ key. find_actual rows.now key Suspect) (suspect_in op.now) }
+{
+    match op.suspect() {
+        Some(key) => find_in(rows.actual.items(), &(key, Presence::Suspect)),
+        None => None,
+    }
+}
+
 fn task_for(rows: &Rows, op: &Op) -> Option<Task>
     ensures { result ≡ option_and_then (find_task rows.now) (task_in op.now) }
 {
@@ -79,11 +93,22 @@ fn task_for(rows: &Rows, op: &Op) -> Option<Task>
     }
 }
 
-fn cell_for(rows: &Rows, op: &Op) -> Option<CellRow>
-    ensures { result ≡ option_and_then (find_cell rows.now) (cell_in op.now) }
+/// A suspicion looks at the cell of the ORDINARY row, which has to be read first.
+fn cell_for(rows: &Rows, op: &Op, ordinary: &Option<Actual>) -> Option<CellRow>
+    ensures { result
+        ≡ option_and_then (find_cell rows.now) (looked_cell op.now ordinary.now) }
 {
-    match op.cell() {
+    match op.looked_cell(ordinary) {
         Some(cell) => find_in(rows.cells.items(), &cell),
+        None => None,
+    }
+}
+
+fn domain_for(rows: &Rows, op: &Op) -> Option<DomainRow>
+    ensures { result ≡ option_and_then (find_domain rows.now) (domain_in op.now) }
+{
+    match op.domain() {
+        Some(domain) => find_in(rows.domains.items(), &domain),
         None => None,
     }
 }
