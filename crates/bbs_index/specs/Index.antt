@@ -11,7 +11,7 @@ use Rattle.lrp_records.specs.declared.actual.Actual.{Actual}
 use Rattle.lrp_records.specs.declared.desired.Desired.{Desired}
 use Rattle.lrp_records.specs.declared.presence.Presence.{Presence}
 use Rattle.row_tables.specs.Table.{IsRising}
-use Rattle.bbs_model.specs.Tables.{process_of, task_name_of, cell_name_of}
+use Rattle.bbs_model.specs.Tables.{process_of, task_name_of, cell_name_of, domain_name_of}
 use Rattle.bbs_model.specs.declared.rows.Rows.{Rows}
 
 -- the rows of a board, and how many rows with new keys fit into any of its tables without memory
@@ -19,9 +19,9 @@ pub record Indexed : Type 0 where
   pub rows : Rows
   pub spare : ℕ
 
--- what fits into each of four shelves, whichever of them it goes to
-abbrev pub least_room : ℕ → ℕ → ℕ → ℕ → ℕ
-least_room desired actual tasks cells = min (min desired actual) (min tasks cells)
+-- what fits into each of five shelves, whichever of them it goes to
+abbrev pub least_room : ℕ → ℕ → ℕ → ℕ → ℕ → ℕ
+least_room desired actual tasks cells domains = min (min (min desired actual) (min tasks cells)) domains
 
 -- the instances that the rows want together
 abbrev pub instances_in : List Desired → ℕ
@@ -49,3 +49,4 @@ pub record AreRising (rows : Rows) : Type 0 where
   pub actual : IsRising place_order place_of rows.actual
   pub tasks : IsRising name_order task_name_of rows.tasks
   pub cells : IsRising name_order cell_name_of rows.cells
+  pub domains : IsRising name_order domain_name_of rows.domains

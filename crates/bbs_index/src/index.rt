@@ -7,7 +7,7 @@ ghost use Rattle.bbs_model.specs.Valid.{IsValid};
 use crate::Shelf;
 use crate::placed::places_on;
 use crate::wanted::instances_in;
-use bbs_model::Rows;
+use bbs_model::{DomainRow, Rows};
 use cell_records::CellRow;
 use diego_names::{Key, List, Name, OutOfMemory};
 use lrp_records::{Actual, Desired, Presence};
@@ -24,6 +24,7 @@ pub struct Index {
     pub(crate) actual: Shelf<Actual>,
     pub(crate) tasks: Shelf<Task>,
     pub(crate) cells: Shelf<CellRow>,
+    pub(crate) domains: Shelf<DomainRow>,
     pub(crate) next: u64,
     // The instances that the desired rows want together.
     pub(crate) wanted: u32,
@@ -41,9 +42,10 @@ impl Model for Index {
         actual = a.actual.rows;
         tasks = a.tasks.rows;
         cells = a.cells.rows;
+        domains = a.domains.rows;
         next = a.next;
       };
-      spare = least_room a.desired.spare a.actual.spare a.tasks.spare a.cells.spare;
+      spare = least_room a.desired.spare a.actual.spare a.tasks.spare a.cells.spare a.domains.spare;
     } };
 
     ghost invariant = { λ a. a.wanted ≡ instances_in a.desired.rows };
@@ -59,6 +61,7 @@ impl Index {
             actual: Shelf::new(alloc),
             tasks: Shelf::new(alloc),
             cells: Shelf::new(alloc),
+            domains: Shelf::new(alloc),
             next: 0,
             wanted: 0,
         }
@@ -74,6 +77,7 @@ impl Index {
             actual: Shelf::of(alloc, rows.actual.items())?,
             tasks: Shelf::of(alloc, rows.tasks.items())?,
             cells: Shelf::of(alloc, rows.cells.items())?,
+            domains: Shelf::of(alloc, rows.domains.items())?,
             next: rows.next,
             wanted: instances_in(rows.desired.items()),
         })
@@ -89,6 +93,7 @@ impl Index {
             actual: List::from(self.actual.rows(alloc)?),
             tasks: List::from(self.tasks.rows(alloc)?),
             cells: List::from(self.cells.rows(alloc)?),
+            domains: List::from(self.domains.rows(alloc)?),
             next: self.next,
         })
     }
@@ -128,5 +133,12 @@ impl Index {
         ensures { result.now.rows ≡ self.now.rows.cells }
     {
         &self.cells
+    }
+
+    /// The shelf of the domains' rows.
+    pub fn domains_shelf(&self) -> &Shelf<DomainRow>
+        ensures { result.now.rows ≡ self.now.rows.domains }
+    {
+        &self.domains
     }
 }

@@ -1,7 +1,7 @@
 //! The step's view of an index. No call but `reserve` takes memory.
 use crate::Index;
 use crate::wanted::instances_of;
-use bbs_model::{Counts, RowStore};
+use bbs_model::{Counts, DomainRow, RowStore};
 use cell_records::CellRow;
 use diego_names::{Key, Name, OutOfMemory};
 use lrp_records::{Actual, Desired, Presence};
@@ -28,6 +28,10 @@ impl RowStore for Index {
         self.cells.get(cell)
     }
 
+    fn domain(&self, domain: &Name) -> Option<DomainRow> {
+        self.domains.get(domain)
+    }
+
     fn counts(&self) -> Counts {
         Counts {
             desired: self.desired.len() as u32,
@@ -35,6 +39,7 @@ impl RowStore for Index {
             actual: self.actual.len() as u32,
             tasks: self.tasks.len() as u32,
             cells: self.cells.len() as u32,
+            domains: self.domains.len() as u32,
         }
     }
 
@@ -64,6 +69,10 @@ impl RowStore for Index {
         self.cells.put(row);
     }
 
+    fn put_domain(&mut self, row: DomainRow) {
+        self.domains.put(row);
+    }
+
     fn remove_desired(&mut self, process: &Name) {
         let old = instances_of(self.desired.get(process));
         self.desired.remove(process);
@@ -82,12 +91,17 @@ impl RowStore for Index {
         self.cells.remove(cell);
     }
 
+    fn remove_domain(&mut self, domain: &Name) {
+        self.domains.remove(domain);
+    }
+
     fn reserve(&mut self, n: u32) -> Result<(), OutOfMemory> {
         let n = n as usize;
         self.desired.reserve(n)?;
         self.actual.reserve(n)?;
         self.tasks.reserve(n)?;
         self.cells.reserve(n)?;
+        self.domains.reserve(n)?;
         Ok(())
     }
 }

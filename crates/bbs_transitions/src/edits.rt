@@ -13,6 +13,7 @@ fn has_place_of<T: RowStore>(store: &T, row: &Row) -> bool
         Row::Actual(row) => store.actual(&row.key, row.presence).is_some(),
         Row::Task(row) => store.task(&row.name).is_some(),
         Row::Cell(row) => store.cell(&row.cell).is_some(),
+        Row::Domain(row) => store.domain(&row.domain).is_some(),
     }
 }
 
@@ -27,6 +28,7 @@ fn put<T: RowStore>(store: &mut T, row: &Row)
         Row::Actual(row) => store.put_actual(row),
         Row::Task(row) => store.put_task(row),
         Row::Cell(row) => store.put_cell(row),
+        Row::Domain(row) => store.put_domain(row),
     }
 }
 
@@ -39,6 +41,7 @@ fn remove<T: RowStore>(store: &mut T, row: &Row)
         Row::Actual(row) => store.remove_actual(&row.key, row.presence),
         Row::Task(row) => store.remove_task(&row.name),
         Row::Cell(row) => store.remove_cell(&row.cell),
+        Row::Domain(row) => store.remove_domain(&row.domain),
     }
 }
 

@@ -2,10 +2,10 @@
 ghost use Rattle.std.specs.Prelude.{◌≡◌};
 ghost use Rattle.std.specs.Option.{option_and_then};
 ghost use Rattle.bbs_model.specs.Found.{found_by};
-ghost use Rattle.bbs_model.specs.Tables.{find_desired, find_actual, find_task, find_cell};
+ghost use Rattle.bbs_model.specs.Tables.{find_desired, find_actual, find_task, find_cell, find_domain};
 ghost use Rattle.bbs_model.specs.Valid.{IsValid};
 
-use bbs_model::{Found, Op, RowStore};
+use bbs_model::{DomainRow, Found, Op, RowStore};
 use cell_records::CellRow;
 use diego_names::{Key, Name};
 use lrp_records::{Actual, Desired, Presence};
@@ -47,17 +47,31 @@ fn cell_at<T: RowStore>(store: &T, cell: Option<Name>) -> Option<CellRow>
     }
 }
 
-/// What the store has at the keys of a command.
+fn domain_at<T: RowStore>(store: &T, domain: Option<Name>) -> Option<DomainRow>
+    ensures { result ≡ option_and_then (find_domain (T.state store.now)) domain }
+{
+    match domain {
+        Some(domain) => store.domain(&domain),
+        None => None,
+    }
+}
+
+/// What the store has at the keys of a command. A suspicion doesn't name the cell whose row it looks at:
+/// the ORDINARY row tells it, so that this one is read first.
 pub fn look<T: RowStore>(store: &T, op: &Op) -> Found
     requires { IsValid (T.state store.now) }
     ensures { result ≡ found_by (T.state store.now) op.now }
 {
+    let ordinary = actual_at(store, op.key(), Presence::Ordinary);
+    let cell = cell_at(store, op.looked_cell(&ordinary));
     Found {
         desired: desired_at(store, op.process()),
-        ordinary: actual_at(store, op.key(), Presence::Ordinary),
+        ordinary,
         evacuating: actual_at(store, op.evacuating(), Presence::Evacuating),
+        suspect: actual_at(store, op.suspect(), Presence::Suspect),
         task: task_at(store, op.task()),
-        cell: cell_at(store, op.cell()),
+        cell,
+        domain: domain_at(store, op.domain()),
         counts: store.counts(),
         next: store.next(),
     }

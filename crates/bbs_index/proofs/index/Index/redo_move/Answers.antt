@@ -12,7 +12,7 @@ use Rattle.bbs_index.proofs.index.Index.redo_move.Goals as goal
 pub returns-in-Gone-clause-redone : goal.returns-in-Gone-clause-redone
 returns-in-Gone-clause-redone c =
     let b = c.self.inside in
-    let rows : Rows = record { desired = b.desired.rows; actual = b.actual.rows; tasks = b.tasks.rows; cells = b.cells.rows; next = b.next } in
+    let rows : Rows = record { desired = b.desired.rows; actual = b.actual.rows; tasks = b.tasks.rows; cells = b.cells.rows; domains = b.domains.rows; next = b.next } in
     let new = c.advance-in-Gone.new.self.rows in
     let old = c.at-old.result.now in
     subst (λ (v : Indexed). IsRedone (row_moved v.rows c.args.key.now c.args.mv.now c.args.now) true v.rows new) c.self.view_is
