@@ -33,6 +33,7 @@ fn empty_board(alloc: Global, next: u64) -> Rows
         actual: List::new(alloc),
         tasks: List::new(alloc),
         cells: List::new(alloc),
+        domains: List::new(alloc),
         next,
     }
 }

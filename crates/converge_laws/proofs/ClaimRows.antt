@@ -14,7 +14,7 @@ use Rattle.diego_names.specs.declared.key.Key.{Key}
 use Rattle.lrp_records.specs.States.{holder_of, is_same_instance}
 use Rattle.lrp_records.specs.declared.actual.Actual.{Actual}
 use Rattle.lrp_records.specs.declared.presence.Presence.{Presence}
-use Rattle.lrp_records.specs.declared.presence.Presence.TheVariants.{Ordinary, Evacuating}
+use Rattle.lrp_records.specs.declared.presence.Presence.TheVariants.{Ordinary, Evacuating, Suspect}
 use Rattle.lrp_records.specs.declared.state.LrpState.{LrpState}
 use Rattle.lrp_records.specs.declared.state.LrpState.TheVariants as lrp
 use Rattle.row_tables.proofs.Public.{find_row-Contains, key-find_row}
@@ -38,7 +38,7 @@ use Rattle.converge_laws.specs.Accepted.{IsAccepted, AreAccepted, IsOfRound, Are
 use Rattle.converge_laws.specs.Converged.{is_held, IsStateHeld, HasItsPlace, IsInstanceSettled, is_running, runs, IsKeptAside, IsTaskSettled, IsConverged}
 use Rattle.converge_laws.specs.Laws.{AreOfRound, KeepsGround}
 use Rattle.converge_laws.specs.Stages.{IsSameCell, IsClaimOf, IsClaimed, IsWith, AreWith, MayBePlaced, IsPlaceable, MayTaskBePlaced, IsTaskPlaceable, IsCleared, PlacesAll}
-use Rattle.converge_laws.proofs.Frames.{stays-ordinary, stays-evacuating, stays-task}
+use Rattle.converge_laws.proofs.Frames.{stays-ordinary, stays-evacuating, stays-suspect, stays-task}
 use Rattle.converge_laws.proofs.Held.{it_is, held-from, held-in, held-ground, row-key}
 use Rattle.converge_laws.proofs.Lists.{zip_back, zip_find}
 use Rattle.converge_laws.proofs.MoveEnds.{IsNowClaimed, claimed}
@@ -47,7 +47,7 @@ use Rattle.converge_laws.proofs.Naming.{or_left, or_right, instance_itself, same
 use Rattle.converge_laws.proofs.Runs.{about_some, run-other, run-took, run-ground, run-valid}
 use Rattle.converge_laws.proofs.StopStage.{alike}
 use Rattle.converge_laws.proofs.TaskMoves.{IsNowRunning, task_left_by, after-start, started}
-use Rattle.converge_laws.proofs.Claims.{subject_for, claim-about, same_job_as, same_task_as, not_aside, IsClaiming, of_round, ground, there-before, runs-there, held-any, held-more, held-new, claim-is}
+use Rattle.converge_laws.proofs.Claims.{subject_for, claim-about, same_job_as, same_task_as, not_aside, not_suspect, IsClaiming, of_round, ground, there-before, runs-there, held-any, held-more, held-new, claim-is}
 
 module _ (rows : Rows) (before after : List Answer) (now : Moment) (cs : List Command) (g : IsClaiming rows before after now cs) where
   abbrev new : Rows
@@ -169,6 +169,12 @@ module _ (rows : Rows) (before after : List Answer) (now : Moment) (cs : List Co
     aside-same =
         run-other (λ (r : Rows). find_actual r key Evacuating) (OfPlace (key, Evacuating)) (λ r d h other. stays-evacuating r d h key other) rows cs (of_round rows before after now cs g).ops
         (λ c inside same. let p = g.places.claims c inside in not_aside p.0 key (sym (claim-about p.0 p.1 p.2 c.op p.3) ∙ same))
+
+    -- and so does the SUSPECT row
+    pub suspect-same : find_actual new key Suspect ≡ find_actual rows key Suspect
+    suspect-same =
+        run-other (λ (r : Rows). find_actual r key Suspect) (OfPlace (key, Suspect)) (λ r d h other. stays-suspect r d h key) rows cs (of_round rows before after now cs g).ops
+        (λ c inside same. let p = g.places.claims c inside in not_suspect p.0 key (sym (claim-about p.0 p.1 p.2 c.op p.3) ∙ same))
 
     aside-state : (s : LrpState) → IsStateHeld rows before now key s → IsStateHeld new after now key s
     aside-state lrp.Unclaimed h = h

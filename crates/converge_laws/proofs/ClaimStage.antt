@@ -14,7 +14,7 @@ use Rattle.diego_names.specs.declared.key.Key.{Key}
 use Rattle.lrp_records.specs.States.{holder_of, is_same_instance}
 use Rattle.lrp_records.specs.declared.actual.Actual.{Actual}
 use Rattle.lrp_records.specs.declared.presence.Presence.{Presence}
-use Rattle.lrp_records.specs.declared.presence.Presence.TheVariants.{Ordinary, Evacuating}
+use Rattle.lrp_records.specs.declared.presence.Presence.TheVariants.{Ordinary, Evacuating, Suspect}
 use Rattle.lrp_records.specs.declared.state.LrpState.{LrpState}
 use Rattle.lrp_records.specs.declared.state.LrpState.TheVariants as lrp
 use Rattle.row_tables.proofs.Public.{find_row-Contains, key-find_row}
@@ -43,35 +43,33 @@ use Rattle.converge_laws.proofs.Held.{it_is, held-from, held-in, held-ground, ro
 use Rattle.converge_laws.proofs.Lists.{zip_back, zip_find}
 use Rattle.converge_laws.proofs.MoveEnds.{IsNowClaimed, claimed}
 use Rattle.converge_laws.proofs.Moves.{left_by, after-claim}
-use Rattle.converge_laws.proofs.Naming.{or_left, or_right, instance_itself, same_instance, looked_for, looks_like}
+use Rattle.converge_laws.proofs.Naming.{named-from, named-by, instance_itself, same_instance, looked_for, looks_like}
 use Rattle.converge_laws.proofs.Runs.{about_some, run-other, run-took, run-ground, run-valid}
 use Rattle.converge_laws.proofs.StopStage.{alike}
 use Rattle.converge_laws.proofs.TaskMoves.{IsNowRunning, task_left_by, after-start, started}
 use Rattle.converge_laws.proofs.Claims.{subject_for, claim-about, same_job_as, same_task_as, not_aside, IsClaiming, of_round, ground, there-before, runs-there, held-any, held-more, held-new, claim-is}
-use Rattle.converge_laws.proofs.ClaimRows.{settled-ground, settled-rows, aside-done, aside-same, names-still, names-claimed}
+use Rattle.converge_laws.proofs.ClaimRows.{settled-ground, settled-rows, aside-done, aside-same, suspect-same, names-still, names-claimed}
 use Rattle.converge_laws.proofs.ClaimTasks.{IsTaskAt, task-done, task-names-still, task-names-claimed}
 
 module _ (rows : Rows) (before after : List Answer) (now : Moment) (cs : List Command) (g : IsClaiming rows before after now cs) where
   abbrev new : Rows
   new = state_after_all rows cs
 
-  one_of : (a b : Bool) → (a || b) ≡ true → (a ≡ true) ⊎ (b ≡ true)
-  one_of true b e = inl refl
-  one_of false b e = inr e
+  -- a row that names a container goes on to name it
+  names-kept : (key : Key) (instance : Instance) (p : Presence) → row_names (find_actual rows key p) instance ≡ true → row_names (find_actual new key p) instance ≡ true
+  names-kept key instance Ordinary named = (names-still rows before after now cs g) key instance named
+  names-kept key instance Evacuating named = ap (λ (r : Option Actual). row_names r instance) ((aside-same rows before after now cs g) key) ∙ named
+  names-kept key instance Suspect named = ap (λ (r : Option Actual). row_names r instance) ((suspect-same rows before after now cs g) key) ∙ named
 
   named-still : (j : JobName) (instance : Instance) → is_named_for j rows instance ≡ true → is_named_for j new instance ≡ true
   named-still (job.Lrp key) instance named =
-      ⊎_elim
-      (λ (ordinary : row_names (find_actual rows key Ordinary) instance ≡ true).
-      or_left (row_names (find_actual new key Ordinary) instance) (row_names (find_actual new key Evacuating) instance) ((names-still rows before after now cs g) key instance ordinary))
-      (λ (aside : row_names (find_actual rows key Evacuating) instance ≡ true).
-      or_right (row_names (find_actual new key Ordinary) instance) (row_names (find_actual new key Evacuating) instance) (ap (λ (r : Option Actual). row_names r instance) ((aside-same rows before after now cs g) key) ∙ aside))
-      (one_of (row_names (find_actual rows key Ordinary) instance) (row_names (find_actual rows key Evacuating) instance) named)
+      let by = named-by rows key instance named in
+      named-from new key instance by.0 (names-kept key instance by.0 by.1)
   named-still (job.Task name) instance named = (task-names-still rows before after now cs g) name instance named
 
   named-claimed : (j : JobName) (instance : Instance) (cell : List ℕ) (c : Command) → Contains cs c → IsClaimOf j instance cell c.op → is_named_for j new instance ≡ true
   named-claimed (job.Lrp key) instance cell c inside claims =
-      or_left (row_names (find_actual new key Ordinary) instance) (row_names (find_actual new key Evacuating) instance) ((names-claimed rows before after now cs g) key c instance cell inside claims)
+      named-from new key instance Ordinary ((names-claimed rows before after now cs g) key c instance cell inside claims)
   named-claimed (job.Task name) instance cell c inside claims = (task-names-claimed rows before after now cs g) name c instance cell inside claims
 
   all-named : (y : Answer) (c : Container) → Contains after y → is_there new now y.cell y.epoch ≡ true → Contains y.containers c → is_named new c ≡ true

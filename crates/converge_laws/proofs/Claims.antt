@@ -14,7 +14,7 @@ use Rattle.diego_names.specs.declared.key.Key.{Key}
 use Rattle.lrp_records.specs.States.{holder_of, is_same_instance}
 use Rattle.lrp_records.specs.declared.actual.Actual.{Actual}
 use Rattle.lrp_records.specs.declared.presence.Presence.{Presence}
-use Rattle.lrp_records.specs.declared.presence.Presence.TheVariants.{Ordinary, Evacuating}
+use Rattle.lrp_records.specs.declared.presence.Presence.TheVariants.{Ordinary, Evacuating, Suspect}
 use Rattle.lrp_records.specs.declared.state.LrpState.{LrpState}
 use Rattle.lrp_records.specs.declared.state.LrpState.TheVariants as lrp
 use Rattle.row_tables.proofs.Public.{find_row-Contains, key-find_row}
@@ -77,6 +77,11 @@ same_task_as (job.Task n) name e = cc
 pub not_aside : (j : JobName) (key : Key) → subject_for j ≢ OfPlace (key, Evacuating)
 not_aside (job.Lrp k) key e = let other : Ordinary ≡ Evacuating = ap (λ (s : Subject). (place_in (key, Ordinary) s).1) e in absurd cc
 not_aside (job.Task n) key e = cc
+
+-- nor about a SUSPECT row
+pub not_suspect : (j : JobName) (key : Key) → subject_for j ≢ OfPlace (key, Suspect)
+not_suspect (job.Lrp k) key e = let other : Ordinary ≡ Suspect = ap (λ (s : Subject). (place_in (key, Ordinary) s).1) e in absurd cc
+not_suspect (job.Task n) key e = cc
 
 -- what a claim of all that waits is made of
 pub record IsClaiming (rows : Rows) (before after : List Answer) (now : Moment) (cs : List Command) : Type 0 where

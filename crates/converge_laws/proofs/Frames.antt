@@ -9,12 +9,12 @@ use Rattle.diego_names.proofs.Public.{IsKeyOrder-name_order}
 use Rattle.diego_names.specs.Order.{name_order}
 use Rattle.diego_names.specs.declared.key.Key.{Key}
 use Rattle.lrp_records.specs.declared.desired.Desired.{Desired}
-use Rattle.lrp_records.specs.declared.presence.Presence.TheVariants.{Ordinary, Evacuating}
+use Rattle.lrp_records.specs.declared.presence.Presence.TheVariants.{Ordinary, Evacuating, Suspect}
 use Rattle.row_tables.specs.Table.{find_row, without_row}
 use Rattle.row_tables.proofs.Public.{same_from_tie, ties_itself, key-find_row, find_row-without_row_same}
 use Rattle.bbs_model.specs.Attempts.{drop_row}
 use Rattle.bbs_model.specs.Cells.{vanish}
-use Rattle.bbs_model.specs.Found.{key_in, evacuating_in, task_in}
+use Rattle.bbs_model.specs.Found.{key_in, evacuating_in, suspect_in, task_in}
 use Rattle.bbs_model.specs.Limits.{most_transitions}
 use Rattle.bbs_model.specs.Lrps.{is_wanted}
 use Rattle.bbs_model.specs.Runs.{state_after, if_legal}
@@ -47,12 +47,19 @@ ordinary_own (op.Remove k instance) h key e = cc
 ordinary_own (op.PlaceFail k) h key e = cc
 ordinary_own (op.Start k instance cell) h key e = absurd h
 ordinary_own (op.Evacuate k instance) h key e = absurd h
+ordinary_own (op.Suspect k instance) h key e = absurd h
 ordinary_own o h key e = absurd cc
 
 evacuating_own : (o : Op) → IsOfRound o → (key : Key) → evacuating_in o ≡ Some key → subject_of o ≡ OfPlace (key, Evacuating)
 evacuating_own (op.DropEvacuating k instance) h key e = cc
 evacuating_own (op.Evacuate k instance) h key e = absurd h
 evacuating_own o h key e = absurd cc
+
+-- no command of a round may change a SUSPECT row
+suspect_own : (o : Op) → IsOfRound o → (key : Key) → suspect_in o ≢ Some key
+suspect_own (op.Suspect k instance) h key e = absurd h
+suspect_own (op.DropSuspect k instance) h key e = absurd h
+suspect_own o h key e = absurd cc
 
 task_own : (o : Op) → IsOfRound o → (name : List ℕ) → task_in o ≡ Some name → subject_of o ≡ OfTask name
 task_own (op.StartTask n instance cell) h name e = cc
@@ -81,7 +88,7 @@ process_own o h name e = cc
 module _ (rows : Rows) (c : Command) where
   pub kept_after : KeepsOthers c.op rows (state_after rows c)
   kept_after =
-      let same : KeepsOthers c.op rows rows = record { desired = λ q other. refl; actual = λ q presence other. refl; tasks = λ q other. refl; cells = λ q other. refl } in
+      let same : KeepsOthers c.op rows rows = record { desired = λ q other. refl; actual = λ q presence other. refl; tasks = λ q other. refl; cells = λ q other. refl; domains = λ q other. refl } in
       elim (verdict_of rows c) as (λ (v : Verdict). KeepsOthers c.op rows (if_legal v (rows_after rows c) rows)) [
         | Ok ↦ keeps_others rows c
         | Same ↦ same
@@ -94,6 +101,9 @@ module _ (rows : Rows) (c : Command) where
 
     pub stays-evacuating : (key : Key) → subject_in c ≢ OfPlace (key, Evacuating) → find_actual (state_after rows c) key Evacuating ≡ find_actual rows key Evacuating
     stays-evacuating key other = kept_after.actual key Evacuating (λ e. other (evacuating_own c.op h key e))
+
+    pub stays-suspect : (key : Key) → find_actual (state_after rows c) key Suspect ≡ find_actual rows key Suspect
+    stays-suspect key = kept_after.actual key Suspect (suspect_own c.op h key)
 
     pub stays-task : (name : List ℕ) → subject_in c ≢ OfTask name → find_task (state_after rows c) name ≡ find_task rows name
     stays-task name other = kept_after.tasks name (λ e. other (task_own c.op h name e))

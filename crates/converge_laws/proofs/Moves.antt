@@ -32,7 +32,7 @@ use Rattle.row_tables.specs.Table.{find_row, put_row, without_row}
 use Rattle.row_tables.proofs.Public.{key-find_row, find_row-put_row_same, find_row-without_row_same}
 use Rattle.bbs_model.specs.Attempts.{if_known, if_joined, unless_refused, put, drop_row}
 use Rattle.bbs_model.specs.Found.{found_by}
-use Rattle.bbs_model.specs.Lrps.{moved_to, make_refusals, new_row, is_running_as, stays_because}
+use Rattle.bbs_model.specs.Lrps.{moved_to, make_refusals, new_row, domain_of, is_running_as, stays_because}
 use Rattle.bbs_model.specs.Runs.{state_after}
 use Rattle.bbs_model.specs.Step.{attempt_of, changed_by, verdict_of}
 use Rattle.bbs_model.specs.Tables.{find_actual, find_cell, find_task}
@@ -135,13 +135,17 @@ module _ (rows : Rows) (now : Moment) (key : Key) where
       by_attempt (IsMoved rows key (lrp.Claim instance cell) now) rows (at now (op.Claim key instance cell)) h
       (moved-by_cell rows key (lrp.Claim instance cell) now (find_cell rows cell) instance.epoch)
 
+  -- an instance's row as it begins, in the domain of its process
+  abbrev pub beginning : Actual
+  beginning = new_row key (domain_of (found_by rows (op.Make key)).desired) now
+
   -- a wanted instance has its row as it begins
-  pub after-make : IsAccepted (verdict_of rows (at now (op.Make key))) → find_actual (state_after rows (at now (op.Make key))) key Ordinary ≡ Some (new_row key now)
+  pub after-make : IsAccepted (verdict_of rows (at now (op.Make key))) → find_actual (state_after rows (at now (op.Make key))) key Ordinary ≡ Some beginning
   after-make h =
-      by_attempt (λ new. find_actual new key Ordinary ≡ Some (new_row key now)) rows (at now (op.Make key)) h
-      (by_passing (IfTried (λ attempt. find_actual (changed_by rows attempt) key Ordinary ≡ Some (new_row key now))) (λ because f. absurd f)
-      (make_refusals (found_by rows (op.Make key)) key) (put (row.Actual (new_row key now)))
-      (λ passed f. find_row-put_row_same place_order place_of IsKeyOrder-place_order (new_row key now) rows.actual))
+      by_attempt (λ new. find_actual new key Ordinary ≡ Some beginning) rows (at now (op.Make key)) h
+      (by_passing (IfTried (λ attempt. find_actual (changed_by rows attempt) key Ordinary ≡ Some beginning)) (λ because f. absurd f)
+      (make_refusals (found_by rows (op.Make key)) key) (put (row.Actual beginning))
+      (λ passed f. find_row-put_row_same place_order place_of IsKeyOrder-place_order beginning rows.actual))
 
   -- an EVACUATING row is gone
   pub after-drop : (instance : Instance) → IsAccepted (verdict_of rows (at now (op.DropEvacuating key instance))) → find_actual (state_after rows (at now (op.DropEvacuating key instance))) key Evacuating ≡ None

@@ -1,5 +1,5 @@
 -- A row names the container that it holds.
-use Rattle.std.proofs.Common.{◌≡◌, ℕ, Bool, true, false, ◌&&◌, ◌||◌, List, Option, Some, None, nat_eq, refl, ap, sym, ◌∙◌, subst, arith}
+use Rattle.std.proofs.Common.{◌≡◌, ◌⊎◌, ℕ, Bool, true, false, ◌&&◌, ◌||◌, List, Option, Some, None, nat_eq, refl, ap, sym, ◌∙◌, subst, inl, inr, ⊎_elim, arith}
 use Rattle.std.proofs.lemmas.Bool.{eqb-true}
 use Rattle.std.proofs.lemmas.Cmp.{nat_list_eq_equiv}
 use Rattle.std.specs.Cmp.Lexicographic.{pointwise, same_text}
@@ -15,7 +15,8 @@ use Rattle.diego_names.specs.declared.instance.Instance.{Instance}
 use Rattle.diego_names.specs.declared.key.Key.{Key}
 use Rattle.lrp_records.specs.States.{holder_of, is_same_instance}
 use Rattle.lrp_records.specs.declared.actual.Actual.{Actual}
-use Rattle.lrp_records.specs.declared.presence.Presence.TheVariants.{Ordinary, Evacuating}
+use Rattle.lrp_records.specs.declared.presence.Presence.{Presence}
+use Rattle.lrp_records.specs.declared.presence.Presence.TheVariants.{Ordinary, Evacuating, Suspect}
 use Rattle.row_tables.specs.Table.{find_row, IsRising}
 use Rattle.row_tables.proofs.Public.{find_row-Contains}
 use Rattle.task_records.specs.declared.task.Task.{Task}
@@ -89,17 +90,48 @@ one_container x rises c d in_c in_d same =
     let both : Some c ≡ Some d = sym first ∙ ap (λ (n : ℕ). find_row nat_cmp number_of n x.containers) number ∙ other in
     cc
 
+one_of : (a b : Bool) → (a || b) ≡ true → (a ≡ true) ⊎ (b ≡ true)
+one_of true b e = inl refl
+one_of false b e = inr e
+
+-- an instance is named by one of its rows
+pub named-from : (rows : Rows) (key : Key) (instance : Instance) (p : Presence) → row_names (find_actual rows key p) instance ≡ true
+    → is_named_for (job.Lrp key) rows instance ≡ true
+named-from rows key instance Ordinary e =
+    let a = row_names (find_actual rows key Ordinary) instance in
+    let b = row_names (find_actual rows key Evacuating) instance in
+    or_left (a || b) (row_names (find_actual rows key Suspect) instance) (or_left a b e)
+named-from rows key instance Evacuating e =
+    let a = row_names (find_actual rows key Ordinary) instance in
+    let b = row_names (find_actual rows key Evacuating) instance in
+    or_left (a || b) (row_names (find_actual rows key Suspect) instance) (or_right a b e)
+named-from rows key instance Suspect e =
+    let a = row_names (find_actual rows key Ordinary) instance in
+    let b = row_names (find_actual rows key Evacuating) instance in
+    or_right (a || b) (row_names (find_actual rows key Suspect) instance) e
+
+pub named-by : (rows : Rows) (key : Key) (instance : Instance) → is_named_for (job.Lrp key) rows instance ≡ true
+    → (p : Presence) × (row_names (find_actual rows key p) instance ≡ true)
+named-by rows key instance e =
+    let a = row_names (find_actual rows key Ordinary) instance in
+    let b = row_names (find_actual rows key Evacuating) instance in
+    let c = row_names (find_actual rows key Suspect) instance in
+    ⊎_elim
+    (λ (aside : (a || b) ≡ true). ⊎_elim (λ (f : a ≡ true). (Ordinary, f)) (λ (f : b ≡ true). (Evacuating, f)) (one_of a b aside))
+    (λ (f : c ≡ true). (Suspect, f))
+    (one_of (a || b) c e)
+
 -- rows name what they hold
 pub named-ordinary : (rows : Rows) (key : Key) (a : Actual) (instance : Instance) → find_actual rows key Ordinary ≡ Some a → holder_of a.state ≡ Some instance
     → is_named_for (job.Lrp key) rows instance ≡ true
 named-ordinary rows key a instance is holds =
-    or_left (row_names (find_actual rows key Ordinary) instance) (row_names (find_actual rows key Evacuating) instance)
+    named-from rows key instance Ordinary
     (ap (λ (o : Option Actual). row_names o instance) is ∙ ap (λ (h : Option Instance). is_holder h instance) holds ∙ instance_itself instance)
 
 pub named-evacuating : (rows : Rows) (key : Key) (a : Actual) (instance : Instance) → find_actual rows key Evacuating ≡ Some a → holder_of a.state ≡ Some instance
     → is_named_for (job.Lrp key) rows instance ≡ true
 named-evacuating rows key a instance is holds =
-    or_right (row_names (find_actual rows key Ordinary) instance) (row_names (find_actual rows key Evacuating) instance)
+    named-from rows key instance Evacuating
     (ap (λ (o : Option Actual). row_names o instance) is ∙ ap (λ (h : Option Instance). is_holder h instance) holds ∙ instance_itself instance)
 
 pub named-task : (rows : Rows) (name : List ℕ) (t : Task) (instance : Instance) → find_task rows name ≡ Some t → runner_of t.state ≡ Some instance

@@ -19,7 +19,7 @@ use Rattle.lrp_records.specs.Place.{place_of, place_order}
 use Rattle.lrp_records.specs.States.{holder_of}
 use Rattle.lrp_records.specs.declared.actual.Actual.{Actual}
 use Rattle.lrp_records.specs.declared.presence.Presence.{Presence}
-use Rattle.lrp_records.specs.declared.presence.Presence.TheVariants.{Ordinary, Evacuating}
+use Rattle.lrp_records.specs.declared.presence.Presence.TheVariants.{Ordinary, Evacuating, Suspect}
 use Rattle.lrp_records.specs.declared.state.LrpState.{LrpState}
 use Rattle.lrp_records.specs.declared.state.LrpState.TheVariants as lrp
 use Rattle.row_tables.proofs.Public.{key-find_row}
@@ -38,7 +38,7 @@ use Rattle.bbs_model.specs.declared.rows.Rows.{Rows}
 use Rattle.convergence.specs.Containers.{Site, site_of, task_site_of, answer_from, container_in}
 use Rattle.convergence.specs.Plans as planned
 use Rattle.convergence.specs.PlanLaws.{plan_on}
-use Rattle.convergence.specs.Subjects.{Subject, OfCell, OfPlace, OfTask, OfProcess, subject_of, subject_in, work_on, ordinary_of}
+use Rattle.convergence.specs.Subjects.{Subject, OfCell, OfDomain, OfPlace, OfTask, OfProcess, subject_of, subject_in, work_on, ordinary_of}
 use Rattle.convergence.proofs.Public.{about_is, about_plan, plan_rises, plan_is_by_subject}
 use Rattle.converge_laws.specs.Accepted.{IsAccepted, AreAccepted, IsOfRound}
 use Rattle.converge_laws.specs.Converged.{is_held, is_running, runs, IsStateHeld, IsKeptAside}
@@ -61,6 +61,7 @@ round-asked (Some c) gone ended f g = asked_either IsOfRound (is_uncompleted c.s
 round-row : (presence : Presence) (key : Key) (instance : Instance) (c : Option Container) → IfAsked IsOfRound (planned.row_plan presence key instance c)
 round-row Ordinary key instance c = round-asked c (op.Unclaim key instance) (op.Crash key instance) tt tt
 round-row Evacuating key instance c = round-asked c (op.DropEvacuating key instance) (op.DropEvacuating key instance) tt tt
+round-row Suspect key instance c = tt
 
 round-outcome : (name : List ℕ) (instance : Instance) (s : ContainerState) → IfAsked IsOfRound (planned.outcome_plan name instance s)
 round-outcome name instance Reserved = tt
@@ -73,6 +74,7 @@ round-task_row name instance (Some c) = round-outcome name instance c.state
 
 round-plan : (rows : Rows) (answers : List Answer) (s : Subject) → IfAsked IsOfRound (plan_on rows answers s)
 round-plan rows answers (OfCell name) = tt
+round-plan rows answers (OfDomain name) = tt
 round-plan rows answers (OfPlace p) =
     asked-then IsOfRound (planned.actual_plan answers) (find_actual rows p.0 p.1) (λ a.
     asked-then IsOfRound (λ (site : Site). option_and_then (planned.row_plan a.presence a.key site.0) (planned.told_of answers (job.Lrp a.key) site)) (site_of a.state) (λ site.

@@ -1,7 +1,7 @@
 -- The lemmas that other crates may cite.
 pub use Rattle.converge_laws.proofs.ClaimStage.{claims-converge}
 pub use Rattle.converge_laws.proofs.Claims.{subject_for, claim-of_round, claim-about, same_job_as, same_task_as, IsClaiming}
-pub use Rattle.converge_laws.proofs.Frames.{kept_after, stays-ordinary, stays-evacuating, stays-task, stays-cell, stays-wanted, stays-there, state_is}
+pub use Rattle.converge_laws.proofs.Frames.{kept_after, stays-ordinary, stays-evacuating, stays-suspect, stays-task, stays-cell, stays-wanted, stays-there, state_is}
 pub use Rattle.converge_laws.proofs.Held.{find_row-each, found-there, held-from, held-in, held-ground}
 pub use Rattle.converge_laws.proofs.Lists.{inside_map, from_map, inside_flat_map, from_flat_map, inside_filter, from_filter, zip_back, zip_find}
 pub use Rattle.converge_laws.proofs.Naming.{same_instance, instance_itself, same_job, job_itself, looked_for, looks_like, one_container, named-ordinary, named-evacuating, named-task, named-found}

@@ -12,7 +12,7 @@ use Rattle.diego_names.specs.declared.key.Key.{Key}
 use Rattle.lrp_records.specs.States.{holder_of}
 use Rattle.lrp_records.specs.declared.actual.Actual.{Actual}
 use Rattle.lrp_records.specs.declared.presence.Presence.{Presence}
-use Rattle.lrp_records.specs.declared.presence.Presence.TheVariants.{Ordinary, Evacuating}
+use Rattle.lrp_records.specs.declared.presence.Presence.TheVariants.{Ordinary, Evacuating, Suspect}
 use Rattle.lrp_records.specs.declared.lrp_move.LrpMove.{LrpMove}
 use Rattle.lrp_records.specs.declared.lrp_move.LrpMove.TheVariants as move
 use Rattle.lrp_records.specs.declared.state.LrpState.{LrpState}
@@ -25,7 +25,6 @@ use Rattle.task_records.specs.declared.state.TaskState.TheVariants as task
 use Rattle.task_records.specs.declared.task.Task.{Task}
 use Rattle.bbs_model.specs.Attempts.{drop_row}
 use Rattle.bbs_model.specs.Cells.{vanish}
-use Rattle.bbs_model.specs.Lrps.{new_row}
 use Rattle.bbs_model.specs.Runs.{state_after, state_after_all}
 use Rattle.bbs_model.specs.Step.{changed_by, verdict_of}
 use Rattle.bbs_model.specs.Tables.{cell_name_of, task_name_of, find_actual, find_cell, find_task}
@@ -39,7 +38,7 @@ use Rattle.bbs_model.specs.declared.command.Op.TheVariants as op
 use Rattle.bbs_model.specs.declared.event.Row.TheVariants as row
 use Rattle.bbs_model.specs.declared.rows.Rows.{Rows}
 use Rattle.bbs_model.specs.declared.verdict.BoardRefusal.TheVariants.{LeaseHolds}
-use Rattle.convergence.specs.Subjects.{Subject, OfCell, OfPlace, OfTask, OfProcess, subject_of, subject_in, work_on, ordinary_of}
+use Rattle.convergence.specs.Subjects.{Subject, OfCell, OfDomain, OfPlace, OfTask, OfProcess, subject_of, subject_in, work_on, ordinary_of}
 use Rattle.convergence.proofs.Public.{about_is, about_work, work_rises, work_is_by_subject}
 use Rattle.converge_laws.specs.Accepted.{IsAccepted, AreAccepted, IsOfRound}
 use Rattle.converge_laws.specs.Laws.{AreOfRound, KeepsGround}
@@ -47,7 +46,7 @@ use Rattle.converge_laws.specs.Stages.{IsWorked}
 use Rattle.converge_laws.proofs.Frames.{IsTried, stays-ordinary, stays-evacuating, stays-task, stays-cell}
 use Rattle.converge_laws.proofs.Grounds.{lost-ground, runs_there-ground, ordinary-ground, task-ground}
 use Rattle.converge_laws.proofs.MoveEnds.{IsUnclaimed, removed, unclaimed, restarted, late}
-use Rattle.converge_laws.proofs.Moves.{IfTried, IsMoved, IsTaken, left_by, by_attempt, after-make, after-remove, after-unclaim, after-restart, after-drop}
+use Rattle.converge_laws.proofs.Moves.{beginning, IfTried, IsMoved, IsTaken, left_by, by_attempt, after-make, after-remove, after-unclaim, after-restart, after-drop}
 use Rattle.converge_laws.proofs.Runs.{apart_from_rising, run-other, run-took, run-ground}
 use Rattle.converge_laws.proofs.TaskMoves.{HasEnded, IsTaskMoved, task_left_by, after-cancel, after-kick, after-expire, has-cancelled, has-kicked, has-expired}
 
@@ -103,8 +102,10 @@ asked-then P f (Some x) h = h x
 round-work : (rows : Rows) (now : Moment) (s : Subject) → IfAsked IsOfRound (work_on rows now s)
 round-work rows now (OfCell name) =
     asked-then IsOfRound (λ (c : CellRow). told.cell_work c now) (find_cell rows name) (λ c. asked_either IsOfRound (nat_le c.until now.0) (Some (op.Vanish c.cell)) None tt tt)
+round-work rows now (OfDomain name) = tt
 round-work rows now (OfPlace (key, Ordinary)) = round-ordinary rows now key (find_actual rows key Ordinary)
 round-work rows now (OfPlace (key, Evacuating)) = round-evacuating rows now key (find_actual rows key Evacuating)
+round-work rows now (OfPlace (key, Suspect)) = tt
 round-work rows now (OfTask name) = asked-then IsOfRound (told.task_work rows now) (find_task rows name) (λ t. round-state rows now t t.state)
 round-work rows now (OfProcess name) = tt
 
@@ -138,7 +139,7 @@ module _ (rows : Rows) (now : Moment) (key : Key) (before : Rows) where
   Steps r o = IsAccepted (verdict_of before (told.at now o)) → IsDone rows now key r (find_actual (state_after before (told.at now o)) key Ordinary)
 
   make-step : find_actual before key Ordinary ≡ None → told.wants rows key ≡ true → Steps None (op.Make key)
-  make-step is wanted h = done-unclaimed rows now key None (find_actual (state_after before (told.at now (op.Make key))) key Ordinary) wanted (new_row key now, after-make before now key h, refl)
+  make-step is wanted h = done-unclaimed rows now key None (find_actual (state_after before (told.at now (op.Make key))) key Ordinary) wanted (beginning before now key, after-make before now key h, refl)
 
   remove-step : (a : Actual) → find_actual before key Ordinary ≡ Some a → told.wants rows key ≡ false → Steps (Some a) (op.Remove key (holder_of a.state))
   remove-step a is unwanted h =

@@ -12,7 +12,7 @@ use Rattle.diego_names.specs.declared.key.Key.{Key}
 use Rattle.lrp_records.specs.States.{holder_of}
 use Rattle.lrp_records.specs.declared.actual.Actual.{Actual}
 use Rattle.lrp_records.specs.declared.presence.Presence.{Presence}
-use Rattle.lrp_records.specs.declared.presence.Presence.TheVariants.{Ordinary, Evacuating}
+use Rattle.lrp_records.specs.declared.presence.Presence.TheVariants.{Ordinary, Evacuating, Suspect}
 use Rattle.lrp_records.specs.declared.lrp_move.LrpMove.{LrpMove}
 use Rattle.lrp_records.specs.declared.lrp_move.LrpMove.TheVariants as move
 use Rattle.lrp_records.specs.declared.state.LrpState.{LrpState}
@@ -25,7 +25,6 @@ use Rattle.task_records.specs.declared.state.TaskState.TheVariants as task
 use Rattle.task_records.specs.declared.task.Task.{Task}
 use Rattle.bbs_model.specs.Attempts.{drop_row}
 use Rattle.bbs_model.specs.Cells.{vanish}
-use Rattle.bbs_model.specs.Lrps.{new_row}
 use Rattle.bbs_model.specs.Runs.{state_after, state_after_all}
 use Rattle.bbs_model.specs.Step.{changed_by, verdict_of}
 use Rattle.bbs_model.specs.Tables.{cell_name_of, task_name_of, find_actual, find_cell, find_task}
@@ -39,7 +38,7 @@ use Rattle.bbs_model.specs.declared.command.Op.TheVariants as op
 use Rattle.bbs_model.specs.declared.event.Row.TheVariants as row
 use Rattle.bbs_model.specs.declared.rows.Rows.{Rows}
 use Rattle.bbs_model.specs.declared.verdict.BoardRefusal.TheVariants.{LeaseHolds}
-use Rattle.convergence.specs.Subjects.{Subject, OfCell, OfPlace, OfTask, OfProcess, subject_of, subject_in, work_on, ordinary_of}
+use Rattle.convergence.specs.Subjects.{Subject, OfCell, OfDomain, OfPlace, OfTask, OfProcess, subject_of, subject_in, work_on, ordinary_of}
 use Rattle.convergence.proofs.Public.{about_is, about_work, work_rises, work_is_by_subject}
 use Rattle.converge_laws.specs.Accepted.{IsAccepted, AreAccepted, IsOfRound}
 use Rattle.converge_laws.specs.Laws.{AreOfRound, KeepsGround}
@@ -179,8 +178,10 @@ module _ (rows : Rows) (now : Moment) (valid : IsValid rows) (taken : AreAccepte
 
   rests-all : (s : Subject) → work_on new now s ≡ None
   rests-all (OfCell name) = cells-done name
+  rests-all (OfDomain name) = refl
   rests-all (OfPlace (key, Ordinary)) = ordinary-ground now rows new work-ground key (find_actual new key Ordinary) ∙ (ordinary-done key).0
   rests-all (OfPlace (key, Evacuating)) = evacuating-done key
+  rests-all (OfPlace (key, Suspect)) = refl
   rests-all (OfTask name) = tasks-done name
   rests-all (OfProcess name) = refl
 

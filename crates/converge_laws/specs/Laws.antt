@@ -44,7 +44,7 @@ abbrev pub WorkLeavesNothing : Type 0
 WorkLeavesNothing = (rows : Rows) (now : Moment) → IsValid rows → AreAccepted rows (work rows now) →
     IsWorked (state_after_all rows (work rows now)) now
 
--- a plan that is accepted leaves the containers of all rows held
+-- a plan that is accepted leaves the containers of all rows held but those of SUSPECT ones
 abbrev pub PlanLeavesContainersHeld : Type 0
 PlanLeavesContainersHeld = (rows : Rows) (got stores : List Answer) (now : Moment) → IsValid rows → IsWorked rows now →
     HaveAnswered rows got stores now → AreAccepted rows (plan_of_answers rows got now) →

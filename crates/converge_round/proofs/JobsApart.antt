@@ -15,7 +15,7 @@ use Rattle.lrp_records.specs.Place.{place_of, place_order}
 use Rattle.lrp_records.specs.declared.actual.Actual.{Actual}
 use Rattle.lrp_records.specs.declared.desired.Desired.{Desired}
 use Rattle.lrp_records.specs.declared.presence.Presence.{Presence}
-use Rattle.lrp_records.specs.declared.presence.Presence.TheVariants.{Ordinary, Evacuating}
+use Rattle.lrp_records.specs.declared.presence.Presence.TheVariants.{Ordinary, Evacuating, Suspect}
 use Rattle.lrp_records.specs.declared.state.LrpState.{LrpState}
 use Rattle.lrp_records.specs.declared.state.LrpState.TheVariants as lrp
 use Rattle.lrp_records.proofs.Public.{IsKeyOrder-place_order}
@@ -55,6 +55,7 @@ waiting_named rows key Ordinary (lrp.Claimed i c) j e = absurd cc
 waiting_named rows key Ordinary (lrp.Running i c) j e = absurd cc
 waiting_named rows key Ordinary lrp.Crashed j e = absurd cc
 waiting_named rows key Evacuating s j e = absurd cc
+waiting_named rows key Suspect s j e = absurd cc
 
 pending_named : (t : Task) (s : TaskState) (j : Job) → pending_job t s ≡ Some j → name.Task t.name ≡ j.job
 pending_named t task.Pending j e = ap (name_or (name.Task t.name)) e

@@ -9,7 +9,7 @@ use Rattle.diego_names.specs.declared.key.Key.{Key}
 use Rattle.lrp_records.specs.declared.actual.Actual.{Actual}
 use Rattle.lrp_records.specs.declared.desired.Desired.{Desired}
 use Rattle.lrp_records.specs.declared.presence.Presence.{Presence}
-use Rattle.lrp_records.specs.declared.presence.Presence.TheVariants.{Ordinary, Evacuating}
+use Rattle.lrp_records.specs.declared.presence.Presence.TheVariants.{Ordinary, Evacuating, Suspect}
 use Rattle.lrp_records.specs.declared.state.LrpState.{LrpState}
 use Rattle.lrp_records.specs.declared.state.LrpState.TheVariants.{Unclaimed, Claimed, Running, Crashed}
 use Rattle.task_records.specs.declared.state.TaskState.{TaskState}
@@ -35,6 +35,7 @@ waiting_job rows key Ordinary (Claimed i c) = None
 waiting_job rows key Ordinary (Running i c) = None
 waiting_job rows key Ordinary Crashed = None
 waiting_job rows key Evacuating state = None
+waiting_job rows key Suspect state = None
 
 -- the job of an actual row that waits
 abbrev pub row_job : Rows → Actual → Option Job

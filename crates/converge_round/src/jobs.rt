@@ -36,7 +36,7 @@ fn row_job(rows: &Rows, row: &Actual) -> Option<Job>
     ensures { result ≡ told.row_job rows.now row.now }
 {
     match row.presence {
-        Presence::Evacuating => None,
+        Presence::Evacuating | Presence::Suspect => None,
         Presence::Ordinary => match row.state {
             LrpState::Unclaimed => instance_job(rows, &row.key),
             LrpState::Claimed { .. } | LrpState::Running { .. } | LrpState::Crashed => None,

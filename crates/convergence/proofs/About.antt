@@ -9,7 +9,7 @@ use Rattle.diego_names.specs.declared.key.Key.{Key}
 use Rattle.lrp_records.specs.States.{holder_of}
 use Rattle.lrp_records.specs.declared.actual.Actual.{Actual}
 use Rattle.lrp_records.specs.declared.presence.Presence.{Presence}
-use Rattle.lrp_records.specs.declared.presence.Presence.TheVariants.{Ordinary, Evacuating}
+use Rattle.lrp_records.specs.declared.presence.Presence.TheVariants.{Ordinary, Evacuating, Suspect}
 use Rattle.lrp_records.specs.declared.state.LrpState.{LrpState}
 use Rattle.lrp_records.specs.declared.state.LrpState.TheVariants as lrp
 use Rattle.row_tables.proofs.Public.{key-find_row}
@@ -21,7 +21,7 @@ use Rattle.bbs_model.specs.Work as told
 use Rattle.bbs_model.specs.declared.command.Op.{Op}
 use Rattle.bbs_model.specs.declared.command.Op.TheVariants as op
 use Rattle.bbs_model.specs.declared.rows.Rows.{Rows}
-use Rattle.convergence.specs.Subjects.{Subject, OfCell, OfPlace, OfTask, OfProcess, subject_of, work_on}
+use Rattle.convergence.specs.Subjects.{Subject, OfCell, OfDomain, OfPlace, OfTask, OfProcess, subject_of, work_on}
 
 -- the command, if there is one, is about the subject
 abbrev pub IsAbout : Subject → Option Op → Type 0
@@ -74,6 +74,7 @@ about_evacuating rows now key (Some a) =
 pub about_place : (rows : Rows) (now : Moment) (place : Key × Presence) → IsAbout (OfPlace place) (told.place_work rows now place)
 about_place rows now (key, Ordinary) = about_ordinary rows now key (find_actual rows key Ordinary)
 about_place rows now (key, Evacuating) = about_evacuating rows now key (find_actual rows key Evacuating)
+about_place rows now (key, Suspect) = tt
 
 about_state : (rows : Rows) (now : Moment) (t : Task) (state : TaskState) → IsAbout (OfTask t.name) (told.asked_of_task rows now t state)
 about_state rows now t task.Pending =
@@ -95,6 +96,7 @@ about_work rows now (OfCell name) =
       | None ↦ λ e. tt
       | (Some c) ↦ λ e. subst (λ (n : List ℕ). IsAbout (OfCell n) (told.cell_work c now)) (key-find_row name_order cell_name_of IsKeyOrder-name_order name c rows.cells e) (about_cell c now)
     ] refl
+about_work rows now (OfDomain name) = tt
 about_work rows now (OfPlace p) = about_place rows now p
 about_work rows now (OfTask name) =
     elim (find_task rows name) as (λ (s : Option Task). find_task rows name ≡ s → IsAbout (OfTask name) (option_and_then (told.task_work rows now) s)) [

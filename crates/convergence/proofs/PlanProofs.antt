@@ -19,7 +19,7 @@ use Rattle.lrp_records.proofs.Public.{IsKeyOrder-place_order}
 use Rattle.lrp_records.specs.Place.{place_of, place_order}
 use Rattle.lrp_records.specs.declared.actual.Actual.{Actual}
 use Rattle.lrp_records.specs.declared.presence.Presence.{Presence}
-use Rattle.lrp_records.specs.declared.presence.Presence.TheVariants.{Ordinary, Evacuating}
+use Rattle.lrp_records.specs.declared.presence.Presence.TheVariants.{Ordinary, Evacuating, Suspect}
 use Rattle.row_tables.specs.Table.{find_row, IsRising}
 use Rattle.row_tables.proofs.Public.{Contains-find_row, find_row-Contains, key-find_row}
 use Rattle.task_records.specs.declared.task.Task.{Task}
@@ -33,7 +33,7 @@ use Rattle.bbs_model.specs.declared.rows.Rows.{Rows}
 use Rattle.convergence.specs.Containers.{Site, site_of, task_site_of}
 use Rattle.convergence.specs.Plans as planned
 use Rattle.convergence.specs.PlanLaws.{plan_on}
-use Rattle.convergence.specs.Subjects.{Subject, OfCell, OfPlace, OfTask, OfProcess, subject_order, subject_of, subject_in, RiseBySubject}
+use Rattle.convergence.specs.Subjects.{Subject, OfCell, OfDomain, OfPlace, OfTask, OfProcess, subject_order, subject_of, subject_in, RiseBySubject}
 use Rattle.convergence.proofs.About.{IsAbout, about_is, about_if}
 use Rattle.convergence.proofs.Gathers.{Contains-map, Contains-from_map, Contains-filter_map, Contains-from_filter_map, IsRising-append, IsRising-map, IsRising-filter_map}
 
@@ -45,6 +45,7 @@ about_asked s (Some c) gone ended f g = about_if s (is_uncompleted c.state) None
 about_row : (presence : Presence) (key : Key) (instance : Instance) (c : Option Container) → IsAbout (OfPlace (key, presence)) (planned.row_plan presence key instance c)
 about_row Ordinary key instance c = about_asked (OfPlace (key, Ordinary)) c (op.Unclaim key instance) (op.Crash key instance) refl refl
 about_row Evacuating key instance c = about_asked (OfPlace (key, Evacuating)) c (op.DropEvacuating key instance) (op.DropEvacuating key instance) refl refl
+about_row Suspect key instance c = tt
 
 about_outcome : (name : List ℕ) (instance : Instance) (state : ContainerState) → IsAbout (OfTask name) (planned.outcome_plan name instance state)
 about_outcome name instance Reserved = tt
@@ -120,6 +121,7 @@ module _ (rows : Rows) (answers : List Answer) where
   -- what a subject is asked for is asked
   subject_is_planned : (s : Subject) (o : Op) → plan_on rows answers s ≡ Some o → Contains (planned.planned_of_all rows answers) o
   subject_is_planned (OfCell name) o e = absurd cc
+  subject_is_planned (OfDomain name) o e = absurd cc
   subject_is_planned (OfPlace p) o e =
       elim (find_actual rows p.0 p.1) as (λ (s : Option Actual). find_actual rows p.0 p.1 ≡ s → option_and_then (planned.actual_plan answers) s ≡ Some o → Contains (planned.planned_of_all rows answers) o) [
         | None ↦ λ is t. absurd cc
@@ -148,6 +150,7 @@ module _ (rows : Rows) (answers : List Answer) where
 -- what a plan asks of a subject is about it
 pub about_plan : (rows : Rows) (answers : List Answer) (s : Subject) → IsAbout s (plan_on rows answers s)
 about_plan rows answers (OfCell name) = tt
+about_plan rows answers (OfDomain name) = tt
 about_plan rows answers (OfPlace p) =
     elim (find_actual rows p.0 p.1) as (λ (s : Option Actual). find_actual rows p.0 p.1 ≡ s → IsAbout (OfPlace p) (option_and_then (planned.actual_plan answers) s)) [
       | None ↦ λ e. tt

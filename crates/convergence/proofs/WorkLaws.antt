@@ -15,7 +15,7 @@ use Rattle.lrp_records.specs.Place.{place_of, place_order}
 use Rattle.lrp_records.specs.declared.actual.Actual.{Actual}
 use Rattle.lrp_records.specs.declared.desired.Desired.{Desired}
 use Rattle.lrp_records.specs.declared.presence.Presence.{Presence}
-use Rattle.lrp_records.specs.declared.presence.Presence.TheVariants.{Ordinary, Evacuating}
+use Rattle.lrp_records.specs.declared.presence.Presence.TheVariants.{Ordinary, Evacuating, Suspect}
 use Rattle.row_tables.specs.Table.{find_row, IsRising}
 use Rattle.row_tables.proofs.Public.{Contains-find_row, find_row-Contains, key-find_row, IsRising-table}
 use Rattle.task_records.specs.declared.task.Task.{Task}
@@ -27,7 +27,7 @@ use Rattle.bbs_model.specs.declared.command.Command.{Command}
 use Rattle.bbs_model.specs.declared.command.Op.{Op}
 use Rattle.bbs_model.specs.declared.command.Op.TheVariants as op
 use Rattle.bbs_model.specs.declared.rows.Rows.{Rows}
-use Rattle.convergence.specs.Subjects.{Subject, OfCell, OfPlace, OfTask, OfProcess, subject_order, subject_of, subject_in, work_on, RiseBySubject}
+use Rattle.convergence.specs.Subjects.{Subject, OfCell, OfDomain, OfPlace, OfTask, OfProcess, subject_order, subject_of, subject_in, work_on, RiseBySubject}
 use Rattle.convergence.proofs.About.{about_is, about_cell, about_place, about_task}
 use Rattle.convergence.proofs.Gathers.{Contains-map, Contains-from_map, Contains-flat_map, Contains-range, Contains-filter_map, Contains-from_filter_map, IsRising-append, IsRising-map, IsRising-filter_map}
 use Rattle.convergence.proofs.Members.{Contains-table}
@@ -151,6 +151,7 @@ module _ (rows : Rows) (now : Moment) where
         | None ↦ λ is t. absurd cc
         | (Some a) ↦ λ is t. Contains-append_right (told.wanted_places rows.desired) (map place_of rows.actual) (key, Evacuating) (standing_place (key, Evacuating) a is)
       ] refl e
+  asked_place (key, Suspect) o e = absurd cc
 
   -- what a subject is asked for is asked
   subject_is_asked : (s : Subject) (o : Op) → work_on rows now s ≡ Some o → Contains (told.asked_of_all rows now) o
@@ -160,6 +161,7 @@ module _ (rows : Rows) (now : Moment) where
         | (Some c) ↦ λ is t. Contains-append_left (of_cells rows now) (of_places rows now ++ of_tasks rows now) o
             (Contains-filter_map (λ (r : CellRow). told.cell_work r now) rows.cells c o (Contains-find_row name_order cell_name_of name c rows.cells is) t)
       ] refl e
+  subject_is_asked (OfDomain name) o e = absurd cc
   subject_is_asked (OfPlace p) o e =
       let stands = Contains-table place_order IsKeyOrder-place_order (told.wanted_places rows.desired ++ map place_of rows.actual) p (asked_place p o e) in
       Contains-append_right (of_cells rows now) (of_places rows now ++ of_tasks rows now) o

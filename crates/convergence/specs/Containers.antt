@@ -10,7 +10,7 @@ use Rattle.container_store.specs.Jobs.{is_same_job}
 use Rattle.diego_names.specs.declared.instance.Instance.{Instance}
 use Rattle.lrp_records.specs.States.{holder_of, is_same_instance}
 use Rattle.lrp_records.specs.declared.actual.Actual.{Actual}
-use Rattle.lrp_records.specs.declared.presence.Presence.TheVariants.{Ordinary, Evacuating}
+use Rattle.lrp_records.specs.declared.presence.Presence.TheVariants.{Ordinary, Evacuating, Suspect}
 use Rattle.lrp_records.specs.declared.state.LrpState.{LrpState}
 use Rattle.lrp_records.specs.declared.state.LrpState.TheVariants as lrp
 use Rattle.task_records.specs.declared.state.TaskState.{TaskState}
@@ -66,10 +66,11 @@ row_names row instance = option_map_or (λ (a : Actual). is_holder (holder_of a.
 abbrev pub task_names : Option Task → Instance → Bool
 task_names row instance = option_map_or (λ (t : Task). is_holder (runner_of t.state) instance) row false
 
--- a row of the job names that instance: an ORDINARY or an EVACUATING one, or a task
+-- a row of the job names that instance: an ORDINARY, an EVACUATING or a SUSPECT one, or a task
 abbrev pub is_named_for : JobName → Rows → Instance → Bool
 is_named_for (job.Lrp key) rows instance =
     row_names (find_actual rows key Ordinary) instance || row_names (find_actual rows key Evacuating) instance
+    || row_names (find_actual rows key Suspect) instance
 is_named_for (job.Task name) rows instance = task_names (find_task rows name) instance
 
 -- a row names the container, by its job and its instance

@@ -10,11 +10,12 @@ use Rattle.bbs_model.specs.declared.command.Command.{Command}
 use Rattle.bbs_model.specs.declared.command.Op.{Op}
 use Rattle.bbs_model.specs.declared.rows.Rows.{Rows}
 use Rattle.convergence.specs.Plans.{plan_of_answers, actual_plan, task_plan}
-use Rattle.convergence.specs.Subjects.{Subject, OfCell, OfPlace, OfTask, OfProcess, subject_in, RiseBySubject}
+use Rattle.convergence.specs.Subjects.{Subject, OfCell, OfDomain, OfPlace, OfTask, OfProcess, subject_in, RiseBySubject}
 
--- what a plan asks of a subject: of a cell and a process nothing
+-- what a plan asks of a subject: of a cell, a domain and a process nothing
 abbrev pub plan_on : Rows → List Answer → Subject → Option Op
 plan_on rows answers (OfCell cell) = None
+plan_on rows answers (OfDomain domain) = None
 plan_on rows answers (OfPlace place) = option_and_then (actual_plan answers) (find_actual rows place.0 place.1)
 plan_on rows answers (OfTask name) = option_and_then (task_plan answers) (find_task rows name)
 plan_on rows answers (OfProcess process) = None

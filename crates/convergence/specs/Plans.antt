@@ -14,7 +14,7 @@ use Rattle.diego_names.specs.declared.instance.Instance.{Instance}
 use Rattle.diego_names.specs.declared.key.Key.{Key}
 use Rattle.lrp_records.specs.declared.actual.Actual.{Actual}
 use Rattle.lrp_records.specs.declared.presence.Presence.{Presence}
-use Rattle.lrp_records.specs.declared.presence.Presence.TheVariants.{Ordinary, Evacuating}
+use Rattle.lrp_records.specs.declared.presence.Presence.TheVariants.{Ordinary, Evacuating, Suspect}
 use Rattle.task_records.specs.declared.task.Task.{Task}
 use Rattle.bbs_model.specs.Work.{at}
 use Rattle.bbs_model.specs.declared.command.Command.{Command}
@@ -33,10 +33,12 @@ abbrev pub asked_of_told : Option Container → Op → Op → Option Op
 asked_of_told None gone ended = Some gone
 asked_of_told (Some c) gone ended = if is_uncompleted c.state then None else Some ended
 
--- an ORDINARY row gives back a container that is gone, and crashed where it ended; an EVACUATING row is dropped
+-- an ORDINARY row gives back a container that is gone, and crashed where it ended; an EVACUATING row is dropped;
+-- of a SUSPECT row nothing is asked
 abbrev pub row_plan : Presence → Key → Instance → Option Container → Option Op
 row_plan Ordinary key instance c = asked_of_told c (op.Unclaim key instance) (op.Crash key instance)
 row_plan Evacuating key instance c = asked_of_told c (op.DropEvacuating key instance) (op.DropEvacuating key instance)
+row_plan Suspect key instance c = None
 
 -- a task has the outcome of its container once that ended
 abbrev pub outcome_plan : List ℕ → Instance → ContainerState → Option Op

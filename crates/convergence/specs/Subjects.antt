@@ -1,4 +1,4 @@
--- What each command is about: one row, of a cell, an instance, a task or a process.
+-- What each command is about: one row, of a cell, a domain, an instance, a task or a process.
 use Rattle.std.specs.Prelude.{◌≡◌, ◌↔◌, ℕ, List, Option, Some, None}
 use Rattle.std.specs.List.{Contains}
 use Rattle.std.specs.Option.{option_and_then}
@@ -10,7 +10,7 @@ use Rattle.diego_names.specs.Order.{name_order}
 use Rattle.diego_names.specs.declared.key.Key.{Key}
 use Rattle.lrp_records.specs.Place.{place_order}
 use Rattle.lrp_records.specs.declared.presence.Presence.{Presence}
-use Rattle.lrp_records.specs.declared.presence.Presence.TheVariants.{Ordinary, Evacuating}
+use Rattle.lrp_records.specs.declared.presence.Presence.TheVariants.{Ordinary, Evacuating, Suspect}
 use Rattle.row_tables.specs.Table.{IsRising}
 use Rattle.bbs_model.specs.Tables.{find_cell, find_task}
 use Rattle.bbs_model.specs.Valid.{IsValid}
@@ -20,23 +20,26 @@ use Rattle.bbs_model.specs.declared.command.Op.{Op}
 use Rattle.bbs_model.specs.declared.command.Op.TheVariants as op
 use Rattle.bbs_model.specs.declared.rows.Rows.{Rows}
 
--- a cell by its name, a place among the actual rows, a task or a process by its name
+-- a cell or a domain by its name, a place among the actual rows, a task or a process by its name
 pub data Subject : Type 0 where
   OfCell : List ℕ → Subject
+  OfDomain : List ℕ → Subject
   OfPlace : Key × Presence → Subject
   OfTask : List ℕ → Subject
   OfProcess : List ℕ → Subject
 
--- cells come first, then places, then tasks
+-- cells come first, then domains, then places, then tasks
 abbrev pub subject_rank : Subject → ℕ
 subject_rank (OfCell cell) = 0
-subject_rank (OfPlace place) = 1
-subject_rank (OfTask name) = 2
-subject_rank (OfProcess process) = 3
+subject_rank (OfDomain domain) = 1
+subject_rank (OfPlace place) = 2
+subject_rank (OfTask name) = 3
+subject_rank (OfProcess process) = 4
 
 -- subjects of one kind stand in the order of their table
 abbrev pub subject_order : Subject → Subject → Ordering
 subject_order (OfCell a) (OfCell b) = name_order a b
+subject_order (OfDomain a) (OfDomain b) = name_order a b
 subject_order (OfPlace a) (OfPlace b) = place_order a b
 subject_order (OfTask a) (OfTask b) = name_order a b
 subject_order (OfProcess a) (OfProcess b) = name_order a b
@@ -73,14 +76,19 @@ subject_of (op.Join cell zone tag totals ttl) = OfCell cell
 subject_of (op.Renew cell epoch ttl) = OfCell cell
 subject_of (op.Drain cell epoch) = OfCell cell
 subject_of (op.Vanish cell) = OfCell cell
+subject_of (op.Fresh domain ttl) = OfDomain domain
+subject_of (op.Forget domain) = OfDomain domain
+subject_of (op.Suspect key instance) = ordinary_of key
+subject_of (op.DropSuspect key instance) = OfPlace (key, Suspect)
 
 -- the row that the command of a moment is about
 abbrev pub subject_in : Command → Subject
 subject_in command = subject_of command.op
 
--- what convergence asks of a subject: of a process nothing
+-- what convergence asks of a subject: of a domain and a process nothing
 abbrev pub work_on : Rows → Moment → Subject → Option Op
 work_on rows now (OfCell cell) = option_and_then (λ (c : CellRow). cell_work c now) (find_cell rows cell)
+work_on rows now (OfDomain domain) = None
 work_on rows now (OfPlace place) = place_work rows now place
 work_on rows now (OfTask name) = option_and_then (task_work rows now) (find_task rows name)
 work_on rows now (OfProcess process) = None

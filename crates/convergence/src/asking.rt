@@ -162,6 +162,7 @@ fn row_work(rows: &Rows, now: Moment, key: &Key, presence: Presence) -> Option<O
     match presence {
         Presence::Ordinary => ordinary_work(rows, now, key, &row),
         Presence::Evacuating => evacuating_work(rows, now, key, &row),
+        Presence::Suspect => None,
     }
 }
 

@@ -122,6 +122,7 @@ fn row_plan(row: &Actual, instance: Instance, container: &Option<Container>) -> 
     match row.presence {
         Presence::Ordinary => ordinary_plan(&row.key, instance, container),
         Presence::Evacuating => evacuating_plan(&row.key, instance, container),
+        Presence::Suspect => None,
     }
 }
 

@@ -83,7 +83,10 @@ fn is_instance_named(rows: &Rows, key: &Key, instance: &Instance) -> bool
 {
     let ordinary = actual_of(rows, *key, Presence::Ordinary);
     let evacuating = actual_of(rows, *key, Presence::Evacuating);
-    row_names(&ordinary, instance) || row_names(&evacuating, instance)
+    let suspect = actual_of(rows, *key, Presence::Suspect);
+    row_names(&ordinary, instance)
+        || row_names(&evacuating, instance)
+        || row_names(&suspect, instance)
 }
 
 fn is_holder(held: Option<Instance>, instance: &Instance) -> bool

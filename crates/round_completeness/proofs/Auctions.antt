@@ -29,7 +29,7 @@ use Rattle.diego_names.proofs.Public.{IsKeyOrder-name_order}
 use Rattle.diego_names.specs.Order.{name_order}
 use Rattle.diego_names.specs.declared.key.Key.{Key}
 use Rattle.lrp_records.specs.declared.presence.Presence.{Presence}
-use Rattle.lrp_records.specs.declared.presence.Presence.TheVariants.{Ordinary, Evacuating}
+use Rattle.lrp_records.specs.declared.presence.Presence.TheVariants.{Ordinary, Evacuating, Suspect}
 use Rattle.lrp_records.specs.declared.state.LrpState.{LrpState}
 use Rattle.lrp_records.specs.declared.state.LrpState.TheVariants as lrp
 use Rattle.round_theorem.proofs.Public.{from_table, differ_pairs, one_of_name, instance_named}
@@ -50,6 +50,7 @@ row_found rows key Ordinary (lrp.Claimed i c) j e = absurd cc
 row_found rows key Ordinary (lrp.Running i c) j e = absurd cc
 row_found rows key Ordinary lrp.Crashed j e = absurd cc
 row_found rows key Evacuating state j e = absurd cc
+row_found rows key Suspect state j e = absurd cc
 
 task_found : (rows : Rows) (t : Task) (state : TaskState) (j : Job) → IsValid rows → Contains rows.tasks t → pending_job t state ≡ Some j
     → named_job rows j.job ≡ Some j

@@ -26,6 +26,7 @@ fn first_board(alloc: Global) -> Rows
         actual: List::new(alloc),
         tasks: List::new(alloc),
         cells: List::new(alloc),
+        domains: List::new(alloc),
         next: 0,
     }
 }

@@ -24,7 +24,7 @@ use Rattle.lrp_records.specs.declared.actual.Actual.{Actual}
 use Rattle.lrp_records.specs.declared.lrp_move.LrpMove.TheVariants as move
 use Rattle.lrp_records.specs.declared.move_end.MoveEnd.TheVariants as end
 use Rattle.lrp_records.specs.declared.presence.Presence.{Presence}
-use Rattle.lrp_records.specs.declared.presence.Presence.TheVariants.{Ordinary, Evacuating}
+use Rattle.lrp_records.specs.declared.presence.Presence.TheVariants.{Ordinary, Evacuating, Suspect}
 use Rattle.lrp_records.specs.declared.state.LrpState.{LrpState}
 use Rattle.lrp_records.specs.declared.state.LrpState.TheVariants as lrp
 use Rattle.row_tables.proofs.Public.{find_row-Contains, key-find_row}
@@ -67,6 +67,7 @@ row_waits rows key Ordinary (lrp.Claimed i c) j e = absurd cc
 row_waits rows key Ordinary (lrp.Running i c) j e = absurd cc
 row_waits rows key Ordinary lrp.Crashed j e = absurd cc
 row_waits rows key Evacuating s j e = absurd cc
+row_waits rows key Suspect s j e = absurd cc
 
 abbrev name_or : JobName → Option Job → JobName
 name_or other o = option_map_or (λ (j : Job). j.job) o other

@@ -32,7 +32,7 @@ use Rattle.bbs_model.specs.Attempts.{if_known, put, drop_row}
 use Rattle.bbs_model.specs.Cells.{vanish}
 use Rattle.bbs_model.specs.Found.{found_by}
 use Rattle.bbs_model.specs.Limits.{most_actual}
-use Rattle.bbs_model.specs.Lrps.{moved_to, is_running_as, stays_because, new_row}
+use Rattle.bbs_model.specs.Lrps.{moved_to, is_running_as, stays_because, new_row, domain_of}
 use Rattle.bbs_model.specs.Step.{attempt_at}
 use Rattle.bbs_model.specs.Tables.{find_actual, find_cell, find_task}
 use Rattle.bbs_model.specs.Tasks.{task_moved_to}
@@ -111,7 +111,7 @@ made_if key now x false b c e f h = absurd cc
 
 pub makes : (rows : Rows) (now : Moment) (key : Key) → wants rows key ≡ true → find_actual rows key Ordinary ≡ None → FairIf rows now (Some (op.Make key))
 makes rows now key wanted none =
-    made_if key now (put (row.Actual (new_row key now))) (wants rows key) (is_some (find_actual rows key Ordinary)) (nat_le most_actual (found_by rows (op.Make key)).counts.actual) wanted (ap (λ (o : Option Actual). is_some o) none) tt
+    made_if key now (put (row.Actual (new_row key (domain_of (found_by rows (op.Make key)).desired) now))) (wants rows key) (is_some (find_actual rows key Ordinary)) (nat_le most_actual (found_by rows (op.Make key)).counts.actual) wanted (ap (λ (o : Option Actual). is_some o) none) tt
 
 -- an EVACUATING row that runs
 pub drops : (rows : Rows) (now : Moment) (key : Key) (a : Actual) (i : Instance) (cell : List ℕ) → find_actual rows key Evacuating ≡ Some a → a.state ≡ lrp.Running i cell

@@ -24,7 +24,7 @@ use Rattle.bbs_model.specs.declared.verdict.BoardRefusal.TheVariants.{BoardFull}
 use Rattle.bbs_model.specs.declared.verdict.Verdict.TheVariants as verdict
 use Rattle.converge_laws.specs.Accepted.{IsOfRound, AreApart}
 use Rattle.converge_laws.specs.Laws.{AreOfRound}
-use Rattle.converge_laws.proofs.Public.{first_or_rest, inside_first, inside_rest, apart_from_rising, work_of_round, plan_of_round, stays-ordinary, stays-evacuating, stays-task, stays-cell, stays-wanted, stays-there}
+use Rattle.converge_laws.proofs.Public.{first_or_rest, inside_first, inside_rest, apart_from_rising, work_of_round, plan_of_round, stays-ordinary, stays-evacuating, stays-suspect, stays-task, stays-cell, stays-wanted, stays-there}
 use Rattle.round_theorem.specs.Alone.{refusal_by, refused_of}
 use Rattle.round_theorem.specs.Lacks.{IsLack, AreRefusedForRoom}
 use Rattle.round_theorem.proofs.FairMoves.{IsFair, FairIf}
@@ -49,12 +49,13 @@ still_as old new c s of other h = record {
   wanted = λ key. stays-wanted new c of key ∙ h.wanted key;
   ordinary = λ key is. stays-ordinary new c of key (λ same. other (same ∙ sym is)) ∙ h.ordinary key is;
   aside = λ key is. stays-evacuating new c of key (λ same. other (same ∙ sym is)) ∙ h.aside key is;
+  suspect = λ key is. stays-suspect new c of key ∙ h.suspect key is;
   tasks = λ name is. stays-task new c of name (λ same. other (same ∙ sym is)) ∙ h.tasks name is;
   cells = λ name is. stays-cell new c of name (λ same. other (same ∙ sym is)) ∙ h.cells name is;
 }
 
 pub as_itself : (rows : Rows) (s : Subject) → IsAsBefore rows rows s
-as_itself rows s = record { wanted = λ key. refl; ordinary = λ key is. refl; aside = λ key is. refl; tasks = λ name is. refl; cells = λ name is. refl }
+as_itself rows s = record { wanted = λ key. refl; ordinary = λ key is. refl; aside = λ key is. refl; suspect = λ key is. refl; tasks = λ name is. refl; cells = λ name is. refl }
 
 -- the same cells are there
 abbrev pub KeepsThere : Moment → Rows → Rows → Type 0

@@ -18,7 +18,7 @@ use Rattle.lrp_records.specs.Place.{place_of, place_order}
 use Rattle.lrp_records.specs.States.{holder_of}
 use Rattle.lrp_records.specs.declared.actual.Actual.{Actual}
 use Rattle.lrp_records.specs.declared.presence.Presence.{Presence}
-use Rattle.lrp_records.specs.declared.presence.Presence.TheVariants.{Ordinary, Evacuating}
+use Rattle.lrp_records.specs.declared.presence.Presence.TheVariants.{Ordinary, Evacuating, Suspect}
 use Rattle.lrp_records.specs.declared.state.LrpState.{LrpState}
 use Rattle.lrp_records.specs.declared.state.LrpState.TheVariants as lrp
 use Rattle.row_tables.proofs.Public.{key-find_row}
@@ -34,7 +34,7 @@ use Rattle.bbs_model.specs.declared.rows.Rows.{Rows}
 use Rattle.convergence.specs.Containers.{Site, site_of, task_site_of}
 use Rattle.convergence.specs.Plans.{told_of, asked_of_told, row_plan, outcome_plan, task_row_plan, actual_plan, task_plan}
 use Rattle.convergence.specs.PlanLaws.{plan_on}
-use Rattle.convergence.specs.Subjects.{Subject, OfCell, OfPlace, OfTask, OfProcess, work_on, ordinary_of}
+use Rattle.convergence.specs.Subjects.{Subject, OfCell, OfDomain, OfPlace, OfTask, OfProcess, work_on, ordinary_of}
 use Rattle.converge_laws.proofs.Public.{find_row-each}
 use Rattle.round_theorem.proofs.FairMoves.{FairIf, fair_either, removes, unclaims, crashes, restarts, makes, drops, cancels, expires, kicks, completes, vanishes}
 
@@ -43,6 +43,7 @@ pub record IsAsBefore (old new : Rows) (s : Subject) : Type 0 where
   pub wanted : (key : Key) → told.wants new key ≡ told.wants old key
   pub ordinary : (key : Key) → s ≡ ordinary_of key → find_actual new key Ordinary ≡ find_actual old key Ordinary
   pub aside : (key : Key) → s ≡ OfPlace (key, Evacuating) → find_actual new key Evacuating ≡ find_actual old key Evacuating
+  pub suspect : (key : Key) → s ≡ OfPlace (key, Suspect) → find_actual new key Suspect ≡ find_actual old key Suspect
   pub tasks : (name : List ℕ) → s ≡ OfTask name → find_task new name ≡ find_task old name
   pub cells : (name : List ℕ) → s ≡ OfCell name → find_cell new name ≡ find_cell old name
 
@@ -129,8 +130,10 @@ module _ (old new : Rows) (now : Moment) (valid : IsValid old) where
   -- the work on a subject
   pub fair-work : (s : Subject) → IsAsBefore old new s → FairIf new now (work_on old now s)
   fair-work (OfCell n) h = fair_cell n (find_cell old n) refl (h.cells n refl)
+  fair-work (OfDomain n) h = tt
   fair-work (OfPlace (key, Ordinary)) h = fair_ordinary key (find_actual old key Ordinary) (h.wanted key) (h.ordinary key refl)
   fair-work (OfPlace (key, Evacuating)) h = fair_aside key (find_actual old key Evacuating) refl (h.aside key refl)
+  fair-work (OfPlace (key, Suspect)) h = tt
   fair-work (OfTask n) h = fair_task n (find_task old n) refl (h.tasks n refl)
   fair-work (OfProcess n) h = tt
 
@@ -161,6 +164,7 @@ module _ (old new : Rows) (now : Moment) (valid : IsValid old) where
   row_here key Evacuating a was is s e i cell at c =
       let dropping = drops_here key a was is i cell (on_state a s e i cell at) in
       told_row key i c (op.DropEvacuating key i) (op.DropEvacuating key i) dropping dropping
+  row_here key Suspect a was is s e i cell at c = tt
 
   fair_site : (got : List Answer) (key : Key) (p : Presence) (a : Actual) → find_actual old key p ≡ Some a → find_actual new key p ≡ Some a → (s : LrpState) → a.state ≡ s
       → FairIf new now (option_and_then (λ (site : Site). option_and_then (row_plan p key site.0) (told_of got (job.Lrp key) site)) (site_of s))
@@ -204,7 +208,9 @@ module _ (old new : Rows) (now : Moment) (valid : IsValid old) where
 
   pub fair-plan : (got : List Answer) (s : Subject) → IsAsBefore old new s → FairIf new now (plan_on old got s)
   fair-plan got (OfCell n) h = tt
+  fair-plan got (OfDomain n) h = tt
   fair-plan got (OfPlace (key, Ordinary)) h = fair_row got key Ordinary (find_actual old key Ordinary) refl (h.ordinary key refl)
   fair-plan got (OfPlace (key, Evacuating)) h = fair_row got key Evacuating (find_actual old key Evacuating) refl (h.aside key refl)
+  fair-plan got (OfPlace (key, Suspect)) h = fair_row got key Suspect (find_actual old key Suspect) refl (h.suspect key refl)
   fair-plan got (OfTask n) h = fair_told got n (find_task old n) refl (h.tasks n refl)
   fair-plan got (OfProcess n) h = tt

@@ -27,6 +27,7 @@ fn waits(names: &Names) -> Actual {
         count: 0,
         since: Moment(0),
         error: false,
+        domain: Some(names.web),
     }
 }
 
@@ -36,15 +37,12 @@ fn runs_on(names: &Names) -> Actual {
         number: 1,
     };
     Actual {
-        key: names.key(),
         presence: Presence::Evacuating,
         state: LrpState::Running {
             instance,
             cell: names.cell,
         },
-        count: 0,
-        since: Moment(0),
-        error: false,
+        ..waits(names)
     }
 }
 

@@ -33,7 +33,7 @@ fn join_refused<P: Port + Drop, W: Wire + Drop>(
 }
 
 fn full_port(alloc: Global) -> Result<FailingPort, OutOfMemory> {
-    FailingPort::new(alloc, 7, empty_board(alloc, 1000000), None)
+    FailingPort::new(alloc, 7, empty_board(alloc, 1_099_511_627_776), None)
 }
 
 #[test]

@@ -1,6 +1,7 @@
 //! Which containers are strays.
 use super::answers::{held, stray};
-use super::{container, desire, join, make, read_names, start};
+use super::{at, container, desire, first, join, make, read_names, start};
+use bbs_model::Op;
 use cell_records::ContainerState;
 use diego_names::{Instance, Name};
 use std::test::Fail;
@@ -39,6 +40,24 @@ fn a_container_that_a_row_names_is_none_unless_it_ended(rt: HostRuntime) -> Resu
     let ended = [held(web, 2, 1, ENDED)];
     let told = [(cell, 2, ended.as_slice()), (names.b, 3, &[])];
     assert!(rt; stray(alloc, &running, &told, &[(cell, container(2))])?);
+    Ok(())
+}
+
+#[test]
+fn a_container_that_a_suspect_row_names_is_none(rt: HostRuntime) -> Result<(), Fail> {
+    let alloc = rt.alloc();
+    let names = read_names()?;
+    let (web, cell) = (names.web, names.a);
+    let (key, instance) = (first(web), container(2));
+    let suspected = [
+        desire(web, 1),
+        make(web),
+        join(cell, 90),
+        start(web, 2, cell),
+        at(90, Op::Suspect { key, instance }),
+    ];
+    let runs = [held(web, 2, 1, RUNNING)];
+    assert!(rt; stray(alloc, &suspected, &[(cell, 2, runs.as_slice())], &[])?);
     Ok(())
 }
 

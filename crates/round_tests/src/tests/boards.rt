@@ -12,20 +12,20 @@ use std::test::Fail;
 /// The number of the one caller.
 pub const CALLER: u32 = 7;
 
-/// The area of a board without rows that has made so many transitions, which three bytes say.
-fn area(alloc: Global, transitions: &[u8; 3]) -> Result<Vec<u8>, Fail> {
-    let head = b"\x01DIEGOBBS\x00\x01\x00\x00\x00\x00\x00\x00\x00\x01\x00\x00\x00\x18";
+/// The area of a board without rows that has made so many transitions, which five bytes say.
+fn area(alloc: Global, transitions: &[u8; 5]) -> Result<Vec<u8>, Fail> {
+    let head = b"\x01DIEGOBBS\x00\x02\x00\x00\x00\x00\x00\x00\x00\x01\x00\x00\x00\x1c";
     let mut area = head.to_vec(alloc)?;
-    area.extend_from_slice(&[0; 5])?;
+    area.extend_from_slice(&[0; 3])?;
     area.extend_from_slice(transitions)?;
-    area.extend_from_slice(&[0; 17])?;
+    area.extend_from_slice(&[0; 21])?;
     Ok(area)
 }
 
 /// A disk in memory with that board, of which these device calls fail.
 pub fn disk_with(
     alloc: Global,
-    transitions: &[u8; 3],
+    transitions: &[u8; 5],
     failing: &[u64],
 ) -> Result<MemoryDisk, Fail> {
     let area = area(alloc, transitions)?;
@@ -92,7 +92,7 @@ fn beside_over<D: Disk + Drop>(
 /// Plays a story over a board on a disk in memory that has no rows, and has made so many transitions.
 pub fn told_after(
     alloc: Global,
-    transitions: &[u8; 3],
+    transitions: &[u8; 5],
     story: &[(u32, Turn)],
 ) -> Result<Told, Fail> {
     told_over(alloc, disk_with(alloc, transitions, &[])?, story)
@@ -100,7 +100,7 @@ pub fn told_after(
 
 /// Plays a story over a new board on a disk in memory.
 pub fn told(alloc: Global, story: &[(u32, Turn)]) -> Result<Told, Fail> {
-    told_after(alloc, &[0; 3], story)
+    told_after(alloc, &[0; 5], story)
 }
 
 /// The same, where another caller does a command right before the caller's call of that number, from 1.
@@ -110,5 +110,5 @@ pub fn told_beside(
     until: u64,
     visit: Command,
 ) -> Result<Told, Fail> {
-    beside_over(alloc, disk_with(alloc, &[0; 3], &[])?, story, until, visit)
+    beside_over(alloc, disk_with(alloc, &[0; 5], &[])?, story, until, visit)
 }

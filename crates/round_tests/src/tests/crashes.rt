@@ -61,16 +61,13 @@ fn ten_crashes(alloc: Global, names: &Names) -> Result<Life, Fail> {
 }
 
 fn life_is_so(rt: &impl Abort, alloc: Global, names: &Names, life: &Life) -> Result<(), Fail> {
+    let claimed = LrpState::Claimed {
+        instance: container(0, 11),
+        cell: names.c1,
+    };
     let row = Actual {
-        key: names.web(0),
-        presence: Presence::Ordinary,
-        state: LrpState::Claimed {
-            instance: container(0, 11),
-            cell: names.c1,
-        },
         count: 10,
-        since: Moment(life.now),
-        error: false,
+        ..row_of(names.web(0), claimed, life.now)
     };
     rounds_count(rt, alloc, &life.story, &[], &life.rounds)?;
     rows_are(rt, alloc, &life.story, &[row])

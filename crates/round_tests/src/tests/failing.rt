@@ -153,7 +153,7 @@ fn rounds_failing(
     names: &Names,
     failing: u64,
 ) -> Result<(CallFault, Counts, Vec<Item>), Fail> {
-    let disk = disk_with(alloc, &[0; 3], &[failing])?;
+    let disk = disk_with(alloc, &[0; 5], &[failing])?;
     rounds_over(alloc, disk, &story_of(names))
 }
 

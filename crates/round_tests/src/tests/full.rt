@@ -5,9 +5,9 @@ use super::*;
 use bbs_model::{BoardRefusal, Command};
 
 // Three transitions are left: a cell, a process and its instance. There is none for its claim.
-const LAST_BUT_THREE: [u8; 3] = [0x0f, 0x42, 0x3d];
+const LAST_BUT_THREE: [u8; 5] = [0xff, 0xff, 0xff, 0xff, 0xfd];
 
-const EPOCH: u64 = 999_997;
+const EPOCH: u64 = 1_099_511_627_773;
 
 fn story_of(names: &Names, first: Turn) -> [(u32, Turn); 4] {
     [

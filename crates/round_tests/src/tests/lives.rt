@@ -3,12 +3,8 @@ use super::*;
 
 fn running(key: Key, presence: Presence, instance: Instance, cell: Name, since: u32) -> Actual {
     Actual {
-        key,
         presence,
-        state: LrpState::Running { instance, cell },
-        count: 0,
-        since: Moment(since),
-        error: false,
+        ..row_of(key, LrpState::Running { instance, cell }, since)
     }
 }
 

@@ -2,8 +2,9 @@
 use bbs_model::Op;
 use cell_records::{Amounts, JobName};
 use cell_rep::CellAct;
+use crash_backoff::Moment;
 use diego_names::{Instance, Key, Name};
-use lrp_records::Desired;
+use lrp_records::{Actual, Desired, LrpState, Presence};
 use std::test::Fail;
 
 #[derive(Clone, Copy)]
@@ -68,6 +69,19 @@ pub fn desire(process: Name, instances: u32) -> Op {
         port: 8080,
     };
     Op::Desire { desired }
+}
+
+/// An ORDINARY row that has never crashed, of a process that `desire` wants.
+pub fn row_of(key: Key, state: LrpState, since: u32) -> Actual {
+    Actual {
+        key,
+        presence: Presence::Ordinary,
+        state,
+        count: 0,
+        since: Moment(since),
+        error: false,
+        domain: Some(key.process),
+    }
 }
 
 pub fn task(name: Name) -> Op {
