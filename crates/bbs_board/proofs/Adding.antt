@@ -5,7 +5,7 @@ use Rattle.disk_trait.specs.Past.{Past, Image, ImagesSince, now, other}
 use Rattle.disk_trait.specs.Runs.{Extends, Runs}
 use Rattle.disk_trait.proofs.Public.{runs_image, runs_there}
 use Rattle.disk_trait.specs.declared.area.Area.{Area}
-use Rattle.bbs_codec.specs.Command.{spelled, FitsCommand}
+use Rattle.bbs_codec.specs.Command.{spelled, FitsCommand, IsReadIn}
 use Rattle.bbs_journal.specs.Areas.{BeforeOrAfter, Ready}
 use Rattle.bbs_journal.specs.Beside.{Beside}
 use Rattle.bbs_journal.specs.Calls.{Appended, Appends, AddsFrame}
@@ -31,9 +31,9 @@ use Rattle.bbs_board.proofs.Steps.{end_of, frames_of, frame_left, ready_where, r
 
 -- ---- doubts
 
-module _ (base : Rows) (log : List Item) (by : ℕ) (c : Command) where
+module _ (version : ℕ) (base : Rows) (log : List Item) (by : ℕ) (c : Command) where
   -- a doubt that may show may show still where another call failed
-  still_shows : (one : List ℕ) → MayShow base log one → MayShow base (log ++ Doubt by c ∷ []) one
+  still_shows : (one : List ℕ) → MayShow version base log one → MayShow version base (log ++ Doubt by c ∷ []) one
   still_shows one shows = record {
     place = shows.place;
     by = shows.by;
@@ -43,11 +43,12 @@ module _ (base : Rows) (log : List Item) (by : ℕ) (c : Command) where
     last = λ earlier caller command item. ⊎_elim (λ old. shows.last earlier caller command old.1) (λ new. absurd (cc (new.1))) (get_split log (Doubt by c) earlier (Done caller command) item);
     payload_is = shows.payload_is;
     fits = shows.fits;
+    read = shows.read;
   }
 
   -- and a new one may show
-  new_shows : (one : List ℕ) → one ≡ spelled c → FitsCommand c → MayShow base (log ++ Doubt by c ∷ []) one
-  new_shows one is fits = record {
+  new_shows : (one : List ℕ) → one ≡ spelled c → FitsCommand c → IsReadIn version c → MayShow version base (log ++ Doubt by c ∷ []) one
+  new_shows one is fits read = record {
     place = length log;
     by = by;
     command = c;
@@ -56,6 +57,7 @@ module _ (base : Rows) (log : List Item) (by : ℕ) (c : Command) where
     last = λ earlier caller command item. ⊎_elim (λ old. old.0) (λ new. absurd (cc (new.1))) (get_split log (Doubt by c) earlier (Done caller command) item);
     payload_is = is;
     fits = fits;
+    read = read;
   }
 
 -- a doubt that no call of its own stands behind
@@ -72,7 +74,7 @@ holds_doubted base log marks since area version generation end frames waiting kn
       doubt = h.doubt;
       goes_with = h.goes_with;
       waits_is = h.waits_is;
-      may_show = λ payload is. still_shows base log by c payload (h.may_show payload is);
+      may_show = λ payload is. still_shows version base log by c payload (h.may_show payload is);
       stands = h.stands;
       next = h.next;
       beside = h.beside;
@@ -84,7 +86,7 @@ holds_doubted base log marks since area version generation end frames waiting kn
 -- ---- an append where nothing waits
 
 module _ (base : Rows) (log : List Item) (marks : List ℕ) (since : ℕ) (area : Area) (version generation end frames : ℕ) (known : OtherGate) (p q : Past) (h : Holds base log marks since area version generation end frames Nothing known p) (lawful : IsLawful base log)
-    (by : ℕ) (c : Command) (fits : FitsCommand c) (legal : IsLegal (replay_log base log) c) where
+    (by : ℕ) (c : Command) (fits : FitsCommand c) (read : IsReadIn version c) (legal : IsLegal (replay_log base log) c) where
   abbrev front : List ℕ
   front = h.gate ∷ heading version generation h.head
 
@@ -92,13 +94,13 @@ module _ (base : Rows) (log : List Item) (marks : List ℕ) (since : ℕ) (area 
     there : now q (other area) ≡ now p (other area)
     there = runs_there (BeforeOrAfter front h.payloads (spelled c)) area p q runs
 
-    window : (ok : Bool) (image : Image) → ImagesSince q p.clock image → (from : ℕ) → from ≤ length log → ((payload : List ℕ) (shows : MayShow base log payload) → from ≤ shows.place) → IsFound base (log ++ item_of ok by c ∷ []) from image
+    window : (ok : Bool) (image : Image) → ImagesSince q p.clock image → (from : ℕ) → from ≤ length log → ((payload : List ℕ) (shows : MayShow version base log payload) → from ≤ shows.place) → IsFound base (log ++ item_of ok by c ∷ []) from image
     window ok image images from le below =
         let both = runs_image (BeforeOrAfter front h.payloads (spelled c)) area p q image runs images in
         let beside = h.beside.leaves (image (other area)) both.1 in
         ⊎_elim
         (λ is. found_more base log (item_of ok by c ∷ []) from image (found base log marks since area version generation end frames Nothing known p h lawful image (inl is) beside from le below))
-        (λ more. found_new base log marks since area version generation end frames Nothing known p h lawful by c fits legal ok image more (calm_yields h.next Nothing known generation (image (other area)) refl beside) from le)
+        (λ more. found_new base log marks since area version generation end frames Nothing known p h lawful by c fits read legal ok image more (calm_yields h.next Nothing known generation (image (other area)) refl beside) from le)
         both.0
 
     -- what a stop leaves after the acknowledgement
@@ -107,7 +109,7 @@ module _ (base : Rows) (log : List Item) (marks : List ℕ) (since : ℕ) (area 
         let here : images.moment ≡ q.clock = let from = images.from in let to = images.to in omega (arith, from, to) in
         let leaves : (a : Area) → Leaves (now q a) (image a) = λ a. subst (λ (m : ℕ). Leaves (q.held m a) (image a)) here (images.leaves a) in
         let beside = h.beside.leaves (image (other area)) (subst (λ (held : Held). Leaves held (image (other area))) there (leaves (other area))) in
-        found_done base log marks since area version generation end frames Nothing known p h lawful by c fits legal image
+        found_done base log marks since area version generation end frames Nothing known p h lawful by c fits read legal image
         (ready_area front (h.payloads ++ spelled c ∷ []) (end + 3 + length (spelled c)) (now q area) ready (image area) (leaves area))
         (calm_yields h.next Nothing known generation (image (other area)) refl beside)
 
@@ -130,7 +132,7 @@ module _ (base : Rows) (log : List Item) (marks : List ℕ) (since : ℕ) (area 
       beside = beside_still;
       leads_on = λ size never. absurd (cc (never));
       rows_are = h.rows_are ∙ ap Ok (sym (replay_more base log (Doubt by c)));
-      kept = kept_more base log marks since p q h.kept runs.extends (Doubt by c) (window false) (λ caller command never. absurd (cc (never)));
+      kept = kept_more version base log marks since p q h.kept runs.extends (Doubt by c) (window false) (λ caller command never. absurd (cc (never)));
     }
     left_standing true left = record {
       gate = h.gate;
@@ -141,13 +143,13 @@ module _ (base : Rows) (log : List Item) (marks : List ℕ) (since : ℕ) (area 
       doubt = Some (spelled c);
       goes_with = h.goes_with;
       waits_is = refl;
-      may_show = λ payload is. new_shows base log by c payload (cc (is)) fits;
+      may_show = λ payload is. new_shows version base log by c payload (cc (is)) fits read;
       stands = left;
       next = h.next;
       beside = beside_still;
       leads_on = λ size never. absurd (cc (never));
       rows_are = h.rows_are ∙ ap Ok (sym (replay_more base log (Doubt by c)));
-      kept = kept_more base log marks since p q h.kept runs.extends (Doubt by c) (window false) (λ caller command never. absurd (cc (never)));
+      kept = kept_more version base log marks since p q h.kept runs.extends (Doubt by c) (window false) (λ caller command never. absurd (cc (never)));
     }
 
     added_standing : Ready front (h.payloads ++ spelled c ∷ []) (end + 3 + length (spelled c)) (now q area) → Holds base (log ++ Done by c ∷ []) (marks ++ q.clock ∷ []) since area version generation (end + 3 + length (spelled c)) (frames + 1) Nothing known q
@@ -165,8 +167,8 @@ module _ (base : Rows) (log : List Item) (marks : List ℕ) (since : ℕ) (area 
       next = h.next;
       beside = beside_still;
       leads_on = λ size never. absurd (cc (never));
-      rows_are = command_more area h.head h.payloads c (replay_log base log) fits legal h.rows_are ∙ ap Ok (sym (replay_more base log (Done by c)));
-      kept = kept_more base log marks since p q h.kept runs.extends (Done by c) (window true) (λ caller command same image images. acknowledged_image ready image images);
+      rows_are = command_more version area h.head h.payloads c (replay_log base log) fits read legal h.rows_are ∙ ap Ok (sym (replay_more base log (Done by c)));
+      kept = kept_more version base log marks since p q h.kept runs.extends (Done by c) (window true) (λ caller command same image images. acknowledged_image ready image images);
     }
 
   pub holds_added : (ok after : Bool) → (ok ≡ true → after ≡ false) → AddsFrame area ok after (spelled c) end p q

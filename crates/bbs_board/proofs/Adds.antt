@@ -1,6 +1,5 @@
 -- A command behind what a disk reads, or behind a checkpoint of that: the two ways in which it is stored.
-use Rattle.std.proofs.Common.{◌≡◌, ◌⊎◌, inl, inr, ⊎_elim, ℕ, ◌<◌, ◌≤◌, Bool, true, false, nat_le, List, length, None, refl, sym, ap, subst, ◌∙◌, arith, if◌then◌else◌}
-use Rattle.std.proofs.lemmas.Bool.Decides.{nat_tests}
+use Rattle.std.proofs.Common.{◌≡◌, ◌⊎◌, inl, inr, ⊎_elim, ℕ, Bool, true, false, List, None, refl, sym, ap, subst, ◌∙◌, if◌then◌else◌}
 use Rattle.disk_trait.specs.Past.{Past, Image, Images, ImagesSince, content}
 use Rattle.disk_trait.specs.Runs.{Extends}
 use Rattle.disk_trait.specs.declared.area.Area.{Area}
@@ -12,7 +11,7 @@ use Rattle.bbs_model.specs.declared.command.Command.{Command}
 use Rattle.bbs_model.specs.declared.rows.Rows.{Rows}
 use Rattle.bbs_board.specs.Checkpoint.{Compacts}
 use Rattle.bbs_board.specs.Stops.{OpensWith, IsOnTheWay, Stores}
-use Rattle.bbs_board.specs.Written.{Reading, OpensTo, ReadsAs, LeadsTo, compacted, with_room, with_payload, stored_behind}
+use Rattle.bbs_board.specs.Written.{Reading, OpensTo, ReadsAs, LeadsTo, compacted, is_due, with_room, with_payload, stored_behind}
 
 -- a command is put behind what was read: all the while a stop leaves that, or that and the command, and once it is
 -- acknowledged only the second
@@ -40,17 +39,11 @@ same_reading image r s one two =
     ∙ ap (λ (h : List ℕ). reading_of s.area s.version s.generation h r.payloads) same.head_is
     ∙ ap (λ (l : List (List ℕ)). reading_of s.area s.version s.generation s.head l) same.payloads_are
 
-not_full : (n : ℕ) → n < 4096 → nat_le 4096 n ≡ false
-not_full n short = grind (arith, nat_tests)
+pub room_there : (rows : Rows) (r : Reading) → is_due r ≡ false → with_room rows r ≡ r
+room_there rows r short = ap (λ (b : Bool). if b then compacted rows r else r) short
 
-full : (n : ℕ) → 4096 ≤ n → nat_le 4096 n ≡ true
-full n long = grind (arith, nat_tests)
-
-pub room_there : (rows : Rows) (r : Reading) → length r.payloads < 4096 → with_room rows r ≡ r
-room_there rows r short = ap (λ (b : Bool). if b then compacted rows r else r) (not_full (length r.payloads) short)
-
-pub room_made : (rows : Rows) (r : Reading) → 4096 ≤ length r.payloads → with_room rows r ≡ compacted rows r
-room_made rows r long = ap (λ (b : Bool). if b then compacted rows r else r) (full (length r.payloads) long)
+pub room_made : (rows : Rows) (r : Reading) → is_due r ≡ true → with_room rows r ≡ compacted rows r
+room_made rows r due = ap (λ (b : Bool). if b then compacted rows r else r) due
 
 opens_with : (rows : Rows) (r s : Reading) (image : Image) → r ≡ s → OpensTo s image → LeadsTo s rows → OpensWith rows r image
 opens_with rows r s image same opens leads = record { opens = subst (λ (x : Reading). OpensTo x image) (sym same) opens; leads = subst (λ (x : Reading). LeadsTo x rows) (sym same) leads }
@@ -59,7 +52,7 @@ opens_with rows r s image same opens leads = record { opens = subst (λ (x : Rea
 
 module _ (ok : Bool) (rows : Rows) (c : Command) (p q : Past) where
   -- behind what was read
-  pub stores_short : AddsBehind ok rows c p q → ((r : Reading) → ReadsAs r p → length r.payloads < 4096) → Stores ok rows c p q
+  pub stores_short : AddsBehind ok rows c p q → ((r : Reading) → ReadsAs r p → is_due r ≡ false) → Stores ok rows c p q
   stores_short a short =
       let same : stored_behind rows c a.before ≡ with_payload (spelled c) a.before = ap (with_payload (spelled c)) (room_there rows a.before (short a.before a.reads)) in
       record {
@@ -72,19 +65,19 @@ module _ (ok : Bool) (rows : Rows) (c : Command) (p q : Past) where
       }
 
   -- behind a checkpoint
-  module _ (s : Past) (extends : Extends p q) (m : Compacts true rows p q) (a : AddsBehind ok rows c q s) (long : (r : Reading) → ReadsAs r p → 4096 ≤ length r.payloads) where
+  module _ (s : Past) (extends : Extends p q) (m : Compacts true rows p q) (a : AddsBehind ok rows c q s) (due : (r : Reading) → ReadsAs r p → is_due r ≡ true) where
     there : OpensWith rows (compacted rows m.before) (content q)
     there = m.done refl (content q) (q.possible q.clock)
 
     room : with_room rows m.before ≡ a.before
-    room = room_made rows m.before (long m.before m.reads) ∙ same_reading (content q) (compacted rows m.before) a.before there.opens a.reads
+    room = room_made rows m.before (due m.before m.reads) ∙ same_reading (content q) (compacted rows m.before) a.before there.opens a.reads
 
     stored : stored_behind rows c m.before ≡ with_payload (spelled c) a.before
     stored = ap (with_payload (spelled c)) room
 
     early_image : (image : Image) → OpensTo m.before image ⊎ OpensWith rows (compacted rows m.before) image → IsOnTheWay rows c m.before image
     early_image image (inl old) = inl old
-    early_image image (inr moved) = inr (inl (opens_with rows (with_room rows m.before) (compacted rows m.before) image (room_made rows m.before (long m.before m.reads)) moved.opens moved.leads))
+    early_image image (inr moved) = inr (inl (opens_with rows (with_room rows m.before) (compacted rows m.before) image (room_made rows m.before (due m.before m.reads)) moved.opens moved.leads))
 
     late_image : (image : Image) → OpensTo a.before image ⊎ OpensTo (with_payload (spelled c) a.before) image → IsOnTheWay rows c m.before image
     late_image image (inl moved) = inr (inl (opens_with rows (with_room rows m.before) a.before image room moved a.leads))
@@ -101,13 +94,13 @@ module _ (ok : Bool) (rows : Rows) (c : Command) (p q : Past) where
     }
 
 -- a checkpoint before it failed
-pub stores_unmoved : (rows : Rows) (c : Command) (p q : Past) → Extends p q → Compacts false rows p q → ((r : Reading) → ReadsAs r p → 4096 ≤ length r.payloads) → Stores false rows c p q
-stores_unmoved rows c p q extends m long = record {
+pub stores_unmoved : (rows : Rows) (c : Command) (p q : Past) → Extends p q → Compacts false rows p q → ((r : Reading) → ReadsAs r p → is_due r ≡ true) → Stores false rows c p q
+stores_unmoved rows c p q extends m due = record {
   extends = extends;
   before = m.before;
   reads = m.reads;
   leads = m.leads;
   each = λ image images. ⊎_elim (λ old. inl old)
-      (λ moved. inr (inl (opens_with rows (with_room rows m.before) (compacted rows m.before) image (room_made rows m.before (long m.before m.reads)) moved.opens moved.leads))) (m.each image images);
+      (λ moved. inr (inl (opens_with rows (with_room rows m.before) (compacted rows m.before) image (room_made rows m.before (due m.before m.reads)) moved.opens moved.leads))) (m.each image images);
   done = λ never. absurd (cc (never));
 }

@@ -1,6 +1,7 @@
 -- A switch and the whole of a checkpoint, where the disk may tell nothing.
-use Rattle.std.proofs.Common.{◌≡◌, ◌⊎◌, inl, inr, ℕ, ◌+◌, ◌<◌, ◌-◌, ◌^◌, Bool, true, false, List, length, Option, Some, None, refl, sym, ap, subst, ◌∙◌, arith}
+use Rattle.std.proofs.Common.{◌≡◌, ◌⊎◌, inl, inr, ⊎_elim, ℕ, ◌+◌, ◌<◌, ◌-◌, ◌^◌, Bool, true, false, ◌||◌, ◌==◌, nat_lt, List, length, Option, Some, None, refl, sym, ap, subst, ◌∙◌, arith}
 use Rattle.std.specs.Prelude.{if◌then◌else◌}
+use Rattle.std.proofs.lemmas.Bool.Decides.{nat_tests}
 use Rattle.std.specs.Option.{ForSome}
 use Rattle.disk_trait.specs.Past.{Past, other}
 use Rattle.disk_trait.specs.Runs.{Extends}
@@ -20,12 +21,13 @@ use Rattle.bbs_model.specs.Replay.{replay_log, IsLawful}
 use Rattle.bbs_model.specs.Valid.{IsValid}
 use Rattle.bbs_model.specs.declared.item.Item.{Item}
 use Rattle.bbs_model.specs.declared.rows.Rows.{Rows}
-use Rattle.bbs_board.specs.Checkpoint.{Compacts, Checkpoints, MovesOn, MovedOn}
+use Rattle.bbs_board.specs.Checkpoint.{Compacts, Checkpoints, MovesOn, MovedOn, has_to_compact}
 use Rattle.bbs_board.specs.Puts.{StandsWith, StillStands}
 use Rattle.bbs_board.specs.View.{Holds, LeadsOn, StandsOn}
 use Rattle.bbs_board.proofs.Beside.{calm_nothing}
 use Rattle.bbs_board.proofs.Mending.{by_step, standing}
-use Rattle.bbs_board.proofs.Moving.{not_above, leads, calm_ready, holds_there, holds_here, compacts_not, compacts_none, compacts_by}
+use Rattle.bbs_board.proofs.Filling.{by_tests, not_by_tests, low_generation}
+use Rattle.bbs_board.proofs.Moving.{leads, calm_ready, holds_there, holds_here, compacts_not, compacts_none, compacts_by}
 
 header_calm : (w : Waiting) → w ≡ (if is_waiting w then Header else Nothing) → frame_waits w ≡ false
 header_calm Nothing own = refl
@@ -33,9 +35,9 @@ header_calm Frame own = absurd (cc)
 header_calm Header own = refl
 
 module _ {D : Type 0} (told : D → Option Past) (v0 v1 : JournalView D) (base : Rows) (log : List Item) (marks : List ℕ) (since : ℕ) (calm : v0.waiting ≡ Nothing) (stands : StandsOn told base log marks since v0)
-    (some : 0 < v0.frames) (fits : FitsHead (replay_log base log)) (small : length (head_spelled (replay_log base log)) < 2 ^ 32) where
+    (some : (0 < v0.frames) ⊎ (v0.version ≡ 1)) (fits : FitsHead newest (replay_log base log)) (small : length (head_spelled newest (replay_log base log)) < 2 ^ 32) where
   abbrev new : List ℕ
-  new = head_spelled (replay_log base log)
+  new = head_spelled newest (replay_log base log)
 
   abbrev Here : Past → Type 0
   Here = Holds base log marks since v0.area v0.version v0.generation v0.end v0.frames Nothing v0.gate
@@ -95,8 +97,8 @@ module _ {D : Type 0} (told : D → Option Past) where
   pub moves_switched : (v0 v1 : JournalView D) (ok : Bool) (head : List ℕ) → v0.waiting ≡ Nothing → length head < 2 ^ 32 → KnowsAfterSwitch ok (length head) v0 v1
       → Goes (told v0.disk) (told v1.disk) (SwitchesAll ok v0.area v0.version v0.generation v1.waiting v1.gate head) → MovesOn told ok head v0 v1
   moves_switched v0 v1 ok head calm small goes_on goes base log marks since lawful stands some fits is =
-      let few : length (head_spelled (replay_log base log)) < 2 ^ 32 = subst (λ (l : List ℕ). length l < 2 ^ 32) is small in
-      let on : KnowsAfterSwitch ok (length (head_spelled (replay_log base log))) v0 v1 = subst (λ (l : List ℕ). KnowsAfterSwitch ok (length l) v0 v1) is goes_on in
+      let few : length (head_spelled newest (replay_log base log)) < 2 ^ 32 = subst (λ (l : List ℕ). length l < 2 ^ 32) is small in
+      let on : KnowsAfterSwitch ok (length (head_spelled newest (replay_log base log))) v0 v1 = subst (λ (l : List ℕ). KnowsAfterSwitch ok (length l) v0 v1) is goes_on in
       let all = subst (λ (l : List ℕ). Goes (told v0.disk) (told v1.disk) (SwitchesAll ok v0.area v0.version v0.generation v1.waiting v1.gate l)) is goes in (
         switched told v0 v1 base log marks since calm stands some fits few ok on all,
         λ idle. compacted_so told v0 v1 base log marks since calm stands some fits few ok all,
@@ -107,7 +109,7 @@ module _ {D : Type 0} (told : D → Option Past) where
   moves_then v0 v1 v2 ok head settles still moves base log marks since lawful stands some fits is =
       let first = still base log marks since lawful stands in
       let frames : v1.frames ≡ v0.frames = settles.frames in
-      let second = moves base log marks since lawful first.stands (omega (arith, some, frames)) fits is in (
+      let second = moves base log marks since lawful first.stands (⊎_elim (λ frame. inl (omega (arith, frame, frames))) (λ old. inr (settles.stays.version ∙ old)) some) fits is in (
         record {
           extends = goes_then (told v0.disk) (told v1.disk) (told v2.disk) Extends Extends Extends (λ p q r i j k a b. extends_then p q r a b) first.extends second.0.extends;
           stands = second.0.stands;
@@ -131,6 +133,7 @@ module _ {D : Type 0} (v0 v1 v2 : JournalView D) (whole : v0.broken ≡ false) w
   pub moved_not : Settles false v0 v1 → MovedOn false v0 v1
   moved_not settles = record {
     whole = settles.stays.broken ∙ whole;
+    version = settles.stays.version;
     frames = settles.frames;
     waits = λ never. absurd (cc (never));
     frame = λ is. ap frame_waits (sym settles.waiting) ∙ is;
@@ -142,6 +145,7 @@ module _ {D : Type 0} (v0 v1 v2 : JournalView D) (whole : v0.broken ≡ false) w
       let made = on.made refl in
       record {
         whole = ap (λ (v : JournalView D). v.broken) made;
+        version = ap (λ (v : JournalView D). v.version) made;
         frames = ap (λ (v : JournalView D). v.frames) made;
         waits = λ is. ap (λ (v : JournalView D). is_waiting v.waiting) made;
         frame = λ is. absurd (let never : frame_waits v2.waiting ≡ false = ap (λ (v : JournalView D). frame_waits v.waiting) made in cc);
@@ -151,6 +155,7 @@ module _ {D : Type 0} (v0 v1 v2 : JournalView D) (whole : v0.broken ≡ false) w
   pub moved_left : Settles true v0 v1 → StaysThere v1 v2 → MovedOn false v0 v2
   moved_left settles there = record {
     whole = there.stays.broken ∙ settles.stays.broken ∙ whole;
+    version = there.stays.version ∙ settles.stays.version;
     frames = there.frames ∙ settles.frames;
     waits = λ never. absurd (cc (never));
     frame = λ is. absurd (let never : frame_waits v2.waiting ≡ false = header_calm v2.waiting there.waiting in cc);
@@ -167,6 +172,15 @@ few_close_calls Loose = inr refl
 few_close_calls (Written size) = inl refl
 
 -- ---- the whole of a checkpoint
+
+none_by_tests : (frames version : ℕ) → nat_lt 0 frames || version == 1 ≡ false → (frames ≡ 0) × (version ≡ 1 → ⊥)
+none_by_tests frames version is = (grind (arith, nat_tests), λ old. grind (arith, nat_tests))
+
+compact_by_tests : (frames version : ℕ) → nat_lt 0 frames || version == 1 ≡ true → (0 < frames) ⊎ (version ≡ 1)
+compact_by_tests frames version is = grind (arith, nat_tests)
+
+pub compact_some : {D : Type 0} (j : JournalView D) → has_to_compact j ≡ true → (0 < j.frames) ⊎ (j.version ≡ 1)
+compact_some j is = compact_by_tests j.frames j.version (by_tests (nat_lt 0 j.frames || j.version == 1) j.generation (2 ^ 64 - 1) is).0
 
 checkpoints_both : (t0 t1 : Option Past) (waits ok : Bool) (rows : Rows) → Goes t0 t1 Extends → (waits ≡ false → Goes t0 t1 (Compacts ok rows)) → Goes t0 t1 (Checkpoints ok waits rows)
 checkpoints_both None None waits ok rows extends compacts = tt
@@ -186,18 +200,19 @@ module _ {D : Type 0} (told : D → Option Past) (j : JournalView D) (base : Row
   checkpoint_starved = checkpoints_both (told j.disk) (told j.disk) (is_waiting j.waiting) false (replay_log base log) same_extends
       (λ calm. goes_same (told j.disk) (Compacts false (replay_log base log)) (λ p is. compacts_not base log marks since j.area j.version j.generation j.end j.frames j.gate p (calmly calm p is)))
 
-  -- the area has no frames
-  pub checkpoint_none : j.frames ≡ 0 → Goes (told j.disk) (told j.disk) (Checkpoints true (is_waiting j.waiting) (replay_log base log))
-  checkpoint_none none = checkpoints_both (told j.disk) (told j.disk) (is_waiting j.waiting) true (replay_log base log) same_extends
-      (λ calm. goes_same (told j.disk) (Compacts true (replay_log base log)) (λ p is. compacts_none base log marks since j.area j.version j.generation j.end j.frames j.gate p (calmly calm p is) none))
-
-  -- no disk that tells its past has the last generation
-  pub checkpoint_never : j.generation ≡ 2 ^ 64 - 1 → IsValid (replay_log base log) → Goes (told j.disk) (told j.disk) (Checkpoints true (is_waiting j.waiting) (replay_log base log))
-  checkpoint_never last valid = goes_same (told j.disk) (Checkpoints true (is_waiting j.waiting) (replay_log base log))
-      (λ p is. absurd (let few = not_above base log marks since j.area j.version j.generation j.end j.frames j.waiting j.gate p (stands p is) in omega (arith, few, (stands p is).goes_with.version_is, last, valid.next)))
+  -- there is nothing to do; no disk that tells its past has the last generation
+  pub checkpoint_idle : has_to_compact j ≡ false → IsValid (replay_log base log) → Goes (told j.disk) (told j.disk) (Checkpoints true (is_waiting j.waiting) (replay_log base log))
+  checkpoint_idle idle valid = goes_same (told j.disk) (Checkpoints true (is_waiting j.waiting) (replay_log base log))
+      (λ p is.
+      let low = low_generation base log marks since j.area j.version j.generation j.end j.frames j.waiting j.gate p (stands p is) valid in
+      let rest = none_by_tests j.frames j.version (not_by_tests (nat_lt 0 j.frames || j.version == 1) j.generation (2 ^ 64 - 1) idle low) in
+      record {
+        extends = extends_same p;
+        compacts = λ calm. compacts_none base log marks since j.area j.version j.generation j.end j.frames j.gate p (calmly calm p is) rest.0 rest.1;
+      })
 
   -- it was tried
-  pub checkpoint_tried : (later : JournalView D) (ok : Bool) (head : List ℕ) → IsLawful base log → 0 < j.frames → FitsHead (replay_log base log) → head ≡ head_spelled (replay_log base log) → MovesOn told ok head j later
+  pub checkpoint_tried : (later : JournalView D) (ok : Bool) (head : List ℕ) → IsLawful base log → (0 < j.frames) ⊎ (j.version ≡ 1) → FitsHead newest (replay_log base log) → head ≡ head_spelled newest (replay_log base log) → MovesOn told ok head j later
       → Goes (told j.disk) (told later.disk) (Checkpoints ok (is_waiting j.waiting) (replay_log base log))
   checkpoint_tried later ok head lawful some fits is moves =
       let moved = moves base log marks since lawful stands some fits is in

@@ -8,7 +8,7 @@ use Rattle.diego_names.specs.Order.{name_order}
 use Rattle.lrp_records.specs.Place.{place_of, place_order}
 use Rattle.row_tables.specs.Table.{put_row, without_row}
 use Rattle.bbs_model.specs.Step.{with_row, without_place_of, edited, edited_again, changed_by, attempt_of, rows_after}
-use Rattle.bbs_model.specs.Tables.{process_of, task_name_of, cell_name_of}
+use Rattle.bbs_model.specs.Tables.{process_of, task_name_of, cell_name_of, domain_name_of}
 use Rattle.bbs_model.specs.declared.attempt.Attempt.{Attempt}
 use Rattle.bbs_model.specs.declared.attempt.Attempt.TheVariants.{Refuse, Keep, Change}
 use Rattle.bbs_model.specs.declared.attempt.Edit.{Edit}
@@ -46,12 +46,14 @@ few_with rows (row.Desired d) = let few = few-put name_order process_of d rows.d
 few_with rows (row.Actual a) = let few = few-put place_order place_of a rows.actual in omega (arith, few)
 few_with rows (row.Task t) = let few = few-put name_order task_name_of t rows.tasks in omega (arith, few)
 few_with rows (row.Cell c) = let few = few-put name_order cell_name_of c rows.cells in omega (arith, few)
+few_with rows (row.Domain d) = let few = few-put name_order domain_name_of d rows.domains in omega (arith, few)
 
 few_without : (rows : Rows) (r : Row) → row_count (without_place_of rows r) ≤ row_count rows
 few_without rows (row.Desired d) = let few = few-without name_order process_of d.process rows.desired in omega (arith, few)
 few_without rows (row.Actual a) = let few = few-without place_order place_of (a.key, a.presence) rows.actual in omega (arith, few)
 few_without rows (row.Task t) = let few = few-without name_order task_name_of t.name rows.tasks in omega (arith, few)
 few_without rows (row.Cell c) = let few = few-without name_order cell_name_of c.cell rows.cells in omega (arith, few)
+few_without rows (row.Domain d) = let few = few-without name_order domain_name_of d.domain rows.domains in omega (arith, few)
 
 few_edited : (rows : Rows) (edit : Edit) → row_count (edited rows edit) ≤ row_count rows + 1
 few_edited rows (Put r) = few_with rows r

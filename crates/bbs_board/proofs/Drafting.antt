@@ -49,6 +49,8 @@ take_there xs n x lt at = take_more xs n x lt ∙ ap (λ y. take n xs ++ y ∷ [
 abbrev pub StandsBehind : {K X : Type 0} → (K → K → Ordering) → (X → K) → List X → ℕ → Type 0
 StandsBehind {K} {X} R key rows number = (below : ℕ) (x : X) → below + 1 ≡ number → is_lt (R (key (get_or rows number x)) (key (get_or rows below x))) ≡ false
 
--- the five texts of a head, each put behind the one before it
-pub texts_joined : (c d a t r : List ℕ) → ((((([] ++ c) ++ d) ++ a) ++ t) ++ r) ≡ c ++ (d ++ (a ++ (t ++ r)))
-texts_joined c d a t r = append_assoc ((c ++ d) ++ a) t r ∙ append_assoc (c ++ d) a (t ++ r) ∙ append_assoc c d (a ++ (t ++ r))
+-- the six texts of a head, each put behind the one before it
+pub texts_joined : (c d a t r m : List ℕ) → (((((([] ++ c) ++ d) ++ a) ++ t) ++ r) ++ m) ≡ c ++ (d ++ (a ++ (t ++ (r ++ m))))
+texts_joined c d a t r m =
+    append_assoc (((c ++ d) ++ a) ++ t) r m ∙ append_assoc ((c ++ d) ++ a) t (r ++ m) ∙ append_assoc (c ++ d) a (t ++ (r ++ m))
+    ∙ append_assoc c d (a ++ (t ++ (r ++ m)))

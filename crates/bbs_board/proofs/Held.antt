@@ -8,6 +8,7 @@ use Rattle.disk_trait.specs.Steps.{Goes}
 use Rattle.disk_trait.proofs.Public.{goes_back}
 use Rattle.byte_ports.specs.Cause.{HasCause}
 use Rattle.bbs_codec.specs.Command.{spelled, FitsCommand}
+use Rattle.bbs_journal.specs.Header.{newest}
 use Rattle.bbs_journal.specs.View.{JournalView, is_waiting, frame_waits}
 use Rattle.bbs_model.specs.Replay.{replay_log, IsLawful, after_item, command_in}
 use Rattle.bbs_model.specs.Step.{IsLegal}
@@ -80,7 +81,7 @@ sound_moved told fault_count rows base log marks events since faults journal lat
   events_are = sound.events_are;
   whole = moved.whole;
   counted = let few = sound.counted in omega (arith, few, fewer ok moved.frames);
-  crowded = λ is. never_due ok moved.waits moved.frames moved.generation is;
+  crowded = λ is. never_due ok moved.waits moved.frames moved.version moved.generation is;
   doubted = let rose = sound.doubted in let later = cause.later in omega (arith, rose, later);
   holds = stands;
 }
@@ -89,10 +90,10 @@ sound_moved told fault_count rows base log marks events since faults journal lat
     fewer true is = omega (arith, is)
     fewer false is = omega (arith, is)
 
-    never_due : (done : Bool) → (done ≡ true → is_waiting later.waiting ≡ false) → later.frames ≡ (if done then 0 else journal.frames) → (done ≡ false → later.generation ≡ journal.generation) → frame_waits later.waiting ≡ true
+    never_due : (done : Bool) → (done ≡ true → is_waiting later.waiting ≡ false) → later.frames ≡ (if done then 0 else journal.frames) → later.version ≡ (if done then newest else journal.version) → (done ≡ false → later.generation ≡ journal.generation) → frame_waits later.waiting ≡ true
         → wants_checkpoint later ≡ false
-    never_due true calm frames generation is = short_not_due later (omega (arith, frames))
-    never_due false calm frames generation is = due_same journal later frames (generation refl) ∙ sound.crowded (moved.frame is)
+    never_due true calm frames version generation is = short_not_due later (omega (arith, frames)) version
+    never_due false calm frames version generation is = due_same journal later frames version (generation refl) ∙ sound.crowded (moved.frame is)
 
 -- ---- how long it takes to open
 

@@ -6,7 +6,7 @@ use Rattle.disk_trait.specs.Past.{Past, Image, ImagesSince, other}
 use Rattle.disk_trait.specs.Runs.{Extends}
 use Rattle.disk_trait.specs.declared.area.Area.{Area}
 use Rattle.disk_trait.proofs.Public.{images_split}
-use Rattle.bbs_codec.specs.Command.{spelled, FitsCommand}
+use Rattle.bbs_codec.specs.Command.{spelled, FitsCommand, IsReadIn}
 use Rattle.bbs_journal.specs.Areas.{IsArea}
 use Rattle.bbs_journal.specs.Beside.{Beside}
 use Rattle.bbs_journal.specs.Grammar.{heading}
@@ -50,7 +50,7 @@ module _ (base : Rows) (log : List Item) (marks : List ℕ) (since : ℕ) (area 
   rows = replay_log base log
 
   -- the rows that an image leads to
-  pub opens : (payloads : List (List ℕ)) (image : Image) (found : Rows) → IsArea front payloads (image area) → Yields known generation (image (other area)) → board_of area h.head payloads None ≡ Ok found → IsBoard found image
+  pub opens : (payloads : List (List ℕ)) (image : Image) (found : Rows) → IsArea front payloads (image area) → Yields known generation (image (other area)) → board_of version area h.head payloads None ≡ Ok found → IsBoard found image
   opens payloads image found is yields found_is = record {
     area = area;
     version = version;
@@ -82,12 +82,12 @@ module _ (base : Rows) (log : List Item) (marks : List ℕ) (since : ℕ) (area 
       }
 
   -- a doubt that may show is a command that is legal now
-  legal_now : (payload : List ℕ) (shows : MayShow base log payload) → IsLegal rows shows.command
+  legal_now : (payload : List ℕ) (shows : MayShow version base log payload) → IsLegal rows shows.command
   legal_now payload shows =
       subst (λ (r : Rows). IsLegal r shows.command) shows.rows_are (legal_at base log shows.place (Doubt shows.by shows.command) lawful shows.item)
 
   -- what a stop may bring back of a doubt
-  reached_doubt : (payload : List ℕ) (shows : MayShow base log payload) (from : ℕ) → from ≤ shows.place → IsReached base log from (rows_after rows shows.command)
+  reached_doubt : (payload : List ℕ) (shows : MayShow version base log payload) (from : ℕ) → from ≤ shows.place → IsReached base log from (rows_after rows shows.command)
   reached_doubt payload shows from le = inr (record {
     place = shows.place;
     low = le;
@@ -97,11 +97,11 @@ module _ (base : Rows) (log : List Item) (marks : List ℕ) (since : ℕ) (area 
     rows_are = ap (λ (r : Rows). rows_after r shows.command) (sym shows.rows_are);
   })
 
-  one_more : (command : Command) (payload : List ℕ) (image : Image) → FitsCommand command → IsLegal rows command → payload ≡ spelled command → IsArea front (h.payloads ++ payload ∷ []) (image area)
+  one_more : (command : Command) (payload : List ℕ) (image : Image) → FitsCommand command → IsReadIn version command → IsLegal rows command → payload ≡ spelled command → IsArea front (h.payloads ++ payload ∷ []) (image area)
       → Yields known generation (image (other area)) → IsBoard (rows_after rows command) image
-  one_more command payload image fit law is area_is yields =
+  one_more command payload image fit read law is area_is yields =
       opens (h.payloads ++ spelled command ∷ []) image (rows_after rows command) (subst (λ (l : List ℕ). IsArea front (h.payloads ++ l ∷ []) (image area)) is area_is) yields
-      (command_more area h.head h.payloads command rows fit law h.rows_are)
+      (command_more version area h.head h.payloads command rows fit read law h.rows_are)
 
   -- the area holds the payloads, or those and the one in doubt
   abbrev pub MayHold : List ℕ → Type 0
@@ -114,7 +114,7 @@ module _ (base : Rows) (log : List Item) (marks : List ℕ) (since : ℕ) (area 
 
   -- whatever of this a stop leaves, the log reaches it
   pub found : (image : Image) → MayHold (image area) → Beside h.next waiting known generation (image (other area)) → (from : ℕ) → from ≤ length log
-      → ((payload : List ℕ) (shows : MayShow base log payload) → from ≤ shows.place) → IsFound base log from image
+      → ((payload : List ℕ) (shows : MayShow version base log payload) → from ≤ shows.place) → IsFound base log from image
   found image (inl is) beside from le below = record {
     rows = rows;
     board = ⊎_elim (λ yields. opens h.payloads image rows is yields h.rows_are) (λ next. opens_next h.payloads image is next) (besides h.next waiting known generation (image (other area)) beside);
@@ -124,12 +124,12 @@ module _ (base : Rows) (log : List Item) (marks : List ℕ) (since : ℕ) (area 
       let shows = h.may_show one doubted in
       record {
         rows = rows_after rows shows.command;
-        board = one_more shows.command one image shows.fits (legal_now one shows) shows.payload_is is (frame_yields one doubted (image (other area)) beside);
+        board = one_more shows.command one image shows.fits shows.read (legal_now one shows) shows.payload_is is (frame_yields one doubted (image (other area)) beside);
         reached = reached_doubt one shows from (below one shows);
       }
 
   -- the new command may be found, and once it is acknowledged it is
-  module _ (by : ℕ) (c : Command) (fits : FitsCommand c) (legal : IsLegal rows c) where
+  module _ (by : ℕ) (c : Command) (fits : FitsCommand c) (read : IsReadIn version c) (legal : IsLegal rows c) where
     reached_new : (done : Bool) (from : ℕ) → from ≤ length log → IsReached base (log ++ item_of done by c ∷ []) from (rows_after rows c)
     reached_new true from le =
         subst (λ (r : Rows). IsReached base (log ++ Done by c ∷ []) from r) (replay_more base log (Done by c))
@@ -145,12 +145,12 @@ module _ (base : Rows) (log : List Item) (marks : List ℕ) (since : ℕ) (area 
 
     pub found_new : (done : Bool) (image : Image) → IsArea front (h.payloads ++ spelled c ∷ []) (image area) → Yields known generation (image (other area)) → (from : ℕ) → from ≤ length log
         → IsFound base (log ++ item_of done by c ∷ []) from image
-    found_new done image is yields from le = record { rows = rows_after rows c; board = one_more c (spelled c) image fits legal refl is yields; reached = reached_new done from le }
+    found_new done image is yields from le = record { rows = rows_after rows c; board = one_more c (spelled c) image fits read legal refl is yields; reached = reached_new done from le }
 
     pub found_done : (image : Image) → IsArea front (h.payloads ++ spelled c ∷ []) (image area) → Yields known generation (image (other area)) → IsFound base (log ++ Done by c ∷ []) (length log + 1) image
     found_done image is yields = record {
       rows = rows_after rows c;
-      board = one_more c (spelled c) image fits legal refl is yields;
+      board = one_more c (spelled c) image fits read legal refl is yields;
       reached = subst (λ (r : Rows). IsReached base (log ++ Done by c ∷ []) (length log + 1) r) (replay_more base log (Done by c))
           (reached_end base (log ++ Done by c ∷ []) (length log + 1) (omega (arith, length-append log (Done by c ∷ []))));
     }
@@ -161,9 +161,9 @@ rising_later : (low : ℕ) (marks : List ℕ) (high later : ℕ) → RiseBetween
 rising_later low [] high later rising le = omega (arith, rising, le)
 rising_later low (m ∷ marks) high later rising le = (rising.0, rising_later m marks high later rising.1 le)
 
-module _ (base : Rows) (log longer : List Item) (marks : List ℕ) (since : ℕ) (p q : Past) (kept : Kept base log marks since p) (extends : Extends p q)
+module _ (version : ℕ) (base : Rows) (log longer : List Item) (marks : List ℕ) (since : ℕ) (p q : Past) (kept : Kept base log marks since p) (extends : Extends p q)
     (lift : (from : ℕ) (image : Image) → IsFound base log from image → IsFound base longer from image)
-    (window : (image : Image) → ImagesSince q p.clock image → (from : ℕ) → from ≤ length log → ((payload : List ℕ) (shows : MayShow base log payload) → from ≤ shows.place) → IsFound base longer from image) where
+    (window : (image : Image) → ImagesSince q p.clock image → (from : ℕ) → from ≤ length log → ((payload : List ℕ) (shows : MayShow version base log payload) → from ≤ shows.place) → IsFound base longer from image) where
   -- an item that was acknowledged before stays so
   still_acknowledged : (place mark caller : ℕ) (command : Command) → slice_get log place ≡ Some (Done caller command) → place < length log → slice_get marks place ≡ Some mark
       → (image : Image) → ImagesSince q mark image → IsFound base longer (place + 1) image
@@ -179,15 +179,15 @@ module _ (base : Rows) (log longer : List Item) (marks : List ℕ) (since : ℕ)
       (images_split p q since image extends images)
 
 -- with the same log
-pub kept_on : (base : Rows) (log : List Item) (marks : List ℕ) (since : ℕ) (p q : Past) → Kept base log marks since p → Extends p q
-    → ((image : Image) → ImagesSince q p.clock image → (from : ℕ) → from ≤ length log → ((payload : List ℕ) (shows : MayShow base log payload) → from ≤ shows.place) → IsFound base log from image)
+pub kept_on : (version : ℕ) (base : Rows) (log : List Item) (marks : List ℕ) (since : ℕ) (p q : Past) → Kept base log marks since p → Extends p q
+    → ((image : Image) → ImagesSince q p.clock image → (from : ℕ) → from ≤ length log → ((payload : List ℕ) (shows : MayShow version base log payload) → from ≤ shows.place) → IsFound base log from image)
     → Kept base log marks since q
-kept_on base log marks since p q kept extends window = record {
+kept_on version base log marks since p q kept extends window = record {
   count = kept.count;
   rising = rising_later since marks p.clock q.clock kept.rising extends.later;
-  found = still_found base log log marks since p q kept extends (λ from image found. found) window;
+  found = still_found version base log log marks since p q kept extends (λ from image found. found) window;
   acknowledged = λ place mark by command item marked image images.
-      still_acknowledged base log log marks since p q kept extends (λ from image found. found) window place mark by command item (slice_get_within log place (Done by command) item) marked image images;
+      still_acknowledged version base log log marks since p q kept extends (λ from image found. found) window place mark by command item (slice_get_within log place (Done by command) item) marked image images;
 }
 
 -- with one item more
@@ -220,15 +220,15 @@ module _ (base : Rows) (log : List Item) (marks : List ℕ) (since : ℕ) (p q :
   }
 
 -- after some calls
-pub kept_more : (base : Rows) (log : List Item) (marks : List ℕ) (since : ℕ) (p q : Past) → Kept base log marks since p → Extends p q → (item : Item)
-    → ((image : Image) → ImagesSince q p.clock image → (from : ℕ) → from ≤ length log → ((payload : List ℕ) (shows : MayShow base log payload) → from ≤ shows.place) → IsFound base (log ++ item ∷ []) from image)
+pub kept_more : (version : ℕ) (base : Rows) (log : List Item) (marks : List ℕ) (since : ℕ) (p q : Past) → Kept base log marks since p → Extends p q → (item : Item)
+    → ((image : Image) → ImagesSince q p.clock image → (from : ℕ) → from ≤ length log → ((payload : List ℕ) (shows : MayShow version base log payload) → from ≤ shows.place) → IsFound base (log ++ item ∷ []) from image)
     → ((caller : ℕ) (command : Command) → item ≡ Done caller command → (image : Image) → ImagesSince q q.clock image → IsFound base (log ++ item ∷ []) (length log + 1) image)
     → Kept base (log ++ item ∷ []) (marks ++ q.clock ∷ []) since q
-kept_more base log marks since p q kept extends item window new =
+kept_more version base log marks since p q kept extends item window new =
     let lift = λ (from : ℕ) (i : Image) (found : IsFound base log from i). found_more base log (item ∷ []) from i found in
     kept_with base log marks since p q kept extends.later item
-    (still_found base log (log ++ item ∷ []) marks since p q kept extends lift window)
-    (still_acknowledged base log (log ++ item ∷ []) marks since p q kept extends lift window) new
+    (still_found version base log (log ++ item ∷ []) marks since p q kept extends lift window)
+    (still_acknowledged version base log (log ++ item ∷ []) marks since p q kept extends lift window) new
 
 -- and without a call, where it is a doubt
 pub kept_doubted : (base : Rows) (log : List Item) (marks : List ℕ) (since : ℕ) (p : Past) → Kept base log marks since p → (by : ℕ) (c : Command) → Kept base (log ++ Doubt by c ∷ []) (marks ++ p.clock ∷ []) since p

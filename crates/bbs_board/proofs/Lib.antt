@@ -1,3 +1,4 @@
+pub mod Settling
 pub mod Frames
 pub mod Loaded
 pub mod Logs

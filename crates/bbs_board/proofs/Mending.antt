@@ -8,7 +8,7 @@ use Rattle.disk_trait.specs.Runs.{Extends}
 use Rattle.disk_trait.specs.Steps.{Goes}
 use Rattle.disk_trait.specs.declared.area.Area.{Area}
 use Rattle.disk_trait.proofs.Public.{runs_then, goes_then, goes_back, goes_weaker, goes_same, extends_same, extends_then}
-use Rattle.bbs_codec.specs.Command.{spelled}
+use Rattle.bbs_codec.specs.Command.{spelled, IsReadIn}
 use Rattle.bbs_journal.specs.Areas.{BeforeOrAfter, Stands}
 use Rattle.bbs_journal.specs.Calls.{Appended, AddsFrame, Closes, GrowsBy, Settles, gate_mended, left_of}
 use Rattle.bbs_journal.specs.Switching.{ClosesHeader}
@@ -96,7 +96,7 @@ module _ {D : Type 0} (told : D → Option Past) where
 
   -- the mend before it failed
   pub put_unmended : (v0 v1 : JournalView D) (payload : List ℕ) (mark : ℕ) → ((q : Past) → told v1.disk ≡ Some q → q.clock ≡ mark) → StillStands told v0 v1 → PutsItem told false payload mark v0 v1
-  put_unmended v0 v1 payload mark timed still base log marks since lawful stands by c fits legal is =
+  put_unmended v0 v1 payload mark timed still base log marks since lawful stands by c fits read legal is =
       let s = still base log marks since lawful stands in
       record {
         extends = s.extends;
@@ -108,18 +108,18 @@ module _ {D : Type 0} (told : D → Option Past) where
   -- an append where nothing waits
   pub put_added : (v0 v1 : JournalView D) (ok : Bool) (payload : List ℕ) (mark : ℕ) → ((q : Past) → told v1.disk ≡ Some q → q.clock ≡ mark) → v0.waiting ≡ Nothing → GrowsBy ok (length payload) v0 v1
       → Goes (told v0.disk) (told v1.disk) (AddsFrame v0.area ok (is_waiting v1.waiting) payload v0.end) → PutsItem told ok payload mark v0 v1
-  put_added v0 v1 ok payload mark timed calm grows adds base log marks since lawful stands by c fits legal is =
+  put_added v0 v1 ok payload mark timed calm grows adds base log marks since lawful stands by c fits read legal is =
       let longer : List Item = log ++ item_of ok by c ∷ [] in
       let after : Bool = is_waiting v1.waiting in
       let both = by_step (told v0.disk) (told v1.disk) (AddsFrame v0.area ok after payload v0.end)
-      (Holds base log marks since v0.area v0.version v0.generation v0.end v0.frames Nothing v0.gate)
+      (λ p. Holds base log marks since v0.area v0.version v0.generation v0.end v0.frames Nothing v0.gate p × IsReadIn v0.version c)
       (Holds base longer (marks ++ mark ∷ []) since v0.area v0.version v0.generation (end_of ok v0.end (spelled c)) (frames_of ok v0.frames) (frame_left after) v0.gate)
       (λ p q j a h.
-      let step = holds_added base log marks since v0.area v0.version v0.generation v0.end v0.frames v0.gate p q h lawful by c fits legal ok after (λ t. ap is_waiting (grows.waits t))
+      let step = holds_added base log marks since v0.area v0.version v0.generation v0.end v0.frames v0.gate p q h.0 lawful by c fits h.1 legal ok after (λ t. ap is_waiting (grows.waits t))
       (subst (λ (l : List ℕ). AddsFrame v0.area ok after l v0.end p q) is a) in
       (step.0, subst (λ (m : ℕ). Holds base longer (marks ++ m ∷ []) since v0.area v0.version v0.generation (end_of ok v0.end (spelled c)) (frames_of ok v0.frames) (frame_left after) v0.gate q) (timed q j) step.1))
       adds
-      (subst (λ (w : Waiting). ForSome (told v0.disk) (Holds base log marks since v0.area v0.version v0.generation v0.end v0.frames w v0.gate)) calm stands) in
+      (λ p i. (subst (λ (w : Waiting). Holds base log marks since v0.area v0.version v0.generation v0.end v0.frames w v0.gate p) calm (stands p i), read p i)) in
       record {
         extends = both.0;
         stands = standing base longer (marks ++ mark ∷ []) since v1 v0.area v0.version v0.generation (end_of ok v0.end (spelled c)) (frames_of ok v0.frames) (frame_left after) v0.gate
@@ -127,10 +127,10 @@ module _ {D : Type 0} (told : D → Option Past) where
       }
 
   -- behind a mend
-  pub put_then : (v0 v1 v2 : JournalView D) (ok : Bool) (payload : List ℕ) (mark : ℕ) → StillStands told v0 v1 → PutsItem told ok payload mark v1 v2 → PutsItem told ok payload mark v0 v2
-  put_then v0 v1 v2 ok payload mark still puts base log marks since lawful stands by c fits legal is =
+  pub put_then : (v0 v1 v2 : JournalView D) (ok : Bool) (payload : List ℕ) (mark : ℕ) → v1.version ≡ v0.version → StillStands told v0 v1 → PutsItem told ok payload mark v1 v2 → PutsItem told ok payload mark v0 v2
+  put_then v0 v1 v2 ok payload mark stays still puts base log marks since lawful stands by c fits read legal is =
       let first = still base log marks since lawful stands in
-      let second = puts base log marks since lawful first.stands by c fits legal is in
+      let second = puts base log marks since lawful first.stands by c fits (λ q j. let back = goes_back (told v0.disk) (told v1.disk) Extends first.extends q j in subst (λ (n : ℕ). IsReadIn n c) (sym stays) (read back.0 back.1)) legal is in
       record {
         extends = goes_then (told v0.disk) (told v1.disk) (told v2.disk) Extends Extends Extends (λ p q r i j k a b. extends_then p q r a b) first.extends second.extends;
         stands = second.stands;

@@ -1,12 +1,13 @@
 -- How a board stands after a switch to the other area, and what a stop leaves of it.
-use Rattle.std.proofs.Common.{◌≡◌, ◌⊎◌, inl, inr, ⊎_elim, ℕ, ◌+◌, ◌<◌, ◌≤◌, ◌^◌, Bool, true, false, List, [], ◌∷◌, length, None, Result, Ok, Err, refl, sym, ap, subst, arith}
+use Rattle.std.proofs.Common.{◌≡◌, ◌⊎◌, inl, inr, ⊎_elim, ℕ, ◌+◌, ◌<◌, ◌≤◌, ◌^◌, Bool, true, false, ◌||◌, ◌==◌, nat_lt, List, [], ◌∷◌, length, None, Result, refl, sym, ap, subst, arith, if◌then◌else◌}
+use Rattle.std.proofs.lemmas.Bool.Decides.{nat_tests}
 use Rattle.wire_fields.specs.Reading.{◌>>=◌}
 use Rattle.wire_fields.proofs.Public.{bind_ok}
 use Rattle.disk_trait.specs.Held.{Has, Leaves}
 use Rattle.disk_trait.specs.Past.{Past, Image, Images, ImagesSince, now, other, content}
 use Rattle.disk_trait.specs.declared.area.Area.{Area}
-use Rattle.head_codec.specs.Head.{head_reading, head_spelled, FitsHead}
-use Rattle.bbs_codec.specs.declared.fault.CodecFault.{CodecFault}
+use Rattle.head_codec.specs.Head.{head_spelled, FitsHead}
+use Rattle.bbs_journal.specs.declared.load_fault.LoadFault.{LoadFault}
 use Rattle.head_codec.proofs.Public.{head_again, head_next}
 use Rattle.bbs_journal.specs.Areas.{Ready}
 use Rattle.bbs_journal.specs.Beside.{Beside}
@@ -25,18 +26,15 @@ use Rattle.bbs_model.specs.declared.item.Item.{Item}
 use Rattle.bbs_model.specs.declared.rows.Rows.{Rows}
 use Rattle.bbs_board.specs.Checkpoint.{Compacts}
 use Rattle.bbs_board.specs.Kept.{IsFound, Kept}
-use Rattle.bbs_board.specs.Opening.{in_area, rows_in, followed}
+use Rattle.bbs_board.specs.Opening.{rows_in, followed}
 use Rattle.bbs_board.specs.View.{Holds, LeadsOn}
 use Rattle.bbs_board.specs.Written.{Reading, OpensTo, LeadsTo, headed_instead, compacted}
 use Rattle.bbs_board.proofs.Frames.{next-followed}
+use Rattle.bbs_board.proofs.Settling.{next-settled, rows_read, rows_newest, few_version}
 use Rattle.bbs_board.proofs.Keeping.{kept_on}
 use Rattle.bbs_board.proofs.Logs.{reached_end}
 use Rattle.bbs_board.proofs.Steps.{ready_where}
 use Rattle.bbs_board.proofs.Storing.{holds_images}
-
-in_area_ok : (area : Area) (r : Result Rows CodecFault) (rows : Rows) → in_area area r ≡ Ok rows → r ≡ Ok rows
-in_area_ok area (Ok x) rows is = cc
-in_area_ok area (Err fault) rows is = cc
 
 -- ---- the head of the rows is that of a next area
 
@@ -47,27 +45,35 @@ module _ (base : Rows) (log : List Item) (marks : List ℕ) (since : ℕ) (area 
   -- each generation goes with a transition at least
   pub not_above : generation + length h.payloads ≤ rows.next + version
   not_above =
-      let start = bind_ok (rows_in area h.head) (λ start. followed area None start (23 + length h.head) h.payloads) rows h.rows_are in
-      let begins = head_next h.head start.0 (in_area_ok area (head_reading h.head) start.0 start.1) in
-      let grown = next-followed area start.0 rows (23 + length h.head) h.payloads start.2 in
+      let start = bind_ok (rows_in version area h.head) (λ start. followed version area None start (23 + length h.head) h.payloads) rows h.rows_are in
+      let read = rows_read version area h.head start.0 start.1 in
+      let begins = head_next version h.head read.0 read.1 in
+      let grown = next-followed version area start.0 rows (23 + length h.head) h.payloads start.2 in
       let low = h.goes_with.not_ahead begins.0 in
-      omega (arith, low, begins.1, grown)
+      omega (arith, low, begins.1, grown, next-settled version read.0, ap (λ (r : Rows). r.next) read.2)
 
-  pub leads : 0 < frames → FitsHead rows → length (head_spelled rows) < 2 ^ 32 → LeadsOn area generation (head_spelled rows) rows
-  leads some fits small =
-      let again = head_again rows fits in
-      let begins = head_next (head_spelled rows) rows again in
+  -- a further generation goes with the rows, as there is a frame or the version rises
+  next_fits : (0 < frames) ⊎ (version ≡ 1) → generation + 1 ≤ rows.next + 2
+  next_fits (inl some) =
       let count = h.count in
-      let first = h.goes_with.version_is in
+      omega (arith, not_above, few_version version h.goes_with.version_is, count, some)
+  next_fits (inr old) = omega (arith, not_above, old)
+
+  pub leads : (0 < frames) ⊎ (version ≡ 1) → FitsHead newest rows → length (head_spelled newest rows) < 2 ^ 32 → LeadsOn area generation (head_spelled newest rows) rows
+  leads some fits small =
+      let again = head_again newest rows fits in
+      let begins = head_next newest (head_spelled newest rows) rows again in
+      let fit = next_fits some in
       record {
         goes_with = record {
-          version_is = refl;
+          version_is = inr refl;
           above = omega arith;
-          below = omega (arith, not_above, first, fits.valid.next, count, some);
+          below = omega (arith, fit, fits.valid.next);
           fits = small;
-          not_ahead = λ long. omega (arith, not_above, first, begins.1, count, some);
+          not_ahead = λ long. omega (arith, fit, begins.1);
         };
-        rows_are = ap (λ (r : Result Rows CodecFault). in_area (other area) r >>= λ start. followed (other area) None start (23 + length (head_spelled rows)) []) again;
+        rows_are = ap (λ (r : Result Rows LoadFault). r >>= λ start. followed newest (other area) None start (23 + length (head_spelled newest rows)) [])
+            (rows_newest (other area) (head_spelled newest rows) rows again);
       }
 
 -- ---- a switch to it
@@ -91,7 +97,7 @@ module _ (base : Rows) (log : List Item) (marks : List ℕ) (since : ℕ) (area 
 
   module _ (ok : Bool) (waiting : Waiting) (left : OtherGate) (s : Switches ok area version generation h.head h.payloads waiting left new p q) where
     switch_kept : Kept base log marks since q
-    switch_kept = kept_on base log marks since p q h.kept s.extends (λ image images from le below. switch_found from le image (s.each image images))
+    switch_kept = kept_on version base log marks since p q h.kept s.extends (λ image images from le below. switch_found from le image (s.each image images))
 
     pub holds_there : ok ≡ true → Holds base log marks since (other area) newest (generation + 1) (23 + length new) 0 Nothing Loose q
     holds_there is =
@@ -137,14 +143,18 @@ module _ (base : Rows) (log : List Item) (marks : List ℕ) (since : ℕ) (area 
 
 -- ---- what a stop leaves, to the byte
 
-instead_is : (rows : Rows) (r : Reading) (payloads : List (List ℕ)) → 0 < length payloads
-    → headed_instead rows r payloads ≡ record { area = other r.area; version = newest; generation = r.generation + 1; head = head_spelled rows; payloads = [] }
-instead_is rows r [] some = absurd (omega (arith, some))
-instead_is rows r (payload ∷ payloads) some = refl
+some_compact : (frames version : ℕ) → (0 < frames) ⊎ (version ≡ 1) → nat_lt 0 frames || version == 1 ≡ true
+some_compact frames version (inl some) = grind (arith, nat_tests)
+some_compact frames version (inr old) = grind (arith, nat_tests)
 
-none_instead : (rows : Rows) (r : Reading) (payloads : List (List ℕ)) → length payloads ≡ 0 → headed_instead rows r payloads ≡ r
-none_instead rows r [] none = refl
-none_instead rows r (payload ∷ payloads) none = absurd (omega (arith, none))
+none_compact : (frames version : ℕ) → frames ≡ 0 → (version ≡ 1 → ⊥) → nat_lt 0 frames || version == 1 ≡ false
+none_compact frames version none new = grind (arith, nat_tests)
+
+instead_is : (rows : Rows) (r : Reading) → (0 < length r.payloads) ⊎ (r.version ≡ 1) → compacted rows r ≡ headed_instead rows r
+instead_is rows r some = ap (λ (b : Bool). if b then headed_instead rows r else r) (some_compact (length r.payloads) r.version some)
+
+none_instead : (rows : Rows) (r : Reading) → length r.payloads ≡ 0 → (r.version ≡ 1 → ⊥) → compacted rows r ≡ r
+none_instead rows r none new = ap (λ (b : Bool). if b then headed_instead rows r else r) (none_compact (length r.payloads) r.version none new)
 
 module _ (base : Rows) (log : List Item) (marks : List ℕ) (since : ℕ) (area : Area) (version generation end frames : ℕ) (known : OtherGate) (p : Past) (h : Holds base log marks since area version generation end frames Nothing known p) where
   abbrev reading : Reading
@@ -168,11 +178,11 @@ module _ (base : Rows) (log : List Item) (marks : List ℕ) (since : ℕ) (area 
     done = λ never. absurd (cc (never));
   }
 
-  -- and one of an area without frames
-  pub compacts_none : frames ≡ 0 → Compacts true (replay_log base log) p p
-  compacts_none none =
+  -- and one of an area of the newest version without frames
+  pub compacts_none : frames ≡ 0 → (version ≡ 1 → ⊥) → Compacts true (replay_log base log) p p
+  compacts_none none new =
       let count = h.count in
-      let same : compacted (replay_log base log) reading ≡ reading = none_instead (replay_log base log) reading h.payloads (omega (arith, count, none)) in
+      let same : compacted (replay_log base log) reading ≡ reading = none_instead (replay_log base log) reading (omega (arith, count, none)) new in
       record {
         before = reading;
         reads = reads_now (content p) (p.possible p.clock);
@@ -185,11 +195,11 @@ module _ (base : Rows) (log : List Item) (marks : List ℕ) (since : ℕ) (area 
       }
 
   -- and one that was tried
-  pub compacts_by : (q : Past) (ok : Bool) (waiting : Waiting) (left : OtherGate) → 0 < frames → LeadsOn area generation (head_spelled (replay_log base log)) (replay_log base log)
-      → Switches ok area version generation h.head h.payloads waiting left (head_spelled (replay_log base log)) p q → Compacts ok (replay_log base log) p q
+  pub compacts_by : (q : Past) (ok : Bool) (waiting : Waiting) (left : OtherGate) → (0 < frames) ⊎ (version ≡ 1) → LeadsOn area generation (head_spelled newest (replay_log base log)) (replay_log base log)
+      → Switches ok area version generation h.head h.payloads waiting left (head_spelled newest (replay_log base log)) p q → Compacts ok (replay_log base log) p q
   compacts_by q ok waiting left some lead s =
       let count = h.count in
-      let same = instead_is (replay_log base log) reading h.payloads (omega (arith, count, some)) in
+      let same = instead_is (replay_log base log) reading (⊎_elim (λ frame. inl (omega (arith, count, frame))) (λ old. inr old) some) in
       let leads_there = subst (λ (r : Reading). LeadsTo r (replay_log base log)) (sym same) lead.rows_are in
       record {
         before = reading;

@@ -60,14 +60,14 @@ ready_area head payloads end held ready bytes leaves = record { frames = ready.f
 
 module _ (base : Rows) (log : List Item) (marks : List ℕ) (since : ℕ) (area : Area) (version generation end frames : ℕ) (known : OtherGate) (p q : Past) (h : Holds base log marks since area version generation end frames Frame known p) (lawful : IsLawful base log) where
   module _ (one : List ℕ) (doubted : h.doubt ≡ Some one) (runs : Runs area (BeforeOrAfter (h.gate ∷ heading version generation h.head) h.payloads one) p q) where
-    frame_window : (image : Image) → ImagesSince q p.clock image → (from : ℕ) → from ≤ length log → ((payload : List ℕ) (shows : MayShow base log payload) → from ≤ shows.place) → IsFound base log from image
+    frame_window : (image : Image) → ImagesSince q p.clock image → (from : ℕ) → from ≤ length log → ((payload : List ℕ) (shows : MayShow version base log payload) → from ≤ shows.place) → IsFound base log from image
     frame_window image images from le below =
         let both = runs_image (BeforeOrAfter (h.gate ∷ heading version generation h.head) h.payloads one) area p q image runs images in
         found base log marks since area version generation end frames Frame known p h lawful image
         (⊎_elim (λ is. inl is) (λ more. inr (one, doubted, more)) both.0) (h.beside.leaves (image (other area)) both.1) from le below
 
     frame_kept : Kept base log marks since q
-    frame_kept = kept_on base log marks since p q h.kept runs.extends frame_window
+    frame_kept = kept_on version base log marks since p q h.kept runs.extends frame_window
 
     frame_beside : Has (Beside h.next Frame known generation) (now q (other area))
     frame_beside = subst (Has (Beside h.next Frame known generation)) (sym (runs_there (BeforeOrAfter (h.gate ∷ heading version generation h.head) h.payloads one) area p q runs)) h.beside
@@ -121,7 +121,7 @@ module _ (base : Rows) (log : List Item) (marks : List ℕ) (since : ℕ) (area 
   header_ready = ready_where h.doubt (h.gate ∷ heading version generation h.head) h.payloads end (now p area) h.waits_is h.stands
 
   module _ (runs : Runs (other area) (Beside h.next Header known generation) p q) where
-    header_window : (image : Image) → ImagesSince q p.clock image → (from : ℕ) → from ≤ length log → ((payload : List ℕ) (shows : MayShow base log payload) → from ≤ shows.place) → IsFound base log from image
+    header_window : (image : Image) → ImagesSince q p.clock image → (from : ℕ) → from ≤ length log → ((payload : List ℕ) (shows : MayShow version base log payload) → from ≤ shows.place) → IsFound base log from image
     header_window image images from le below =
         let both = runs_image (Beside h.next Header known generation) (other area) p q image runs images in
         let own : Leaves (now p area) (image area) = subst (λ (x : Area). Leaves (now p x) (image x)) (other_other area) both.1 in
@@ -148,7 +148,7 @@ module _ (base : Rows) (log : List Item) (marks : List ℕ) (since : ℕ) (area 
       beside = done refl;
       leads_on = λ size never. absurd (cc (never));
       rows_are = h.rows_are;
-      kept = kept_on base log marks since p q h.kept runs.extends header_window;
+      kept = kept_on version base log marks since p q h.kept runs.extends header_window;
     }
     header_mended false done failed = record {
       gate = h.gate;
@@ -165,7 +165,7 @@ module _ (base : Rows) (log : List Item) (marks : List ℕ) (since : ℕ) (area 
       beside = failed refl;
       leads_on = h.leads_on;
       rows_are = h.rows_are;
-      kept = kept_on base log marks since p q h.kept runs.extends header_window;
+      kept = kept_on version base log marks since p q h.kept runs.extends header_window;
     }
 
   pub holds_header : (ok : Bool) → ClosesHeader area known generation ok p q → Extends p q × Holds base log marks since area version generation end frames (left_waiting ok Header) (left_known ok known) q

@@ -1,5 +1,5 @@
 -- What a stop leaves of a board while a command is stored where nothing waits, and after it.
-use Rattle.std.proofs.Common.{◌≡◌, ◌⊎◌, inl, inr, ℕ, Bool, false, List, [], ◌∷◌, ◌++◌, length, Option, Some, None, Ok, refl, sym, ap, subst, ◌∙◌, arith}
+use Rattle.std.proofs.Common.{◌≡◌, ◌⊎◌, inl, inr, ℕ, Bool, false, ◌||◌, ◌==◌, nat_le, List, [], ◌∷◌, ◌++◌, Option, Some, None, Ok, refl, sym, ap, subst, ◌∙◌, arith}
 use Rattle.std.specs.Option.{ForSome}
 use Rattle.disk_trait.specs.Held.{Has, Leaves}
 use Rattle.disk_trait.specs.Past.{Past, Image, now, other, content, Images}
@@ -7,7 +7,7 @@ use Rattle.disk_trait.specs.Steps.{Goes}
 use Rattle.disk_trait.specs.Runs.{Extends}
 use Rattle.disk_trait.proofs.Public.{extends_same, goes_same, has_weaker}
 use Rattle.disk_trait.specs.declared.area.Area.{Area}
-use Rattle.bbs_codec.specs.Command.{spelled, FitsCommand}
+use Rattle.bbs_codec.specs.Command.{spelled, FitsCommand, IsReadIn}
 use Rattle.bbs_journal.specs.Areas.{Ready}
 use Rattle.bbs_journal.specs.Beside.{Beside}
 use Rattle.bbs_journal.specs.Calls.{Appends, AddsFrame}
@@ -32,7 +32,7 @@ use Rattle.bbs_board.specs.declared.kept_in.KeptIn.{KeptIn}
 use Rattle.bbs_board.specs.Laws.{StopsLeaveBoards}
 use Rattle.bbs_board.specs.Stops.{IsOnTheWay, Stores}
 use Rattle.bbs_board.specs.View.{Holds}
-use Rattle.bbs_board.specs.Written.{Reading, OpensTo, ReadsAs, LeadsTo, with_room, stored_behind}
+use Rattle.bbs_board.specs.Written.{Reading, OpensTo, ReadsAs, LeadsTo, is_due, with_room, stored_behind}
 use Rattle.bbs_board.proofs.Adds.{AddsBehind, same_reading}
 use Rattle.bbs_board.proofs.Beside.{calm_nothing, calm_yields}
 use Rattle.bbs_board.proofs.Steps.{ready_where}
@@ -63,9 +63,9 @@ module _ (base : Rows) (log : List Item) (marks : List ℕ) (since : ℕ) (area 
         yields = gives_way.leaves (image (other area)) (leaves (other area));
       })
 
-  module _ (c : Command) (fits : FitsCommand c) (legal : IsLegal (replay_log base log) c) where
-    after_is : board_of area h.head (h.payloads ++ spelled c ∷ []) None ≡ Ok (rows_after (replay_log base log) c)
-    after_is = command_more area h.head h.payloads c (replay_log base log) fits legal h.rows_are
+  module _ (c : Command) (fits : FitsCommand c) (read : IsReadIn version c) (legal : IsLegal (replay_log base log) c) where
+    after_is : board_of version area h.head (h.payloads ++ spelled c ∷ []) None ≡ Ok (rows_after (replay_log base log) c)
+    after_is = command_more version area h.head h.payloads c (replay_log base log) fits read legal h.rows_are
 
     pub adds_behind : (q : Past) (ok after : Bool) → AddsFrame area ok after (spelled c) end p q → AddsBehind ok (replay_log base log) c p q
     adds_behind q ok after adds =
@@ -95,10 +95,10 @@ module _ (base : Rows) (log : List Item) (marks : List ℕ) (since : ℕ) (area 
     done = λ never. absurd (cc (never));
   }
 
-  -- whatever is read then has as many payloads as there are frames
-  pub reads_count : (r : Reading) → ReadsAs r p → length r.payloads ≡ frames
-  reads_count r reads =
-      ap (λ (x : Reading). length x.payloads) (same_reading (content p) r reading reads (holds_images (content p) (p.possible p.clock))) ∙ sym h.count
+  -- whatever is read then has as many payloads as there are frames, and the version
+  pub reads_due : (r : Reading) → ReadsAs r p → is_due r ≡ (nat_le 4096 frames || version == 1)
+  reads_due r reads =
+      ap is_due (same_reading (content p) r reading reads (holds_images (content p) (p.possible p.clock))) ∙ ap (λ (n : ℕ). nat_le 4096 n || version == 1) (sym h.count)
 
 -- ---- the same, where the disk may tell nothing
 

@@ -37,5 +37,5 @@ pub record Passes (waits : Bool) (verdict : Verdict) (stored : Bool) (rows : Row
 
 -- how a call used its disk: how many device calls it made, and whether the disk's count of faults has risen
 pub record UsesDisk {D : Type 0} (moment fault_count : D → ℕ) (done failed : Bool) (old new : View D) : Type 0 where
-  pub calls : StoreTakes done old.waits old.frames (moment old.disk) (moment new.disk)
+  pub calls : StoreTakes done old.waits old.version old.frames (moment old.disk) (moment new.disk)
   pub faults : CountsFaults failed old.waits new.waits (fault_count old.disk) (fault_count new.disk)

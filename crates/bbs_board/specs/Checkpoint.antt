@@ -1,10 +1,12 @@
--- What a checkpoint does: the rows stand as a head in the other area, in place of the frames that led to them.
-use Rattle.std.specs.Prelude.{◌≡◌, ◌⊎◌, ℕ, ◌+◌, ◌<◌, ◌≤◌, Bool, true, false, List, Option, Result, Ok, Err, if◌then◌else◌}
+-- What a checkpoint does: the rows stand as a head in the other area, in place of the frames that led to them, and in
+-- the newest version.
+use Rattle.std.specs.Prelude.{◌≡◌, ◌⊎◌, ℕ, ◌+◌, ◌-◌, ◌^◌, ◌<◌, ◌≤◌, ◌&&◌, ◌||◌, ◌==◌, nat_lt, Bool, true, false, List, Option, Result, Ok, Err, if◌then◌else◌}
 use Rattle.disk_trait.specs.Past.{Past, Image, Images, ImagesSince}
 use Rattle.disk_trait.specs.Runs.{Extends}
 use Rattle.disk_trait.specs.Steps.{Goes}
 use Rattle.head_codec.specs.Head.{head_spelled, FitsHead}
 use Rattle.bbs_journal.specs.Calls.{mend_calls}
+use Rattle.bbs_journal.specs.Header.{newest}
 use Rattle.bbs_journal.specs.View.{JournalView, is_waiting, frame_waits}
 use Rattle.bbs_model.specs.Replay.{replay_log, IsLawful}
 use Rattle.bbs_model.specs.declared.item.Item.{Item}
@@ -34,6 +36,10 @@ pub record Checkpoints (ok waits : Bool) (rows : Rows) (p q : Past) : Type 0 whe
 abbrev pub EndsCheckpoint : ℕ → Result (Unit {0}) CallFault → Type 0
 EndsCheckpoint place end = (end ≡ Ok tt) ⊎ ((end ≡ Err (fault.Disk place)) ⊎ (end ≡ Err fault.OutOfMemory))
 
+-- it makes away with something, frames or an old version, and there is a next generation
+abbrev pub has_to_compact : {D : Type 0} → JournalView D → Bool
+has_to_compact j = (nat_lt 0 j.frames || j.version == 1) && nat_lt j.generation (2 ^ 64 - 1)
+
 -- the disk failed in it
 abbrev pub is_checkpoint_fault : Result (Unit {0}) CallFault → Bool
 is_checkpoint_fault (Ok done) = false
@@ -44,14 +50,16 @@ is_checkpoint_fault (Err fault.OutOfMemory) = false
 abbrev pub MovesOn : {D : Type 0} → (D → Option Past) → Bool → List ℕ → JournalView D → JournalView D → Type 0
 MovesOn told ok head old new =
     (base : Rows) (log : List Item) (marks : List ℕ) (since : ℕ) → IsLawful base log → StandsOn told base log marks since old
-    → 0 < old.frames → FitsHead (replay_log base log) → head ≡ head_spelled (replay_log base log)
+    → (0 < old.frames) ⊎ (old.version ≡ 1) → FitsHead newest (replay_log base log) → head ≡ head_spelled newest (replay_log base log)
     → StandsWith told base log marks since old new
     × (is_waiting old.waiting ≡ false → Goes (told old.disk) (told new.disk) (Compacts ok (replay_log base log)))
 
--- what a journal knows by itself after that: it has no defect; where it succeeded it has no frames, and nothing waits;
--- where it failed it has as many of the same generation, and the gate behind them waits only where it did before
+-- what a journal knows by itself after that: it has no defect; where it succeeded it has the newest version and no
+-- frames, and nothing waits; where it failed it has its version, as many frames and the same generation, and the gate
+-- behind them waits only where it did before
 pub record MovedOn {D : Type 0} (ok : Bool) (old new : JournalView D) : Type 0 where
   pub whole : new.broken ≡ false
+  pub version : new.version ≡ (if ok then newest else old.version)
   pub frames : new.frames ≡ (if ok then 0 else old.frames)
   pub waits : ok ≡ true → is_waiting new.waiting ≡ false
   pub frame : frame_waits new.waiting ≡ true → frame_waits old.waiting ≡ true
@@ -63,10 +71,16 @@ pub record SwitchTakes (ok waits : Bool) (before after : ℕ) : Type 0 where
   pub done : ok ≡ true → (after ≡ before + mend_calls waits + 6) ⊎ (after ≡ before + mend_calls waits + 8)
   pub most : after ≤ before + mend_calls waits + 10
 
--- nothing has changed but its disk, whether something waits, its frames, of which there are no more, and its room, which
--- is no less; where nothing waited and it was made, nothing waits
+-- nothing has changed but its disk, whether something waits, the version of its area, its frames, of which there are no
+-- more, and its room, which is no less; where nothing waited and it was made, nothing waits
 pub record StaysCompacted {D : Type 0} (ok : Bool) (old new : View D) : Type 0 where
-  pub same : new ≡ record old { disk = new.disk; waits = new.waits; frames = new.frames; spare = new.spare }
+  pub same : new ≡ record old {
+    disk = new.disk;
+    waits = new.waits;
+    version = new.version;
+    frames = new.frames;
+    spare = new.spare;
+  }
   pub frames : new.frames ≤ old.frames
   pub room : old.spare ≤ new.spare
   pub calm : ok ≡ true → old.waits ≡ false → new.waits ≡ false

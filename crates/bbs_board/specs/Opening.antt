@@ -1,5 +1,6 @@
--- What a board is opened as: the rows of its head, and then its commands, one after another.
-use Rattle.std.specs.Prelude.{◌≡◌, ◌⊎◌, ℕ, ◌+◌, List, [], ◌∷◌, length, Option, Some, None, Result, Ok, Err}
+-- What a board is opened as: the rows of its head, and then its commands, one after another. Both are read by the
+-- version of their area.
+use Rattle.std.specs.Prelude.{◌≡◌, ◌⊎◌, ℕ, ◌+◌, ◌==◌, List, [], ◌∷◌, length, map, Option, Some, None, Result, Ok, Err, if◌then◌else◌}
 use Rattle.disk_trait.specs.Past.{Image}
 use Rattle.disk_trait.specs.declared.area.Area.{Area}
 use Rattle.wire_fields.specs.Reading.{◌>>=◌}
@@ -10,19 +11,35 @@ use Rattle.bbs_index.specs.Index.{Indexed}
 use Rattle.bbs_journal.specs.Opening.{IsOpening, headed}
 use Rattle.bbs_journal.specs.declared.load_fault.LoadFault.{LoadFault}
 use Rattle.bbs_journal.specs.declared.load_fault.LoadFault.TheVariants.{Disk, NotABoard, Damaged, OutOfMemory}
+use Rattle.lrp_records.specs.declared.actual.Actual.{Actual}
+use Rattle.bbs_model.specs.Lrps.{domain_of}
 use Rattle.bbs_model.specs.Runs.{if_legal}
 use Rattle.bbs_model.specs.Step.{verdict_of, rows_after}
+use Rattle.bbs_model.specs.Tables.{find_desired}
 use Rattle.bbs_model.specs.declared.command.Command.{Command}
 use Rattle.bbs_model.specs.declared.rows.Rows.{Rows}
 
--- what was read of the head of an area, which stands at 23: its rows, or its defect at its place there
-abbrev pub in_area : Area → Result Rows CodecFault → Result Rows LoadFault
-in_area area (Ok rows) = Ok rows
-in_area area (Err fault) = Err (Damaged area (23 + fault_place fault))
+-- the row with the domain of its process among these rows, or without one where that isn't desired
+abbrev pub with_domain : Rows → Actual → Actual
+with_domain rows a = record a { domain = domain_of (find_desired rows a.key.process) }
 
--- the rows of the head of an area, or its first defect
-abbrev pub rows_in : Area → List ℕ → Result Rows LoadFault
-rows_in area head = in_area area (head_reading head)
+-- each actual row with the domain of its process
+abbrev pub with_domains : Rows → Rows
+with_domains rows = record rows { actual = map (with_domain rows) rows.actual }
+
+-- the rows that a board begins with, by those that its head tells in a version: in version 1 it tells no domain of an
+-- actual row
+abbrev pub settled : ℕ → Rows → Rows
+settled version rows = if version == 1 then with_domains rows else rows
+
+-- what was read of the head of an area, which stands at 23: the rows that it comes to, or its defect at its place there
+abbrev pub in_area : ℕ → Area → Result Rows CodecFault → Result Rows LoadFault
+in_area version area (Ok rows) = Ok (settled version rows)
+in_area version area (Err fault) = Err (Damaged area (23 + fault_place fault))
+
+-- the rows that the head of an area comes to, or its first defect
+abbrev pub rows_in : ℕ → Area → List ℕ → Result Rows LoadFault
+rows_in version area head = in_area version area (head_reading version head)
 
 -- the rows after a command, where it is legal
 abbrev pub after_legal : Rows → Command → Option Rows
@@ -33,9 +50,9 @@ abbrev pub after_read : Rows → Result Command CodecFault → Option Rows
 after_read rows (Ok c) = after_legal rows c
 after_read rows (Err fault) = None
 
--- the rows after a payload, where it is a command that is legal there
-abbrev pub after_payload : Rows → List ℕ → Option Rows
-after_payload rows payload = after_read rows (reading payload)
+-- the rows after a payload, where it is a command that areas of the version may have, and is legal there
+abbrev pub after_payload : ℕ → Rows → List ℕ → Option Rows
+after_payload version rows payload = after_read rows (reading version payload)
 
 -- what comes of rows, if there are any, and else a defect at this place
 abbrev pub or_damaged : Area → ℕ → Option Rows → (Rows → Result Rows LoadFault) → Result Rows LoadFault
@@ -49,11 +66,11 @@ unless_broken area (Some place) rows = Err (Damaged area place)
 
 -- the rows after the frames of these payloads, which stand from a place on, or the defect that stands
 -- first: a frame whose payload isn't a legal command there, at its gate, or what is broken behind them
-abbrev pub followed : Area → Option ℕ → Rows → ℕ → List (List ℕ) → Result Rows LoadFault
-followed area broken rows at [] = unless_broken area broken rows
-followed area broken rows at (payload ∷ payloads) =
-    or_damaged area at (after_payload rows payload)
-    (λ next. followed area broken next (at + 3 + length payload) payloads)
+abbrev pub followed : ℕ → Area → Option ℕ → Rows → ℕ → List (List ℕ) → Result Rows LoadFault
+followed version area broken rows at [] = unless_broken area broken rows
+followed version area broken rows at (payload ∷ payloads) =
+    or_damaged area at (after_payload version rows payload)
+    (λ next. followed version area broken next (at + 3 + length payload) payloads)
 
 -- the defect that a reader tells is the one told; want of memory says nothing of what is read
 abbrev pub Blames : LoadFault → Result Rows LoadFault → Type 0
@@ -73,9 +90,9 @@ Gives (Ok index) told = told ≡ Ok index.rows
 Gives (Err fault) told = Blames fault told
 
 -- the rows of a head and then of the frames behind it, or the defect that stands first
-abbrev pub board_of : Area → List ℕ → List (List ℕ) → Option ℕ → Result Rows LoadFault
-board_of area head payloads broken =
-    rows_in area head >>= λ rows. followed area broken rows (23 + length head) payloads
+abbrev pub board_of : ℕ → Area → List ℕ → List (List ℕ) → Option ℕ → Result Rows LoadFault
+board_of version area head payloads broken =
+    rows_in version area head >>= λ rows. followed version area broken rows (23 + length head) payloads
 
 -- the image is a board with these rows
 pub record IsBoard (rows : Rows) (c : Image) : Type 0 where
@@ -86,7 +103,7 @@ pub record IsBoard (rows : Rows) (c : Image) : Type 0 where
   pub payloads : List (List ℕ)
   pub end : ℕ
   pub opening : IsOpening c area version generation head payloads None end
-  pub rows_are : board_of area head payloads None ≡ Ok rows
+  pub rows_are : board_of version area head payloads None ≡ Ok rows
 
 -- the image has whole headers and a head, and this is the first defect from there on
 pub record IsDamaged (fault : LoadFault) (c : Image) : Type 0 where
@@ -98,7 +115,7 @@ pub record IsDamaged (fault : LoadFault) (c : Image) : Type 0 where
   pub broken : Option ℕ
   pub end : ℕ
   pub opening : IsOpening c area version generation head payloads broken end
-  pub fault_is : board_of area head payloads broken ≡ Err fault
+  pub fault_is : board_of version area head payloads broken ≡ Err fault
 
 -- the image is no board, and this is its first defect
 abbrev pub IsRefused : LoadFault → Image → Type 0

@@ -1,9 +1,10 @@
 -- What the steps of a call do to a journal, and to the board that stands there.
 use Rattle.std.specs.Prelude.{◌≡◌, ℕ, ◌+◌, ◌≤◌, Bool, true, false, Option, List, [], ◌∷◌, ◌++◌, if◌then◌else◌}
+use Rattle.std.specs.Option.{ForSome}
 use Rattle.disk_trait.specs.Past.{Past}
 use Rattle.disk_trait.specs.Runs.{Extends}
 use Rattle.disk_trait.specs.Steps.{Goes}
-use Rattle.bbs_codec.specs.Command.{spelled, FitsCommand}
+use Rattle.bbs_codec.specs.Command.{spelled, FitsCommand, IsReadIn}
 use Rattle.bbs_journal.specs.Calls.{Stays, mend_calls}
 use Rattle.bbs_journal.specs.View.{JournalView}
 use Rattle.bbs_journal.specs.declared.waiting.Waiting.TheVariants.{Nothing}
@@ -32,12 +33,16 @@ StillStands told old new =
     (base : Rows) (log : List Item) (marks : List ℕ) (since : ℕ) → IsLawful base log → StandsOn told base log marks since old
     → StandsWith told base log marks since old new
 
+-- where its disk tells its past, the area of a journal may have the command
+abbrev pub MayTake : {D : Type 0} → (D → Option Past) → JournalView D → Command → Type 0
+MayTake told j c = ForSome (told j.disk) (λ p. IsReadIn j.version c)
+
 -- whatever board stood there stands there with one item more, which has this mark: a command whose payload was put,
--- done or in doubt
+-- done or in doubt, and which the area may have
 abbrev pub PutsItem : {D : Type 0} → (D → Option Past) → Bool → List ℕ → ℕ → JournalView D → JournalView D → Type 0
 PutsItem told ok payload mark old new =
     (base : Rows) (log : List Item) (marks : List ℕ) (since : ℕ) → IsLawful base log → StandsOn told base log marks since old
-    → (by : ℕ) (c : Command) → FitsCommand c → IsLegal (replay_log base log) c → payload ≡ spelled c
+    → (by : ℕ) (c : Command) → FitsCommand c → MayTake told old c → IsLegal (replay_log base log) c → payload ≡ spelled c
     → StandsWith told base (log ++ item_of ok by c ∷ []) (marks ++ mark ∷ []) since old new
 
 -- what a journal knows by itself after a put: it has no defect, one frame more where it succeeded, and then

@@ -7,11 +7,11 @@ use Rattle.bbs_board.specs.declared.orders.Orders.{Orders}
 
 -- how many rows a board has
 abbrev pub row_count : Rows → ℕ
-row_count rows = length rows.desired + length rows.actual + length rows.tasks + length rows.cells
+row_count rows = length rows.desired + length rows.actual + length rows.tasks + length rows.cells + length rows.domains
 
 -- how many rows every table may have, so that its order has room
 abbrev pub numbers_in : Orders → ℕ
-numbers_in o = least_room o.desired.room o.actual.room o.tasks.room o.cells.room
+numbers_in o = least_room o.desired.room o.actual.room o.tasks.room o.cells.room o.domains.room
 
 -- how many places there are for a head, which takes one for its front and one for each row: a place is 344 bytes, and
 -- each row has a number besides, in whichever table it is

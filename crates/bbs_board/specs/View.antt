@@ -1,11 +1,11 @@
 -- A board as its callers see it, and what it rests on.
-use Rattle.std.specs.Prelude.{◌≡◌, ℕ, ◌+◌, ◌-◌, ◌^◌, ◌<◌, ◌≤◌, Bool, true, false, ◌&&◌, nat_le, nat_lt, is_some, Option, Some, None, List, [], ◌∷◌, length, Ok}
+use Rattle.std.specs.Prelude.{◌≡◌, ℕ, ◌+◌, ◌-◌, ◌^◌, ◌<◌, ◌≤◌, Bool, true, false, ◌&&◌, ◌||◌, ◌==◌, nat_le, nat_lt, is_some, Option, Some, None, List, [], ◌∷◌, length, Ok}
 use Rattle.std.specs.List.{slice_get}
 use Rattle.std.specs.Option.{ForSome}
 use Rattle.disk_trait.specs.Held.{Has}
 use Rattle.disk_trait.specs.Past.{Past, now, other}
 use Rattle.disk_trait.specs.declared.area.Area.{Area}
-use Rattle.bbs_codec.specs.Command.{spelled, FitsCommand}
+use Rattle.bbs_codec.specs.Command.{spelled, FitsCommand, IsReadIn}
 use Rattle.bbs_journal.specs.Areas.{Stands}
 use Rattle.bbs_journal.specs.Grammar.{heading, GoesWith}
 use Rattle.bbs_journal.specs.Header.{newest}
@@ -29,7 +29,7 @@ use Rattle.bbs_board.specs.Opening.{board_of}
 
 -- its disk, the rows that it was opened with, the items since then with the disk's clock at the end of
 -- the call of each, the clock and the count of faults at the end of its load, whether a gate has to be
--- mended, how many frames its area has, and how many legal calls it has the memory for
+-- mended, the version of its area and how many frames that has, and how many legal calls it has the memory for
 pub record View (D : Type 0) : Type 0 where
   pub disk : D
   pub base : Rows
@@ -38,6 +38,7 @@ pub record View (D : Type 0) : Type 0 where
   pub since : ℕ
   pub faults : ℕ
   pub waits : Bool
+  pub version : ℕ
   pub frames : ℕ
   pub spare : ℕ
 
@@ -59,8 +60,9 @@ pub record IsLoadedFrom {D : Type 0} (moment fault_count : D → ℕ) (disk : D)
 abbrev pub rows_of : {D : Type 0} → View D → Rows
 rows_of board = replay_log board.base board.log
 
--- the payload is that of a doubt behind which nothing was done, so that it may still show
-pub record MayShow (base : Rows) (log : List Item) (payload : List ℕ) : Type 0 where
+-- the payload is that of a doubt behind which nothing was done, and areas of the version may have its command, so
+-- that it may still show
+pub record MayShow (version : ℕ) (base : Rows) (log : List Item) (payload : List ℕ) : Type 0 where
   pub place : ℕ
   pub by : ℕ
   pub command : Command
@@ -69,11 +71,12 @@ pub record MayShow (base : Rows) (log : List Item) (payload : List ℕ) : Type 0
   pub last : (earlier caller : ℕ) (c : Command) → slice_get log earlier ≡ Some (Done caller c) → earlier < place
   pub payload_is : payload ≡ spelled command
   pub fits : FitsCommand command
+  pub read : IsReadIn version command
 
 -- the next head leads to these rows, in the other area and with the newest version and the next generation
 pub record LeadsOn (area : Area) (generation : ℕ) (next : List ℕ) (rows : Rows) : Type 0 where
   pub goes_with : GoesWith newest (generation + 1) next
-  pub rows_are : board_of (other area) next [] None ≡ Ok rows
+  pub rows_are : board_of newest (other area) next [] None ≡ Ok rows
 
 -- whatever a stop leaves, the area holds a head and so many payloads that leave the board's rows, and perhaps a
 -- doubt; the other area gives way to it, or may be open with a head that leaves these rows too; and the board is kept
@@ -87,12 +90,12 @@ pub record Holds (base : Rows) (log : List Item) (marks : List ℕ) (since : ℕ
   pub doubt : Option (List ℕ)
   pub goes_with : GoesWith version generation head
   pub waits_is : frame_waits waiting ≡ is_some doubt
-  pub may_show : (payload : List ℕ) → doubt ≡ Some payload → MayShow base log payload
+  pub may_show : (payload : List ℕ) → doubt ≡ Some payload → MayShow version base log payload
   pub stands : Stands (gate ∷ heading version generation head) payloads doubt end (now p area)
   pub next : List ℕ
   pub beside : Has (Beside next waiting known generation) (now p (other area))
   pub leads_on : (size : ℕ) → waiting ≡ Header → known ≡ Written size → LeadsOn area generation next (replay_log base log)
-  pub rows_are : board_of area head payloads None ≡ Ok (replay_log base log)
+  pub rows_are : board_of version area head payloads None ≡ Ok (replay_log base log)
   pub kept : Kept base log marks since p
 
 -- where the disk of a journal tells its past, the board stands there
@@ -100,9 +103,10 @@ abbrev pub StandsOn : {D : Type 0} → (D → Option Past) → Rows → List Ite
 StandsOn told base log marks since j =
     ForSome (told j.disk) (Holds base log marks since j.area j.version j.generation j.end j.frames j.waiting j.gate)
 
--- a checkpoint is due before the next frame: there are 4,096 or more, and there is a next generation
+-- a checkpoint is due before the next frame: there are 4,096 or more, or the area is of version 1, and there is a
+-- next generation
 abbrev pub wants_checkpoint : {D : Type 0} → JournalView D → Bool
-wants_checkpoint j = nat_le 4096 j.frames && nat_lt j.generation (2 ^ 64 - 1)
+wants_checkpoint j = (nat_le 4096 j.frames || j.version == 1) && nat_lt j.generation (2 ^ 64 - 1)
 
 -- so stands each board: it was opened with valid rows, its log is lawful and leads to its rows, which are
 -- valid, it is kept what each item told, each of its doubts has a fault for its cause, and its journal has

@@ -1,6 +1,6 @@
 -- What a disk reads, and what it reads after many calls: the history that it read before, with what was done
--- behind it, and where the area was full the other one in its place.
-use Rattle.std.specs.Prelude.{◌≡◌, ℕ, ◌+◌, Bool, nat_le, List, [], ◌∷◌, ◌++◌, length, None, Ok, if◌then◌else◌}
+-- behind it, and where the area was full or old the other one in its place.
+use Rattle.std.specs.Prelude.{◌≡◌, ℕ, ◌+◌, ◌||◌, ◌==◌, Bool, nat_le, nat_lt, List, [], ◌∷◌, ◌++◌, length, None, Ok, if◌then◌else◌}
 use Rattle.disk_trait.specs.Past.{Past, Image, content, other}
 use Rattle.disk_trait.specs.declared.area.Area.{Area}
 use Rattle.bbs_codec.specs.Command.{spelled}
@@ -32,32 +32,40 @@ ReadsAs r p = OpensAs (content p) r.area r.version r.generation r.head r.payload
 
 -- what is read leads to these rows
 abbrev pub LeadsTo : Reading → Rows → Type 0
-LeadsTo r rows = board_of r.area r.head r.payloads None ≡ Ok rows
+LeadsTo r rows = board_of r.version r.area r.head r.payloads None ≡ Ok rows
 
--- the other area with the newest version, the next generation and the head of these rows, where there are frames to make away with
-abbrev pub headed_instead : Rows → Reading → List (List ℕ) → Reading
-headed_instead rows r [] = r
-headed_instead rows r (payload ∷ payloads) =
-    record { area = other r.area; version = newest; generation = r.generation + 1; head = head_spelled rows; payloads = [] }
+-- the other area with the newest version, the next generation and the head of these rows
+abbrev pub headed_instead : Rows → Reading → Reading
+headed_instead rows r = record {
+  area = other r.area;
+  version = newest;
+  generation = r.generation + 1;
+  head = head_spelled newest rows;
+  payloads = [];
+}
+
+-- there are frames, or an old version, to make away with
+abbrev pub may_compact : Reading → Bool
+may_compact r = nat_lt 0 (length r.payloads) || r.version == 1
 
 -- what is read after a checkpoint of these rows
 abbrev pub compacted : Rows → Reading → Reading
-compacted rows r = headed_instead rows r r.payloads
+compacted rows r = if may_compact r then headed_instead rows r else r
 
--- so many payloads that a checkpoint comes before the next
-abbrev pub is_full : Reading → Bool
-is_full r = nat_le 4096 (length r.payloads)
+-- a checkpoint comes before the next payload: there are 4,096 or more, or the area is of version 1
+abbrev pub is_due : Reading → Bool
+is_due r = nat_le 4096 (length r.payloads) || r.version == 1
 
--- what is read when there is room for one more command: where the area was full, a checkpoint of these rows
+-- what is read when there is room for one more command: where the area was full or old, a checkpoint of these rows
 abbrev pub with_room : Rows → Reading → Reading
-with_room rows r = if is_full r then compacted rows r else r
+with_room rows r = if is_due r then compacted rows r else r
 
 -- one payload more
 abbrev pub with_payload : List ℕ → Reading → Reading
 with_payload payload r = record r { payloads = r.payloads ++ payload ∷ [] }
 
--- what is read after a command was stored at these rows: one frame more, or where the area was full the other area
--- with the head of these rows and this frame alone
+-- what is read after a command was stored at these rows: one frame more, or where the area was full or old the other
+-- area with the head of these rows and this frame alone
 abbrev pub stored_behind : Rows → Command → Reading → Reading
 stored_behind rows c r = with_payload (spelled c) (with_room rows r)
 

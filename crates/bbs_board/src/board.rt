@@ -57,6 +57,7 @@ impl<D: Disk> Model for Board<D> {
       since = b.since;
       faults = b.faults;
       waits = is_waiting b.journal.waiting;
+      version = b.journal.version;
       frames = b.journal.frames;
       spare = calls_for b.index.spare b.history.room (places_left (places_in b.draft) b.index.rows);
     } };
@@ -76,7 +77,7 @@ pub struct Closed<D> {
 
 impl<D: Disk> Board<D> {
     /// Makes a legal command a transition, by the four device calls of an append. Before them two mend
-    /// a gate that an earlier fault left, and eight at most make a checkpoint where the area is full;
+    /// a gate that an earlier fault left, and eight at most make a checkpoint where the area is full or old;
     /// behind an append that failed at its own gate two close that.
     fn transition(&mut self, by: u32, command: &Command) -> Result<Reply, CallFault>
         requires { IsLegal (rows_of self.old) command.now }

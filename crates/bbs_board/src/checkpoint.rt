@@ -1,14 +1,16 @@
-//! Checkpoints: the rows in place of the frames that led to them, so that a load has few frames to do again.
+//! Checkpoints: the rows in place of the frames that led to them, so that a load has few frames to do again, and
+//! in the newest version.
 ghost use Rattle.std.specs.Prelude.{◌≡◌, ◌-◌, ◌<◌, ◌^◌, true, false, length, is_ok, is_err};
 ghost use Rattle.byte_ports.specs.Cause.{HasCause};
 ghost use Rattle.disk_trait.specs.Steps.{Goes};
 ghost use Rattle.bbs_journal.specs.View.{is_waiting};
-ghost use Rattle.bbs_board.specs.Checkpoint.{Checkpoints, CheckpointTakes, EndsCheckpoint, MovedOn, MovesOn, StaysCompacted, SwitchTakes, is_checkpoint_fault};
+ghost use Rattle.bbs_board.specs.Checkpoint.{Checkpoints, CheckpointTakes, EndsCheckpoint, MovedOn, MovesOn, StaysCompacted, SwitchTakes, has_to_compact, is_checkpoint_fault};
 ghost use Rattle.bbs_board.specs.Doubts.{CountsFaults, RoseForEach};
 ghost use Rattle.bbs_board.specs.View.{rows_of};
 
 use crate::Board;
 use crate::draft::row_count;
+use crate::storage::is_old;
 use bbs_journal::{DiskFault, Journal};
 use bbs_model::CallFault;
 use bbs_snapshot::switch;
@@ -40,12 +42,19 @@ pub fn move_on<D: Disk>(journal: &mut Journal<D>, head: &[u8]) -> Result<(), Dis
     }
 }
 
+/// Whether a checkpoint makes away with something, frames or an old version, and there is a next generation.
+fn has_to_compact<D: Disk>(journal: &Journal<D>) -> bool
+    ensures { result ≡ has_to_compact journal.now }
+{
+    (journal.frames() > 0 || is_old(journal)) && journal.generation() < u64::MAX
+}
+
 impl<D: Disk> Board<D> {
-    /// Puts the rows as a head into the other area of the disk, and goes on there without frames, so
-    /// that the next load has none to do again. Where there are none it does nothing. It takes the time
-    /// and the memory of the rows in bytes, and has its memory before its first device call. Where one of
-    /// those fails the board goes on in the area that it is in, and has no doubt more: a stop leaves the
-    /// rows in any case.
+    /// Puts the rows as a head into the other area of the disk, and goes on there in the newest version
+    /// and without frames, so that the next load has none to do again. Where there are none, and the
+    /// area has that version, it does nothing. It takes the time and the memory of the rows in bytes,
+    /// and has its memory before its first device call. Where one of those fails the board goes on in
+    /// the area that it is in, and has no doubt more: a stop leaves the rows in any case.
     pub fn checkpoint(&mut self) -> Result<(), CallFault>
         ensures stays { StaysCompacted (is_ok result) self.old self.new }
         ensures ends { EndsCheckpoint (length self.old.log) result }
@@ -56,7 +65,7 @@ impl<D: Disk> Board<D> {
         ensures faults { CountsFaults (is_checkpoint_fault result) self.old.waits self.new.waits
             (D.fault_count self.old.disk) (D.fault_count self.new.disk) }
     {
-        if self.journal.frames() == 0 || self.journal.generation() == u64::MAX {
+        if !has_to_compact(&self.journal) {
             return Ok(());
         }
         let place = self.history.place();

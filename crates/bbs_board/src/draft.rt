@@ -4,6 +4,7 @@ ghost use Rattle.std.specs.List.{flat_map, AllByRecursion};
 ghost use Rattle.std.specs.Ordering.{is_lt};
 ghost use Rattle.head_codec.specs.Head.{counts, head_counts, head_spelled, FitsHead};
 ghost use Rattle.bbs_index.specs.Shelf.{AreNumbered};
+ghost use Rattle.bbs_journal.specs.Header.{newest};
 ghost use Rattle.bbs_model.specs.Valid.{IsValid};
 ghost use Rattle.bbs_board.specs.Room.{row_count, places_in};
 
@@ -146,7 +147,10 @@ fn front_of(index: &Index) -> Counts
             ),
             (
                 index.tasks_shelf().len() as u32,
-                index.cells_shelf().len() as u32,
+                (
+                    index.cells_shelf().len() as u32,
+                    index.domains_shelf().len() as u32,
+                ),
             ),
         ),
     )
@@ -156,12 +160,13 @@ fn front_of(index: &Index) -> Counts
 pub fn row_count(index: &Index) -> usize
     requires { IsValid index.now.rows }
     ensures count { result ≡ row_count index.now.rows }
-    ensures few { result ≤ 156000 }
+    ensures few { result ≤ 157000 }
 {
     index.desired_shelf().len()
         + index.actual_shelf().len()
         + index.tasks_shelf().len()
         + index.cells_shelf().len()
+        + index.domains_shelf().len()
 }
 
 impl Draft {
@@ -189,8 +194,8 @@ impl Draft {
     pub fn write(&mut self, index: &Index)
         requires valid { IsValid index.now.rows }
         requires room { row_count index.now.rows + 1 ≤ places_in self.old }
-        ensures bytes { self.new.bytes.items ≡ head_spelled index.entry.now.rows }
-        ensures fits { FitsHead index.entry.now.rows }
+        ensures bytes { self.new.bytes.items ≡ head_spelled newest index.entry.now.rows }
+        ensures fits { FitsHead newest index.entry.now.rows }
         ensures few { length self.new.bytes.items < 2 ^ 32 }
         ensures kept { places_in self.old ≤ places_in self.new }
     {
@@ -208,5 +213,10 @@ impl Draft {
         );
         put_rows(&mut self.bytes, &mut self.orders.tasks, index.tasks_shelf());
         put_rows(&mut self.bytes, &mut self.orders.cells, index.cells_shelf());
+        put_rows(
+            &mut self.bytes,
+            &mut self.orders.domains,
+            index.domains_shelf(),
+        );
     }
 }

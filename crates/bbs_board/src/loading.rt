@@ -1,5 +1,5 @@
 //! Loading a board: the journal, then the rows of its head, then its commands one after another.
-ghost use Rattle.std.specs.Prelude.{◌+◌, ◌<◌, ◌^◌, length, IfOk, IfErr};
+ghost use Rattle.std.specs.Prelude.{◌≡◌, ◌⊎◌, ◌+◌, ◌<◌, ◌^◌, length, IfOk, IfErr};
 ghost use Rattle.byte_ports.specs.Cause.{HasCause};
 ghost use Rattle.disk_trait.specs.Past.{Image};
 ghost use Rattle.disk_trait.specs.Steps.{Goes};
@@ -24,18 +24,20 @@ use std::snapshot::Snapshot;
 /// The rows of a head and of the frames behind it, or the defect that stands first.
 fn board_of(
     alloc: Global,
+    version: u16,
     area: Area,
     head: &[u8],
     frames: &[Vec<u8>],
     broken: Option<u64>,
 ) -> Result<Index, LoadFault>
-    requires { 23 + length head.now + bytes_of (payloads_of frames.now) < 2 ^ 64 }
-    ensures gives { Gives result (board_of area head.now (payloads_of frames.now) broken) }
+    requires read { (version ≡ 1) ⊎ (version ≡ 2) }
+    requires within { 23 + length head.now + bytes_of (payloads_of frames.now) < 2 ^ 64 }
+    ensures gives { Gives result (board_of version area head.now (payloads_of frames.now) broken) }
     ensures valid { IfOk result (λ index. IsValid index.rows) }
 {
-    let mut index = rows_in(alloc, area, head)?;
+    let mut index = rows_in(alloc, version, area, head)?;
     let start = HEAD + head.len() as u64;
-    follow(&mut index, area, start, frames, broken)?;
+    follow(&mut index, version, area, start, frames, broken)?;
     Ok(index)
 }
 
@@ -56,11 +58,12 @@ pub fn load<D: Disk>(alloc: Global, disk: D) -> Result<Board<D>, (D, LoadFault)>
         head,
         frames,
         broken,
+        version,
     } = match bbs_journal::load(alloc, disk) {
         Ok(loaded) => loaded,
         Err(refused) => return Err(refused),
     };
-    match board_of(alloc, journal.area(), &head, &frames, broken) {
+    match board_of(alloc, version, journal.area(), &head, &frames, broken) {
         Ok(index) => Ok(Board {
             since: journal.clock(),
             faults,

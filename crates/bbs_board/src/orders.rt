@@ -13,6 +13,7 @@ pub struct Orders {
     pub(crate) actual: Order,
     pub(crate) tasks: Order,
     pub(crate) cells: Order,
+    pub(crate) domains: Order,
 }
 
 impl Orders {
@@ -23,6 +24,7 @@ impl Orders {
             actual: Order::new(alloc),
             tasks: Order::new(alloc),
             cells: Order::new(alloc),
+            domains: Order::new(alloc),
         }
     }
 
@@ -36,6 +38,7 @@ impl Orders {
         self.actual.reserve(rows)?;
         self.tasks.reserve(rows)?;
         self.cells.reserve(rows)?;
+        self.domains.reserve(rows)?;
         Ok(())
     }
 }

@@ -78,7 +78,7 @@ impl<D: Disk> Board<D> {
     /// The number of transitions in the board's life.
     pub fn next(&self) -> u64
         ensures value { result ≡ (rows_of self.now).next }
-        ensures most { result ≤ 1000000 }
+        ensures most { result ≤ 1099511627776 }
     {
         self.index.next()
     }

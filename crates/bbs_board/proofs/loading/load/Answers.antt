@@ -18,10 +18,10 @@ use Rattle.bbs_board.proofs.loading.load.Goals as goal
 pub invariant_of-result : goal.invariant_of-result
 invariant_of-result g c =
     let payloads : List (List ℕ) = payloads_of c.in-Ok.loaded.frames.items in
-    let is : board_of c.in-Ok.loaded.journal.area c.in-Ok.loaded.head.items payloads c.in-Ok.loaded.broken ≡ Ok c.in-Ok-board_of.index.rows = search rules in
-    let none : c.in-Ok.loaded.broken ≡ None = unbroken c.in-Ok.loaded.journal.area c.in-Ok.loaded.head.items payloads c.in-Ok.loaded.broken c.in-Ok-board_of.index.rows is in
+    let is : board_of c.in-Ok.loaded.journal.version c.in-Ok.loaded.journal.area c.in-Ok.loaded.head.items payloads c.in-Ok.loaded.broken ≡ Ok c.in-Ok-board_of.index.rows = search rules in
+    let none : c.in-Ok.loaded.broken ≡ None = unbroken c.in-Ok.loaded.journal.version c.in-Ok.loaded.journal.area c.in-Ok.loaded.head.items payloads c.in-Ok.loaded.broken c.in-Ok-board_of.index.rows is in
     let fresh = c.in-Ok.ensures.fresh in
-    let count = counted c.in-Ok.loaded.journal.area c.in-Ok.loaded.head.items payloads c.in-Ok-board_of.index.rows (subst (λ (b : Option ℕ). board_of c.in-Ok.loaded.journal.area c.in-Ok.loaded.head.items payloads b ≡ Ok c.in-Ok-board_of.index.rows) none is) in
+    let count = counted c.in-Ok.loaded.journal.version c.in-Ok.loaded.journal.area c.in-Ok.loaded.head.items payloads c.in-Ok-board_of.index.rows (subst (λ (b : Option ℕ). board_of c.in-Ok.loaded.journal.version c.in-Ok.loaded.journal.area c.in-Ok.loaded.head.items payloads b ≡ Ok c.in-Ok-board_of.index.rows) none is) in
     let base_is : c.of.result.value.rows ≡ c.in-Ok-board_of.index.rows = ap (λ (i : Indexed). i.rows) c.of.ensures in
     let log_is : c.new.result.log ≡ [] = c.new.ensures.log in
     let marks_is : c.new.result.marks ≡ [] = c.new.ensures.marks in
@@ -46,7 +46,7 @@ invariant_of-result g c =
 pub returns-in-Ok-board_of-clause-found : goal.returns-in-Ok-board_of-clause-found
 returns-in-Ok-board_of-clause-found g c image shows =
     let payloads : List (List ℕ) = payloads_of c.in-Ok.loaded.frames.items in
-    let is : board_of c.in-Ok.loaded.journal.area c.in-Ok.loaded.head.items payloads c.in-Ok.loaded.broken ≡ Ok c.in-Ok-board_of.index.rows = search rules in
+    let is : board_of c.in-Ok.loaded.journal.version c.in-Ok.loaded.journal.area c.in-Ok.loaded.head.items payloads c.in-Ok.loaded.broken ≡ Ok c.in-Ok-board_of.index.rows = search rules in
     let base_is : c.of.result.value.rows ≡ c.in-Ok-board_of.index.rows = ap (λ (i : Indexed). i.rows) c.of.ensures in
     subst (λ (r : Rows). IsBoard r image) (sym base_is)
     (loaded_board image c.in-Ok.loaded.journal.area c.in-Ok.loaded.journal.version c.in-Ok.loaded.journal.generation c.in-Ok.loaded.head.items payloads c.in-Ok.loaded.broken c.in-Ok.loaded.journal.end c.in-Ok-board_of.index.rows

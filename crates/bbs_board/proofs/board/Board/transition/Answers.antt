@@ -31,7 +31,7 @@ store-stored-requires-clause-payload g c =
 pub store-stored-requires-clause-few : goal.store-stored-requires-clause-few
 store-stored-requires-clause-few g c = λ due.
     let fine : is_err c.prepare_call.result ≡ false = search rules in
-    let head = on_ok c.prepare_call.result _ fine c.prepare_call.ensures.head (c.wants_checkpoint-due.ensures ∙ due) in
+    let head = on_ok c.prepare_call.result _ fine c.prepare_call.ensures.head (c.wants_checkpoint-due.ensures.due ∙ due) in
     let small = head.small in
     omega (arith, small, ap length c.deref.ensures.value)
 
@@ -56,7 +56,7 @@ invariant_of-self-then-is_err-2 g c =
     let err : is_err c.store-stored.result ≡ true = search rules in
     let fine : is_err c.prepare_call.result ≡ false = search rules in
     let ready : wants_checkpoint c.self.inside.journal ≡ true → IsHeadOf c.self.inside.index.rows c.deref.result.now = λ due.
-    subst (λ (l : List ℕ). IsHeadOf c.self.inside.index.rows l) (sym c.deref.ensures.value) (on_ok c.prepare_call.result _ fine c.prepare_call.ensures.head (c.wants_checkpoint-due.ensures ∙ due)) in
+    subst (λ (l : List ℕ). IsHeadOf c.self.inside.index.rows l) (sym c.deref.ensures.value) (on_ok c.prepare_call.result _ fine c.prepare_call.ensures.head (c.wants_checkpoint-due.ensures.due ∙ due)) in
     let added = c.add.ensures ∙ ap (with_item c.args.by c.args.command.now c.clock-mark.result None) c.prepare_call.ensures.history in
     sound_more g.D.Disk.told g.D.Disk.fault_count c.self.inside.index.rows c.self.inside.base.value.rows c.self.inside.history.log c.self.inside.history.marks c.self.inside.history.told c.self.inside.since c.self.inside.faults c.self.inside.journal c.store-stored.new.journal c.self.invariant
     c.args.by c.args.command.now c.write_command-len.ensures.fits legal false c.prepare_call.new.index.rows c.add.new.self.log c.add.new.self.marks c.add.new.self.told c.clock-mark.result
@@ -76,7 +76,7 @@ returns-then-is_err-2-clause-does g c =
     let failed : is_ok c.store-stored.result ≡ false = search rules in
     let fine : is_err c.prepare_call.result ≡ false = search rules in
     let ready : wants_checkpoint c.self.inside.journal ≡ true → IsHeadOf c.self.inside.index.rows c.deref.result.now = λ due.
-    subst (λ (l : List ℕ). IsHeadOf c.self.inside.index.rows l) (sym c.deref.ensures.value) (on_ok c.prepare_call.result _ fine c.prepare_call.ensures.head (c.wants_checkpoint-due.ensures ∙ due)) in
+    subst (λ (l : List ℕ). IsHeadOf c.self.inside.index.rows l) (sym c.deref.ensures.value) (on_ok c.prepare_call.result _ fine c.prepare_call.ensures.head (c.wants_checkpoint-due.ensures.due ∙ due)) in
     let stores = stores_as g.D.Disk.told _ _ (is_ok c.store-stored.result) false _ c.deref.result.now _ _ failed c.write_command-len.ensures.bytes c.store-stored.ensures.stores in
     let does = stored_passes g.D.Disk.told g.D.Disk.fault_count c.self.inside.index.rows c.self.inside.base.value.rows c.self.inside.history.log c.self.inside.history.marks c.self.inside.history.told c.self.inside.since c.self.inside.faults c.self.inside.journal c.store-stored.new.journal c.self.invariant
     c.args.by c.args.command.now c.write_command-len.ensures.fits law false _ c.deref.result.now ready stores in
@@ -88,7 +88,7 @@ returns-then-is_err-2-clause-few g c =
     let failed : is_ok c.store-stored.result ≡ false = search rules in
     let fine : is_err c.prepare_call.result ≡ false = search rules in
     let ready : wants_checkpoint c.self.inside.journal ≡ true → IsHeadOf c.self.inside.index.rows c.deref.result.now = λ due.
-    subst (λ (l : List ℕ). IsHeadOf c.self.inside.index.rows l) (sym c.deref.ensures.value) (on_ok c.prepare_call.result _ fine c.prepare_call.ensures.head (c.wants_checkpoint-due.ensures ∙ due)) in
+    subst (λ (l : List ℕ). IsHeadOf c.self.inside.index.rows l) (sym c.deref.ensures.value) (on_ok c.prepare_call.result _ fine c.prepare_call.ensures.head (c.wants_checkpoint-due.ensures.due ∙ due)) in
     let stores = stores_as g.D.Disk.told _ _ (is_ok c.store-stored.result) false _ c.deref.result.now _ _ failed c.write_command-len.ensures.bytes c.store-stored.ensures.stores in
     let short = stored_short g.D.Disk.told g.D.Disk.fault_count c.self.inside.index.rows c.self.inside.base.value.rows c.self.inside.history.log c.self.inside.history.marks c.self.inside.history.told c.self.inside.since c.self.inside.faults c.self.inside.journal c.store-stored.new.journal c.self.invariant
     c.args.by c.args.command.now c.write_command-len.ensures.fits law false _ c.deref.result.now ready stores
@@ -103,7 +103,7 @@ invariant_of-self-2 g c =
     let err : is_err c.store-stored.result ≡ false = search rules in
     let fine : is_err c.prepare_call.result ≡ false = search rules in
     let ready : wants_checkpoint c.self.inside.journal ≡ true → IsHeadOf c.self.inside.index.rows c.deref.result.now = λ due.
-    subst (λ (l : List ℕ). IsHeadOf c.self.inside.index.rows l) (sym c.deref.ensures.value) (on_ok c.prepare_call.result _ fine c.prepare_call.ensures.head (c.wants_checkpoint-due.ensures ∙ due)) in
+    subst (λ (l : List ℕ). IsHeadOf c.self.inside.index.rows l) (sym c.deref.ensures.value) (on_ok c.prepare_call.result _ fine c.prepare_call.ensures.head (c.wants_checkpoint-due.ensures.due ∙ due)) in
     let added = c.add-2.ensures ∙ ap (with_item c.args.by c.args.command.now c.clock-mark.result (Some c.apply-events.result)) c.prepare_call.ensures.history in
     let told : Some c.apply-events.result ≡ events_of c.self.inside.index.rows c.args.command.now = c.apply-events.ensures.events ∙ ap (λ (r : Rows). events_of r c.args.command.now) c.prepare_call.ensures.rows in
     sound_more g.D.Disk.told g.D.Disk.fault_count c.self.inside.index.rows c.self.inside.base.value.rows c.self.inside.history.log c.self.inside.history.marks c.self.inside.history.told c.self.inside.since c.self.inside.faults c.self.inside.journal c.store-stored.new.journal c.self.invariant
@@ -124,7 +124,7 @@ returns-clause-does g c =
     let made : is_ok c.store-stored.result ≡ true = search rules in
     let fine : is_err c.prepare_call.result ≡ false = search rules in
     let ready : wants_checkpoint c.self.inside.journal ≡ true → IsHeadOf c.self.inside.index.rows c.deref.result.now = λ due.
-    subst (λ (l : List ℕ). IsHeadOf c.self.inside.index.rows l) (sym c.deref.ensures.value) (on_ok c.prepare_call.result _ fine c.prepare_call.ensures.head (c.wants_checkpoint-due.ensures ∙ due)) in
+    subst (λ (l : List ℕ). IsHeadOf c.self.inside.index.rows l) (sym c.deref.ensures.value) (on_ok c.prepare_call.result _ fine c.prepare_call.ensures.head (c.wants_checkpoint-due.ensures.due ∙ due)) in
     let stores = stores_as g.D.Disk.told _ _ (is_ok c.store-stored.result) true _ c.deref.result.now _ _ made c.write_command-len.ensures.bytes c.store-stored.ensures.stores in
     let does = stored_passes g.D.Disk.told g.D.Disk.fault_count c.self.inside.index.rows c.self.inside.base.value.rows c.self.inside.history.log c.self.inside.history.marks c.self.inside.history.told c.self.inside.since c.self.inside.faults c.self.inside.journal c.store-stored.new.journal c.self.invariant
     c.args.by c.args.command.now c.write_command-len.ensures.fits law true _ c.deref.result.now ready stores in
@@ -136,7 +136,7 @@ returns-clause-few g c =
     let made : is_ok c.store-stored.result ≡ true = search rules in
     let fine : is_err c.prepare_call.result ≡ false = search rules in
     let ready : wants_checkpoint c.self.inside.journal ≡ true → IsHeadOf c.self.inside.index.rows c.deref.result.now = λ due.
-    subst (λ (l : List ℕ). IsHeadOf c.self.inside.index.rows l) (sym c.deref.ensures.value) (on_ok c.prepare_call.result _ fine c.prepare_call.ensures.head (c.wants_checkpoint-due.ensures ∙ due)) in
+    subst (λ (l : List ℕ). IsHeadOf c.self.inside.index.rows l) (sym c.deref.ensures.value) (on_ok c.prepare_call.result _ fine c.prepare_call.ensures.head (c.wants_checkpoint-due.ensures.due ∙ due)) in
     let stores = stores_as g.D.Disk.told _ _ (is_ok c.store-stored.result) true _ c.deref.result.now _ _ made c.write_command-len.ensures.bytes c.store-stored.ensures.stores in
     let short = stored_short g.D.Disk.told g.D.Disk.fault_count c.self.inside.index.rows c.self.inside.base.value.rows c.self.inside.history.log c.self.inside.history.marks c.self.inside.history.told c.self.inside.since c.self.inside.faults c.self.inside.journal c.store-stored.new.journal c.self.invariant
     c.args.by c.args.command.now c.write_command-len.ensures.fits law true _ c.deref.result.now ready stores
@@ -145,7 +145,7 @@ returns-clause-few g c =
 
 pub returns-then-is_err-clause-uses : goal.returns-then-is_err-clause-uses
 returns-then-is_err-clause-uses g c = record {
-  calls = subst (λ (v : View g.row.D.Denot). StoreTakes false v.waits v.frames (g.D.Disk.moment v.disk) (g.D.Disk.moment c.self.inside.journal.disk)) c.self.view_is (takes_none _ _ _);
+  calls = subst (λ (v : View g.row.D.Denot). StoreTakes false v.waits v.version v.frames (g.D.Disk.moment v.disk) (g.D.Disk.moment c.self.inside.journal.disk)) c.self.view_is (takes_none _ _ _ _);
   faults = search rules;
 }
 

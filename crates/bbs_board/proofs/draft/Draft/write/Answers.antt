@@ -4,9 +4,10 @@ use Rattle.cell_records.specs.declared.cell_row.CellRow.{CellRow}
 use Rattle.lrp_records.specs.declared.actual.Actual.{Actual}
 use Rattle.lrp_records.specs.declared.desired.Desired.{Desired}
 use Rattle.task_records.specs.declared.task.Task.{Task}
+use Rattle.bbs_model.specs.declared.domain_row.DomainRow.{DomainRow}
 use Rattle.bbs_codec.specs.Formats.{desired}
 use Rattle.head_codec.specs.Head.{Counts, counts, head_counts, head_spelled}
-use Rattle.bbs_codec.specs.RowFormats.{actual, task_row, cell_row}
+use Rattle.bbs_codec.specs.RowFormats.{actual, task_row, cell_row, domain_row}
 use Rattle.bbs_board.proofs.Drafting.{texts_joined}
 use Rattle.bbs_board.proofs.draft.Draft.write.Goals as goal
 
@@ -19,8 +20,10 @@ returns-clause-bytes c =
     let a = ap (λ (l : List Actual). flat_map actual.spelling l) c.actual_shelf.ensures in
     let t = ap (λ (l : List Task). flat_map task_row.spelling l) c.tasks_shelf.ensures in
     let r = ap (λ (l : List CellRow). flat_map cell_row.spelling l) c.cells_shelf.ensures in
-    put c.put_rows-4.ensures.bytes (put c.put_rows-3.ensures.bytes (put c.put_rows-2.ensures.bytes (put c.put_rows.ensures.bytes front d) a) t) r
+    let m = ap (λ (l : List DomainRow). flat_map domain_row.spelling l) c.domains_shelf.ensures in
+    put c.put_rows-5.ensures.bytes (put c.put_rows-4.ensures.bytes (put c.put_rows-3.ensures.bytes (put c.put_rows-2.ensures.bytes (put c.put_rows.ensures.bytes front d) a) t) r) m
     ∙ texts_joined (counts.spelling (head_counts rows)) (flat_map desired.spelling rows.desired) (flat_map actual.spelling rows.actual) (flat_map task_row.spelling rows.tasks) (flat_map cell_row.spelling rows.cells)
+    (flat_map domain_row.spelling rows.domains)
   where
     put : {new old text whole more : List ℕ} → new ≡ old ++ text → old ≡ whole → text ≡ more → new ≡ whole ++ more
     put e g h = cc
