@@ -4,6 +4,7 @@ mod calls;
 mod defects;
 mod failing;
 mod heads;
+mod old;
 mod stops;
 
 use crate::asserts::{are_bytes, holds, is_end, is_number};

@@ -4,6 +4,7 @@ mod faults;
 mod heads;
 mod last;
 mod life;
+mod old;
 mod stops;
 
 use crate::asserts::{are_bytes, is_outcome};

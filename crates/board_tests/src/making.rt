@@ -3,9 +3,9 @@
 use bbs_board::{Board, Closed, KeptIn, load, prepare};
 use bbs_model::{Command, Op, Rows};
 use crash_backoff::Moment;
-use diego_names::Name;
+use diego_names::{Key, Name};
 use disk_trait::{Area, Disk, MemoryDisk};
-use lrp_records::Desired;
+use lrp_records::{Actual, Desired, LrpState, Presence};
 use std::alloc::Global;
 use std::test::Fail;
 
@@ -99,6 +99,28 @@ pub fn wanted(process: &[u8], domain: &[u8], instances: u32) -> Result<Desired, 
         tag: None,
         route: None,
         port: 8080,
+    })
+}
+
+/// The row of the first instance of a process, since second 5 and in a domain, if it has one.
+pub fn instance(
+    process: &[u8],
+    presence: Presence,
+    state: LrpState,
+    domain: Option<Name>,
+) -> Result<Actual, Fail> {
+    let key = Key {
+        process: Name::read(process)?,
+        index: 0,
+    };
+    Ok(Actual {
+        key,
+        presence,
+        state,
+        count: 0,
+        since: Moment(5),
+        error: false,
+        domain,
     })
 }
 

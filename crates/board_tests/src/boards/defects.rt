@@ -1,6 +1,6 @@
 //! Where the first defect of an area is told.
 use crate::asserts::are_bytes;
-use crate::bytes::{EMPTY, STORED, changed};
+use crate::bytes::{EMPTY, OLD_EMPTY, OLD_STORED, STORED, changed};
 use crate::making::disk_of;
 use bbs_board::{LoadFault, load_from_memory};
 use disk_trait::{Area, MemoryDisk};
@@ -46,8 +46,8 @@ pub fn is_damaged(rt: &impl Abort, alloc: Global, a: &[u8], at: u64) -> Result<(
 
 // The frame of the desire twice, so that the second isn't legal, and this behind it.
 fn stored_twice(alloc: Global, behind: &[u8]) -> Result<Vec<u8>, Fail> {
-    let mut twice = STORED[..80].to_vec(alloc)?;
-    twice.extend_from_slice(&STORED[47..80])?;
+    let mut twice = STORED[..84].to_vec(alloc)?;
+    twice.extend_from_slice(&STORED[51..84])?;
     twice.extend_from_slice(behind)?;
     Ok(twice)
 }
@@ -57,16 +57,16 @@ fn a_payload_that_is_no_command_is_damaged_at_its_gate(rt: HostRuntime) -> Resul
     let alloc = rt.alloc();
     let cases: [(usize, u8); 5] = [
         // Kinds that there aren't, and a name that is none.
-        (50, 0),
-        (50, 26),
-        (56, b' '),
+        (54, 0),
+        (54, 30),
+        (60, b' '),
         // A Join without its last byte, and an Undesire with bytes behind it.
-        (50, 22),
-        (50, 3),
+        (54, 22),
+        (54, 3),
     ];
     for (place, value) in cases {
         let bytes = changed(alloc, &STORED, place, value)?;
-        is_damaged(&rt, alloc, &bytes, 47)?;
+        is_damaged(&rt, alloc, &bytes, 51)?;
     }
     Ok(())
 }
@@ -74,22 +74,22 @@ fn a_payload_that_is_no_command_is_damaged_at_its_gate(rt: HostRuntime) -> Resul
 #[test]
 fn a_command_that_is_not_legal_there_is_damaged_at_its_gate(rt: HostRuntime) -> Result<(), Fail> {
     let alloc = rt.alloc();
-    is_damaged(&rt, alloc, &stored_twice(alloc, b"\0")?, 80)?;
+    is_damaged(&rt, alloc, &stored_twice(alloc, b"\0")?, 84)?;
     // It stands in front of a frame that isn't whole.
-    is_damaged(&rt, alloc, &stored_twice(alloc, b"\x01\x00")?, 80)?;
+    is_damaged(&rt, alloc, &stored_twice(alloc, b"\x01\x00")?, 84)?;
     // 1,027 instances of a process.
-    is_damaged(&rt, alloc, &changed(alloc, &STORED, 66, 4)?, 47)
+    is_damaged(&rt, alloc, &changed(alloc, &STORED, 70, 4)?, 51)
 }
 
 #[test]
 fn a_defect_behind_the_frames_is_told_at_its_place(rt: HostRuntime) -> Result<(), Fail> {
     let alloc = rt.alloc();
     // No gate, a frame that isn't whole, and one of no bytes.
-    is_damaged(&rt, alloc, &EMPTY[..47], 47)?;
-    is_damaged(&rt, alloc, &STORED[..79], 47)?;
-    is_damaged(&rt, alloc, &changed(alloc, &STORED, 49, 0)?, 47)?;
-    is_damaged(&rt, alloc, &STORED[..80], 80)?;
-    is_damaged(&rt, alloc, &changed(alloc, &STORED, 80, 1)?, 80)
+    is_damaged(&rt, alloc, &EMPTY[..51], 51)?;
+    is_damaged(&rt, alloc, &STORED[..83], 51)?;
+    is_damaged(&rt, alloc, &changed(alloc, &STORED, 53, 0)?, 51)?;
+    is_damaged(&rt, alloc, &STORED[..84], 84)?;
+    is_damaged(&rt, alloc, &changed(alloc, &STORED, 84, 1)?, 84)
 }
 
 #[test]
@@ -102,7 +102,9 @@ fn what_the_journal_refuses_is_told_first(rt: HostRuntime) -> Result<(), Fail> {
     is_fault(&rt, fault_of(&rt, alloc, &STORED, b"\x01D")?, other);
     let both = LoadFault::Damaged { area: b, at: 11 };
     is_fault(&rt, fault_of(&rt, alloc, &STORED, &EMPTY)?, both);
-    // A generation above the transitions of the head and 1, and an area that is shorter than its head.
-    is_damaged(&rt, alloc, &changed(alloc, &STORED, 18, 2)?, 11)?;
-    is_damaged(&rt, alloc, &EMPTY[..46], 46)
+    // A generation above the transitions of the head and the version, and an area that is shorter than its head.
+    is_damaged(&rt, alloc, &changed(alloc, &STORED, 18, 3)?, 11)?;
+    is_damaged(&rt, alloc, &changed(alloc, &OLD_STORED, 18, 2)?, 11)?;
+    is_damaged(&rt, alloc, &EMPTY[..50], 50)?;
+    is_damaged(&rt, alloc, &OLD_EMPTY[..46], 46)
 }

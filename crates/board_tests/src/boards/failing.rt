@@ -73,7 +73,7 @@ fn has_gate(
     (_failing, clock, gate): (&[u64], u64, u8),
 ) -> Result<(), Fail> {
     is_number(rt, disk.clock(), clock);
-    holds(rt, disk.bytes(Area::A).get(47) == Some(&gate));
+    holds(rt, disk.bytes(Area::A).get(51) == Some(&gate));
     let names = desired_in(alloc, disk.bytes(Area::A), disk.bytes(Area::B))?;
     holds(rt, names.is_empty() == (gate == 0));
     Ok(())

@@ -3,8 +3,8 @@ use super::defects::is_damaged;
 use super::{Step, desire, done, play, refused, rows_of};
 use crate::asserts::{holds, is_number};
 use crate::bytes::{HEAD, area, changed};
-use crate::making::{at, disk_of, wanted};
-use bbs_model::{BoardRefusal, Command, Item, Op, Rows};
+use crate::making::{at, disk_of, instance, wanted};
+use bbs_model::{BoardRefusal, Command, DomainRow, Item, Op, Rows};
 use cell_records::{Amounts, CellRow};
 use crash_backoff::Moment;
 use diego_names::{Instance, Key, Name};
@@ -35,14 +35,13 @@ fn claimed() -> Result<Actual, Fail> {
         instance: container(1),
         cell: Name::read(b"c1")?,
     };
-    Ok(Actual {
-        key: web_0()?,
-        presence: Presence::Ordinary,
+    let row = instance(
+        b"web",
+        Presence::Ordinary,
         state,
-        count: 0,
-        since: Moment(5),
-        error: true,
-    })
+        Some(Name::read(b"apps")?),
+    )?;
+    Ok(Actual { error: true, ..row })
 }
 
 fn evacuating() -> Result<Actual, Fail> {
@@ -50,13 +49,11 @@ fn evacuating() -> Result<Actual, Fail> {
         instance: container(2),
         cell: Name::read(b"c1")?,
     };
+    let row = instance(b"web", Presence::Evacuating, state, None)?;
     Ok(Actual {
-        key: web_0()?,
-        presence: Presence::Evacuating,
-        state,
         count: 2,
         since: Moment(4),
-        error: false,
+        ..row
     })
 }
 
@@ -89,6 +86,13 @@ fn emptied() -> Result<CellRow, Fail> {
     })
 }
 
+fn leased() -> Result<DomainRow, Fail> {
+    Ok(DomainRow {
+        domain: Name::read(b"apps")?,
+        until: Some(60),
+    })
+}
+
 fn drop_evacuating() -> Result<Command, Fail> {
     let drop = Op::DropEvacuating {
         key: web_0()?,
@@ -112,6 +116,7 @@ fn has_rows(rt: &impl Abort, rows: &Rows, actual: &[Actual], next: u64) -> Resul
     );
     holds(rt, rows.tasks.items() == [completed()?].as_slice());
     holds(rt, rows.cells.items() == [emptied()?].as_slice());
+    holds(rt, rows.domains.items() == [leased()?].as_slice());
     holds(rt, rows.actual.items() == actual);
     is_number(rt, rows.next, next);
     Ok(())
@@ -163,25 +168,29 @@ fn a_call_is_answered_at_the_rows_of_a_head(rt: HostRuntime) -> Result<(), Fail>
 #[test]
 fn the_first_defect_of_a_head_is_told_at_its_place(rt: HostRuntime) -> Result<(), Fail> {
     let alloc = rt.alloc();
-    let cases: [(usize, u8, u64); 11] = [
-        // 1,048,585 transitions.
-        (5, 16, 23),
+    let cases: [(usize, u8, u64); 14] = [
+        // More than 2 to the power of 40 transitions.
+        (2, 1, 23),
         // A second desired row, where the actual rows begin.
-        (11, 2, 23 + 49),
+        (11, 2, 23 + 53),
         // A process without a name, and one of 1,027 instances.
-        (24, 0, 23 + 24),
-        (35, 4, 23 + 24),
+        (28, 0, 23 + 28),
+        (39, 4, 23 + 28),
         // A claim by a cell of the next transition.
-        (66, 9, 23 + 49),
-        // An EVACUATING row that is CLAIMED, and a second ORDINARY row of its key.
-        (92, 1, 23 + 83),
-        (91, 0, 23 + 83),
+        (70, 9, 23 + 53),
+        // An EVACUATING row that is CLAIMED, a second ORDINARY row of its key, and a presence that there isn't.
+        (101, 1, 23 + 92),
+        (100, 0, 23 + 92),
+        (100, 3, 23 + 92),
         // A task that is born with the next transition, and an outcome of 2.
-        (128, 9, 23 + 117),
-        (130, 2, 23 + 117),
+        (138, 9, 23 + 127),
+        (140, 2, 23 + 127),
         // A cell that isn't counted, and one that is neither emptied nor not.
-        (23, 0, 23 + 147),
-        (182, 2, 23 + 147),
+        (23, 0, 23 + 157),
+        (192, 2, 23 + 157),
+        // A domain that isn't counted, and one that is neither for ever nor until a moment.
+        (27, 0, 23 + 193),
+        (198, 2, 23 + 193),
     ];
     for (place, value, at) in cases {
         is_told(&rt, alloc, &changed(alloc, &HEAD, place, value)?, at)?;
@@ -200,12 +209,12 @@ fn the_frames_behind_a_head_are_told_at_their_gates(rt: HostRuntime) -> Result<(
     let alloc = rt.alloc();
     let mut twice = DROP.to_vec(alloc)?;
     twice.extend_from_slice(&DROP)?;
-    is_damaged(&rt, alloc, &area(alloc, &HEAD, b"")?, 206)?;
-    is_damaged(&rt, alloc, &area(alloc, &HEAD, &DROP)?, 234)?;
-    is_damaged(&rt, alloc, &area(alloc, &HEAD, &twice)?, 234)?;
+    is_damaged(&rt, alloc, &area(alloc, &HEAD, b"")?, 230)?;
+    is_damaged(&rt, alloc, &area(alloc, &HEAD, &DROP)?, 258)?;
+    is_damaged(&rt, alloc, &area(alloc, &HEAD, &twice)?, 258)?;
     // A head that ends before its rows do, and one that ends behind them.
-    is_damaged(&rt, alloc, &area(alloc, &HEAD[..182], b"\0")?, 23 + 147)?;
+    is_damaged(&rt, alloc, &area(alloc, &HEAD[..206], b"\0")?, 23 + 193)?;
     let mut longer = HEAD.to_vec(alloc)?;
     longer.push(0)?;
-    is_damaged(&rt, alloc, &area(alloc, &longer, b"\0")?, 206)
+    is_damaged(&rt, alloc, &area(alloc, &longer, b"\0")?, 230)
 }

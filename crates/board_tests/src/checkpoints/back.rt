@@ -33,9 +33,9 @@ fn a_checkpoint_of_an_area_without_frames_does_nothing(rt: HostRuntime) -> Resul
 }
 
 // The area of generation 3 after eleven transitions.
-const BACK: [u8; 68] = *b"\x01DIEGOBBS\x00\x01\x00\x00\x00\x00\x00\x00\x00\x03\x00\x00\x00\x2c\
+const BACK: [u8; 72] = *b"\x01DIEGOBBS\x00\x02\x00\x00\x00\x00\x00\x00\x00\x03\x00\x00\x00\x30\
 \x00\x00\x00\x00\x00\x00\x00\x0b\
-\x00\x00\x00\x01\x00\x00\x00\x00\x00\x00\x00\x00\x00\x00\x00\x00\
+\x00\x00\x00\x01\x00\x00\x00\x00\x00\x00\x00\x00\x00\x00\x00\x00\x00\x00\x00\x00\
 \x01w\x01w\x00\x00\x00\x01\x00\x00\x00\x40\x00\x00\x00\x80\x00\x00\x1f\x90\x00";
 
 // A checkpoint, one that finds nothing to do, a transition, and a checkpoint back into the area that was
@@ -91,10 +91,10 @@ fn is_free(rt: &impl Abort, alloc: Global, area: &[u8], other: &[u8]) -> Result<
 // open gates.
 fn is_back(rt: &impl Abort, alloc: Global, old: &[u8], a: &[u8], b: &[u8]) -> Result<(), Fail> {
     // A head without rows, a frame of 28 bytes and nine of 17, and a gate.
-    is_number(rt, old.len() as u64, 229);
-    is_number(rt, a.len() as u64, 229);
+    is_number(rt, old.len() as u64, 233);
+    is_number(rt, a.len() as u64, 233);
     holds(rt, a.starts_with(&BACK));
-    holds(rt, a.get(68..) == old.get(68..));
+    holds(rt, a.get(72..) == old.get(72..));
     is_free(rt, alloc, a, b)?;
     is_free(rt, alloc, &BACK, b)?;
     let mut open = BACK.to_vec(alloc)?;

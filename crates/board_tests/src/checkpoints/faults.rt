@@ -34,8 +34,8 @@ fn goes_on<D: Disk + Drop>(
     (disk_in(board), done)
 }
 
-// The call fails and is a doubt, and what is called then is done in the end.
-fn doubts<D: Disk + Drop>(
+/// The call fails and is a doubt, and what is called then is done in the end.
+pub fn doubts<D: Disk + Drop>(
     rt: &impl Abort,
     mut board: Board<D>,
     doubt: Command,
@@ -46,7 +46,8 @@ fn doubts<D: Disk + Drop>(
     (disk_in(board), done)
 }
 
-fn offers() -> Result<[(u8, Command); 3], Fail> {
+/// Three processes that may be made known, each by its letter.
+pub fn offers() -> Result<[(u8, Command); 3], Fail> {
     Ok([
         (b'n', desire(b'n', 1)?),
         (b'o', desire(b'o', 1)?),
@@ -66,8 +67,8 @@ fn is_found(
     are_named(rt, alloc, &found.rows, names)
 }
 
-// Each stop behind these calls leaves a board there, with the process that was done and the others.
-fn leaves(
+/// Each stop behind these calls leaves a board there, with the process that was done and the others.
+pub fn leaves(
     rt: &impl Abort,
     alloc: Global,
     disk: &mut MemoryDisk,

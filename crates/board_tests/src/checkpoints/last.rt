@@ -7,14 +7,14 @@ use std::alloc::Global;
 use std::test::Fail;
 
 // An area of the last generation after no transition.
-const FIRST: [u8; 48] = *b"\x01DIEGOBBS\x00\x01\xff\xff\xff\xff\xff\xff\xff\xff\
-\x00\x00\x00\x18\x00\x00\x00\x00\x00\x00\x00\x00\x00\x00\x00\x00\x00\x00\x00\x00\x00\x00\x00\x00\
-\x00\x00\x00\x00\x00";
+const FIRST: [u8; 52] = *b"\x01DIEGOBBS\x00\x02\xff\xff\xff\xff\xff\xff\xff\xff\
+\x00\x00\x00\x1c\x00\x00\x00\x00\x00\x00\x00\x00\x00\x00\x00\x00\x00\x00\x00\x00\x00\x00\x00\x00\
+\x00\x00\x00\x00\x00\x00\x00\x00\x00";
 
 // The same after as many transitions as its generation asks for.
-const LAST: [u8; 48] = *b"\x01DIEGOBBS\x00\x01\xff\xff\xff\xff\xff\xff\xff\xff\
-\x00\x00\x00\x18\xff\xff\xff\xff\xff\xff\xff\xfe\x00\x00\x00\x00\x00\x00\x00\x00\x00\x00\x00\x00\
-\x00\x00\x00\x00\x00";
+const LAST: [u8; 52] = *b"\x01DIEGOBBS\x00\x02\xff\xff\xff\xff\xff\xff\xff\xff\
+\x00\x00\x00\x1c\xff\xff\xff\xff\xff\xff\xff\xfe\x00\x00\x00\x00\x00\x00\x00\x00\x00\x00\x00\x00\
+\x00\x00\x00\x00\x00\x00\x00\x00\x00";
 
 fn refusal<D: Disk + Drop>(alloc: Global, disk: D) -> Option<LoadFault> {
     match load(alloc, disk) {
@@ -26,7 +26,7 @@ fn refusal<D: Disk + Drop>(alloc: Global, disk: D) -> Option<LoadFault> {
 #[test]
 fn no_board_is_loaded_from_the_last_generation(rt: HostRuntime) -> Result<(), Fail> {
     let alloc = rt.alloc();
-    // A generation is at most one more than the number of transitions, which has a limit of its own.
+    // A generation is at most two more than the number of transitions, which has a limit of its own.
     for (area, at) in [(&FIRST, 11), (&LAST, 23)] {
         let fault = refusal(alloc, disk_of(alloc, area, b"", &[])?);
         holds(&rt, fault == Some(LoadFault::Damaged { area: Area::A, at }));

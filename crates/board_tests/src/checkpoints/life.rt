@@ -61,7 +61,7 @@ pub fn lived(
     Ok(passes(rt, board, &life, stations))
 }
 
-/// How many device calls the load of a full area makes: its 69,691 bytes are read in two pieces.
+/// How many device calls the load of a full area makes: its 69,695 bytes are read in two pieces.
 pub const FULL_CALLS: u64 = 8;
 
 /// An area of generation 1 with so many frames.

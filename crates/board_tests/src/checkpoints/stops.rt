@@ -37,7 +37,7 @@ fn is_area_at(rt: &impl Abort, left_over: u64, got: Area, wanted: Area) {
     assert_eq!(rt; got, wanted, "{left_over} calls were left");
 }
 
-const TORN: [Torn; 3] = [Torn::Old, Torn::New, Torn::Byte(7)];
+pub const TORN: [Torn; 3] = [Torn::Old, Torn::New, Torn::Byte(7)];
 
 // The call within which a stop was, how many were left then, and what was torn.
 type Stop = (u64, u64, Torn);

@@ -167,6 +167,7 @@ fn told(event: &Event) -> (char, bool) {
         Row::Actual(_) => 'a',
         Row::Task(_) => 't',
         Row::Cell(_) => 'c',
+        Row::Domain(_) => 'f',
     };
     (table, event.change == Change::Created)
 }
