@@ -1,5 +1,5 @@
 -- A command that is done again leaves valid rows, and tells whether it was legal.
-use Rattle.std.proofs.Common.{◌≡◌, Bool, true, false, Option, Some, None, Result, Ok, Err, IfOk, refl, sym, ap, subst}
+use Rattle.std.proofs.Common.{◌≡◌, Bool, true, false, Some, None, Result, Ok, Err, IfOk, refl, sym, ap, subst}
 use Rattle.std.specs.Bool.{MatchBool}
 use Rattle.std.specs.Prelude.{OnErr}
 use Rattle.bbs_index.specs.Redone.{IsRedone}

@@ -1,5 +1,5 @@
 -- The rows that a board begins with by a head of version 1: they are valid as those of the head are.
-use Rattle.std.proofs.Common.{◌≡◌, inl, inr, ℕ, ◌≤◌, Bool, true, false, ◌&&◌, T, List, [], ◌∷◌, length, map, Result, Ok, Err, refl, sym, ap, subst, ◌∙◌, arith, IfOk, if◌then◌else◌, ◌==◌}
+use Rattle.std.proofs.Common.{◌≡◌, inl, inr, ℕ, ◌≤◌, Bool, true, false, ◌&&◌, T, List, [], ◌∷◌, map, Result, Ok, Err, refl, sym, ap, subst, ◌∙◌, arith, IfOk, if◌then◌else◌, ◌==◌}
 use Rattle.std.specs.FinMap.Entries.{is_sorted, below_all}
 use Rattle.std.specs.List.{AllByRecursion}
 use Rattle.std.specs.Ordering.{is_lt}
@@ -10,7 +10,7 @@ use Rattle.lrp_records.specs.Place.{place_of, place_order}
 use Rattle.lrp_records.specs.declared.actual.Actual.{Actual}
 use Rattle.lrp_records.specs.declared.presence.Presence.{Presence}
 use Rattle.lrp_records.specs.declared.presence.Presence.TheVariants.{Ordinary, Evacuating, Suspect}
-use Rattle.row_tables.specs.Table.{keyed, IsRising}
+use Rattle.row_tables.specs.Table.{keyed}
 use Rattle.head_codec.specs.Head.{head_reading}
 use Rattle.bbs_codec.specs.declared.fault.CodecFault.{CodecFault}
 use Rattle.bbs_journal.specs.Header.{IsVersion}

@@ -1,8 +1,8 @@
-use Rattle.std.proofs.Common.{◌≡◌, ◌+◌, length, sym, subst, arith}
+use Rattle.std.proofs.Common.{sym, subst}
 use Rattle.std.proofs.lemmas.Result.{err_from_is_err_and}
 use Rattle.bbs_journal.specs.Reading.{payloads_of}
 use Rattle.bbs_journal.specs.declared.load_fault.LoadFault.{LoadFault}
-use Rattle.bbs_board.specs.Opening.{Gives, Blames, board_of}
+use Rattle.bbs_board.specs.Opening.{Blames, board_of}
 use Rattle.bbs_board.proofs.Loaded.{board_blames}
 use Rattle.bbs_board.proofs.loading.board_of.Goals as goal
 

@@ -1,4 +1,3 @@
-use Rattle.std.proofs.Common.{◌∙◌}
 use Rattle.disk_trait.specs.Memory.{memory_past}
 use Rattle.bbs_board.specs.Opening.{IsBoard}
 use Rattle.bbs_board.proofs.Loaded.{shown_before}
