@@ -17,7 +17,7 @@ use Rattle.bbs_shared.specs.contracts.origin.Origin as origin
 use Rattle.bbs_shared.specs.contracts.shared_board.SharedBoard as shared
 
 pub board_send : (D : RattleType) (g : Ghosts D.Denot) → IsSend D → IsSend (board.the_row D g)
-board_send D g s = search (sendable, crosses, history.the_send, journal.the_send, index.the_send) depth 40
+board_send D g s = search (sendable, crosses, history.the_send, journal.the_send, index.the_send) depth 40 fits 4000
 
 pub at_desk_send : (D : RattleType) (g : Ghosts D.Denot) → IsSend D → IsSend (at_desk.the_row D g)
 at_desk_send D g s = search (sendable, crosses, board_send) depth 40
