@@ -30,10 +30,25 @@ fn desire_of(process: &[u8]) -> Result<Command, Fail> {
     Ok(at(0, Op::Desire { desired }))
 }
 
+// That the process of this desire is wanted no more.
+fn end_of(desire: &Command) -> Command {
+    match desire.op {
+        Op::Desire { desired } => {
+            let process = desired.process;
+            at(0, Op::Undesire { process })
+        }
+        _ => *desire,
+    }
+}
+
 // A refusal leaves the board in its area, and the command after it moves it.
-fn moves<D: Disk + Drop>(rt: &impl Abort, mut board: Board<D>, web: Command, two: Command) -> D {
-    let why = BoardRefusal::Exists;
-    is_end(rt, board.call(1, web), Ok(Reply::Refused { why, place: 0 }));
+fn moves<D: Disk + Drop>(rt: &impl Abort, mut board: Board<D>, two: Command) -> D {
+    let why = BoardRefusal::Unknown;
+    is_end(
+        rt,
+        board.call(1, end_of(&two)),
+        Ok(Reply::Refused { why, place: 0 }),
+    );
     is_kept(rt, board.kept_in(), kept(Area::A, 1, 1));
     is_number(rt, board.clock(), CALLS);
     is_end(rt, board.call(1, two), Ok(Reply::Ok { place: 0, stamp: 1 }));
@@ -50,9 +65,9 @@ fn has_areas(rt: &impl Abort, disk: &MemoryDisk, a: &[u8], b: &[u8]) {
 #[test]
 fn the_first_legal_command_moves_an_old_board(rt: HostRuntime) -> Result<(), Fail> {
     let alloc = rt.alloc();
-    let (web, two) = (desire_of(b"web")?, desire_of(b"two")?);
+    let two = desire_of(b"two")?;
     let board = loaded(alloc, disk_of(alloc, &OLD_STORED, b"", &[])?)?;
-    let disk = moves(&rt, board, web, two);
+    let disk = moves(&rt, board, two);
     has_areas(&rt, &disk, &OLD_STORED, &MOVED);
     Ok(())
 }

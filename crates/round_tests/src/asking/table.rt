@@ -52,23 +52,47 @@ fn wanted_instances_are_made_and_others_removed(rt: HostRuntime) -> Result<(), F
     each_asks(&rt, rt.alloc(), &cases)
 }
 
+// What is said of the container of the first instance on the cell that joined as the third command.
+fn claim_of(process: Name, cell: Name) -> Op {
+    let (key, instance) = (first(process), container(2));
+    Op::Claim {
+        key,
+        instance,
+        cell,
+    }
+}
+
+fn return_of(process: Name) -> Op {
+    let (key, instance) = (first(process), container(2));
+    Op::Unclaim { key, instance }
+}
+
+fn suspicion_of(process: Name) -> Op {
+    let (key, instance) = (first(process), container(2));
+    Op::Suspect { key, instance }
+}
+
+fn end_of_suspicion(process: Name) -> Op {
+    let (key, instance) = (first(process), container(2));
+    Op::DropSuspect { key, instance }
+}
+
 #[test]
 fn rows_whose_cell_is_gone_are_suspected_or_unclaimed(rt: HostRuntime) -> Result<(), Fail> {
     let names = read_names()?;
     let (process, cell) = (names.web, names.a);
-    let (key, instance) = (first(process), container(2));
     let running = [
         desire(process, 1),
         make(process),
         join(cell, 30),
         start(process, 2, cell),
     ];
-    let claim = Op::Claim {
-        key,
-        instance,
-        cell,
-    };
-    let claimed = [running[0], running[1], running[2], at(0, claim)];
+    let claimed = [
+        running[0],
+        running[1],
+        running[2],
+        at(0, claim_of(process, cell)),
+    ];
     let unwanted = [
         running[0],
         running[1],
@@ -76,8 +100,8 @@ fn rows_whose_cell_is_gone_are_suspected_or_unclaimed(rt: HostRuntime) -> Result
         running[3],
         at(0, Op::Undesire { process }),
     ];
-    let lost = [Op::Vanish { cell }, Op::Suspect { key, instance }];
-    let given_back = [Op::Vanish { cell }, Op::Unclaim { key, instance }];
+    let lost = [Op::Vanish { cell }, suspicion_of(process)];
+    let given_back = [Op::Vanish { cell }, return_of(process)];
     let cases = [
         (running.as_slice(), 30, lost.as_slice()),
         (running.as_slice(), 29, &[]),
@@ -176,14 +200,13 @@ fn evacuating_rows_stay_until_their_use_is_over(rt: HostRuntime) -> Result<(), F
 fn suspected_rows_stay_until_their_use_is_over(rt: HostRuntime) -> Result<(), Fail> {
     let names = read_names()?;
     let (process, a, b) = (names.web, names.a, names.b);
-    let (key, instance) = (first(process), container(2));
     let silent = [
         desire(process, 1),
         make(process),
         join(a, 30),
         join(b, 90),
         start(process, 2, a),
-        at(30, Op::Suspect { key, instance }),
+        at(30, suspicion_of(process)),
         at(30, Op::Vanish { cell: a }),
     ];
     let six = [
@@ -208,7 +231,7 @@ fn suspected_rows_stay_until_their_use_is_over(rt: HostRuntime) -> Result<(), Fa
         at(30, Op::Undesire { process }),
     ];
     let anew = [six[0], six[1], six[2], six[3], six[4], six[5], join(a, 90)];
-    let dropped = [Op::DropSuspect { key, instance }];
+    let dropped = [end_of_suspicion(process)];
     let vanished = [Op::Vanish { cell: a }, dropped[0]];
     let cases = [
         (silent.as_slice(), 31, [].as_slice()),
