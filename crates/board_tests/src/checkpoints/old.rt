@@ -7,8 +7,11 @@ use crate::bytes::{OLD_EMPTY, OLD_STORED};
 use crate::making::{Opened, at, desire, disk_in, disk_of, kept, loaded, wanted};
 use bbs_board::Board;
 use bbs_model::{BoardRefusal, Command, Op, Reply};
+use diego_names::Name;
 use disk_trait::{Area, Disk, MemoryDisk, Torn};
+use lrp_records::Desired;
 use std::alloc::Global;
+use std::panic::Expect;
 use std::process::Abort;
 use std::test::Fail;
 
@@ -30,6 +33,20 @@ fn desire_of(process: &[u8]) -> Result<Command, Fail> {
     Ok(at(0, Op::Desire { desired }))
 }
 
+fn two_of(rt: &impl Abort) -> Command {
+    let desired = Desired {
+        process: Name::read(b"two").expect(rt, "a name"),
+        domain: Name::read(b"apps").expect(rt, "a name"),
+        instances: 3,
+        memory: 64,
+        disk: 128,
+        tag: None,
+        route: None,
+        port: 8080,
+    };
+    at(0, Op::Desire { desired })
+}
+
 // That the process of this desire is wanted no more.
 fn end_of(desire: &Command) -> Command {
     match desire.op {
@@ -42,7 +59,8 @@ fn end_of(desire: &Command) -> Command {
 }
 
 // A refusal leaves the board in its area, and the command after it moves it.
-fn moves<D: Disk + Drop>(rt: &impl Abort, mut board: Board<D>, two: Command) -> D {
+fn moves<D: Disk + Drop>(rt: &impl Abort, mut board: Board<D>) -> D {
+    let two = two_of(rt);
     let why = BoardRefusal::Unknown;
     is_end(
         rt,
@@ -65,9 +83,8 @@ fn has_areas(rt: &impl Abort, disk: &MemoryDisk, a: &[u8], b: &[u8]) {
 #[test]
 fn the_first_legal_command_moves_an_old_board(rt: HostRuntime) -> Result<(), Fail> {
     let alloc = rt.alloc();
-    let two = desire_of(b"two")?;
     let board = loaded(alloc, disk_of(alloc, &OLD_STORED, b"", &[])?)?;
-    let disk = moves(&rt, board, two);
+    let disk = moves(&rt, board);
     has_areas(&rt, &disk, &OLD_STORED, &MOVED);
     Ok(())
 }
