@@ -234,10 +234,10 @@ fn suspected_rows_stay_until_their_use_is_over(rt: HostRuntime) -> Result<(), Fa
     let dropped = [end_of_suspicion(process)];
     let vanished = [Op::Vanish { cell: a }, dropped[0]];
     let cases = [
-        (silent.as_slice(), 31, [].as_slice()),
         (replaced.as_slice(), 31, vanished.as_slice()),
         (forgotten.as_slice(), 31, vanished.as_slice()),
         (anew.as_slice(), 31, dropped.as_slice()),
+        (silent.as_slice(), 31, &[]),
     ];
     each_asks(&rt, rt.alloc(), &cases)
 }
