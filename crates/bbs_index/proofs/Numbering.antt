@@ -147,3 +147,10 @@ module _ {K X : Type 0} {R : K → K → Ordering} (o : IsKeyOrder R) {eq : K �
   AreNumbered-sorted [] shelf unique [] order are moved sorted = ap (map (slice_get [])) (nothing order moved)
   AreNumbered-sorted [] shelf unique (n ∷ ns) order are moved sorted = cc
   AreNumbered-sorted (e ∷ es) shelf unique numbers order are moved sorted = AreNumbered-ordered o laws ties key (e ∷ es) shelf unique e.1 numbers order are moved sorted
+
+  -- the same where the keys are told as a list
+  pub AreNumbered-by_keys : (es : List (K × X)) → IsShelf R eq key es → IsDistinct eq (map (λ e. e.0) es) → (keys : List K) → keys ≡ map (λ e. e.0) es → (numbers order : List ℕ)
+      → AreNumbered (map (λ e. e.1) es) numbers (map (λ e. e.1) es) → IsPermutation numbers order → IsSortedByKey (slice_get keys) (option_cmp R) order → AreNumbered (map (λ e. e.1) es) order (table_of R es)
+  AreNumbered-by_keys es shelf unique keys is numbers order are moved sorted =
+      let by_entry : (n : ℕ) → slice_get keys n ≡ option_map (λ e. e.0) (slice_get es n) = λ n. ap (λ ks. slice_get ks n) is ∙ slice_get-map (λ e. e.0) es n in
+      AreNumbered-sorted es shelf unique numbers order are moved (subst (λ k. IsSortedByKey k (option_cmp R) order) (λ i n. by_entry n i) sorted)

@@ -1,4 +1,5 @@
 pub mod Shelf
 pub mod Order
 pub mod Index
+pub mod Room
 pub mod Redone

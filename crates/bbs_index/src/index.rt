@@ -16,8 +16,8 @@ use std::marker::Model;
 use task_records::Task;
 
 /// A store of a board's rows. Every look-up, put and removal is a constant number of map
-/// operations; only `of`, `rows` and `keys_on` walk a table, and these and `reserve` alone take
-/// memory.
+/// operations; only `of`, `rows`, `fill` and `keys_on` walk a table. `fill` takes no memory; the others of
+/// these do, and `reserve`.
 #[derive(Drop)]
 pub struct Index {
     pub(crate) desired: Shelf<Desired>,

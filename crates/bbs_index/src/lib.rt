@@ -7,6 +7,7 @@ mod index;
 mod order;
 mod placed;
 mod redoing;
+mod row_room;
 mod row_store;
 mod shelf;
 mod sorted;
@@ -14,4 +15,5 @@ mod wanted;
 
 pub use index::Index;
 pub use order::Order;
+pub use row_room::RowRoom;
 pub use shelf::Shelf;

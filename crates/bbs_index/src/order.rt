@@ -4,6 +4,7 @@ ghost use Rattle.std.specs.List.Sorted.{IsPermutation, IsSortedByKey};
 ghost use Rattle.std.specs.Option.{option_cmp};
 ghost use Rattle.bbs_index.specs.Order.{AreBelow, IsOrder};
 
+use crate::row_room::make_room;
 use crate::sorted::sort_numbers;
 use bbs_model::Rowed;
 use std::alloc::{AllocError, Global};
@@ -84,8 +85,7 @@ impl Order {
         ensures succeeds { count ≤ self.old.room → IsOk result }
         ensures kept { self.old.room ≤ self.new.room }
     {
-        self.numbers
-            .reserve(count.saturating_sub(self.numbers.len()))
+        make_room(&mut self.numbers, count)
     }
 
     /// The numbers in their order.

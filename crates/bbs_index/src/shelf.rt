@@ -1,6 +1,6 @@
 //! A shelf is a map from each row's key to the row, and contracts see it as the table of its rows.
 
-ghost use Rattle.std.specs.Prelude.{◌≡◌, ℕ, ◌<◌, ◌≤◌, ◌^◌, [], length, slice_get, slice_index_or, Some, IfSome, IsOk, IfOk, OnOk};
+ghost use Rattle.std.specs.Prelude.{◌≡◌, ℕ, ◌<◌, ◌≤◌, ◌^◌, [], length, slice_get, slice_index_or, vec_capacity, Some, IfSome, IsOk, IfOk, OnOk};
 ghost use Rattle.std.specs.List.Sorted.{IsSortedByKey};
 ghost use Rattle.std.specs.Option.{option_map, option_copied, option_and_then};
 ghost use Rattle.row_tables.specs.Table.{find_row, put_row, without_row, IsRising};
@@ -9,7 +9,7 @@ ghost use Rattle.bbs_index.specs.Shelf.{AreNumbered};
 
 use crate::Order;
 use crate::entries::{put_entry, put_entry_at, remove_entry};
-use crate::sorted::{compare_at, order_entries, sorted_rows};
+use crate::sorted::{compare_at, fill_rows, order_entries, sorted_rows};
 use bbs_model::Rowed;
 use indexmap::IndexMap;
 use std::alloc::{AllocError, Global};
@@ -177,6 +177,18 @@ impl<X: Rowed> Shelf<X> {
         ensures room { order.new.room ≡ order.old.room }
     {
         order_entries(&self.map, order);
+    }
+
+    /// Makes `rows` the rows in the order of their keys, by way of their numbers. There is room for both, so
+    /// that this takes no memory.
+    pub(crate) fn fill(&self, numbers: &mut Vec<usize>, rows: &mut Vec<X>)
+        requires numbers { length self.now.rows ≤ vec_capacity numbers.old }
+        requires rows { length self.now.rows ≤ vec_capacity rows.old }
+        ensures rows { rows.new.items ≡ self.now.rows }
+        ensures room { vec_capacity rows.new ≡ vec_capacity rows.old }
+        ensures kept { vec_capacity numbers.new ≡ vec_capacity numbers.old }
+    {
+        fill_rows(&self.map, numbers, rows);
     }
 
     /// The rows in the order of their keys. It fails only for want of memory.

@@ -1,5 +1,5 @@
 //! The order of a map's entries is made when they are read out.
-ghost use Rattle.std.specs.Prelude.{◌≡◌, ◌<◌, ◌≤◌, ◌^◌, slice_get, vec_capacity, IfOk};
+ghost use Rattle.std.specs.Prelude.{◌≡◌, ◌<◌, ◌≤◌, ◌^◌, length, slice_get, vec_capacity, IfOk};
 ghost use Rattle.std.specs.List.Sorted.{IsPermutation, IsSortedByKey};
 ghost use Rattle.std.specs.Option.{option_cmp};
 ghost use Rattle.indexmap.specs.IndexMap.{index_map_len, values};
@@ -47,38 +47,59 @@ pub(crate) fn order_entries<X: Rowed>(map: &IndexMap<X::Key, X>, order: &mut Ord
     order.follow::<X>(keys);
 }
 
-// The numbers of the entries in the order of their keys.
+// The numbers of the entries as they lie. There is room for them.
+fn number_entries<X: Rowed>(map: &IndexMap<X::Key, X>, numbers: &mut Vec<usize>)
+    requires { index_map_len map.now ≤ vec_capacity numbers.old }
+    ensures numbers { AreNumbered (values map.now) numbers.new.items (values map.now) }
+    ensures capacity { vec_capacity numbers.new ≡ vec_capacity numbers.old }
+{
+    numbers.clear();
+    for number in 0..map.len() {
+        numbers.push_reserved(number);
+    }
+}
+
+// The numbers of the entries in the order of their keys. The stable sort takes memory.
 fn sorted_numbers<X: Rowed>(
     alloc: Global,
     map: &IndexMap<X::Key, X>,
 ) -> Result<Vec<usize>, AllocError>
     requires { IsShelf X.Key.cmp X.Key.eq X.key map.now.entries }
-    ensures { IfOk result (λ order. AreNumbered (values map.now) order.items
+    ensures { IfOk result (λ numbers. AreNumbered (values map.now) numbers.items
         (table_of X.Key.cmp map.now.entries)) }
 {
-    let mut order: Vec<usize> = Vec::with_capacity(alloc, map.len())?;
-    for number in 0..map.len() {
-        order.push_reserved(number);
-    }
+    let mut numbers: Vec<usize> = Vec::with_capacity(alloc, map.len())?;
+    number_entries(map, &mut numbers);
     let keys = map.keys().as_slice();
-    order.sort_by(|first, second| compare_at(keys, *first, *second))?;
-    Ok(order)
+    numbers.sort_by(|first, second| compare_at(keys, *first, *second))?;
+    Ok(numbers)
 }
 
-// The rows of these numbers, one by one.
-fn rows_at<X: Rowed>(
-    alloc: Global,
-    map: &IndexMap<X::Key, X>,
-    order: &[usize],
-) -> Result<Vec<X>, AllocError>
-    requires { AreNumbered (values map.now) order.now (table_of X.Key.cmp map.now.entries) }
-    ensures { IfOk result (λ rows. rows.items ≡ table_of X.Key.cmp map.now.entries) }
+// The same in the room that there is, without memory.
+fn fill_numbers<X: Rowed>(map: &IndexMap<X::Key, X>, numbers: &mut Vec<usize>)
+    requires shelf { IsShelf X.Key.cmp X.Key.eq X.key map.now.entries }
+    requires room { index_map_len map.now ≤ vec_capacity numbers.old }
+    ensures numbers { AreNumbered (values map.now) numbers.new.items
+        (table_of X.Key.cmp map.now.entries) }
+    ensures capacity { vec_capacity numbers.new ≡ vec_capacity numbers.old }
 {
-    let mut rows = Vec::with_capacity(alloc, order.len())?;
-    for number in order {
+    number_entries(map, numbers);
+    let keys = map.keys().as_slice();
+    numbers.sort_unstable_by(|first, second| compare_at(keys, *first, *second));
+}
+
+// The rows of these numbers, one by one. There is room for them.
+fn fill_at<X: Rowed>(map: &IndexMap<X::Key, X>, numbers: &[usize], rows: &mut Vec<X>)
+    requires numbers { AreNumbered (values map.now) numbers.now
+        (table_of X.Key.cmp map.now.entries) }
+    requires room { length numbers.now ≤ vec_capacity rows.old }
+    ensures rows { rows.new.items ≡ table_of X.Key.cmp map.now.entries }
+    ensures capacity { vec_capacity rows.new ≡ vec_capacity rows.old }
+{
+    rows.clear();
+    for number in numbers {
         rows.push_reserved(map[*number]);
     }
-    Ok(rows)
 }
 
 // The rows in the order of the keys that they stand under. Numbers are sorted, since a row is long.
@@ -89,6 +110,25 @@ pub(crate) fn sorted_rows<X: Rowed>(
     requires { IsShelf X.Key.cmp X.Key.eq X.key map.now.entries }
     ensures { IfOk result (λ rows. rows.items ≡ table_of X.Key.cmp map.now.entries) }
 {
-    let order = sorted_numbers(alloc, map)?;
-    rows_at(alloc, map, order.as_slice())
+    let numbers = sorted_numbers(alloc, map)?;
+    let mut rows = Vec::with_capacity(alloc, numbers.len())?;
+    fill_at(map, numbers.as_slice(), &mut rows);
+    Ok(rows)
+}
+
+// The same in the room that there is, without memory.
+pub(crate) fn fill_rows<X: Rowed>(
+    map: &IndexMap<X::Key, X>,
+    numbers: &mut Vec<usize>,
+    rows: &mut Vec<X>,
+)
+    requires shelf { IsShelf X.Key.cmp X.Key.eq X.key map.now.entries }
+    requires numbers { index_map_len map.now ≤ vec_capacity numbers.old }
+    requires rows { index_map_len map.now ≤ vec_capacity rows.old }
+    ensures rows { rows.new.items ≡ table_of X.Key.cmp map.now.entries }
+    ensures room { vec_capacity rows.new ≡ vec_capacity rows.old }
+    ensures kept { vec_capacity numbers.new ≡ vec_capacity numbers.old }
+{
+    fill_numbers(map, numbers);
+    fill_at(map, numbers.as_slice(), rows);
 }

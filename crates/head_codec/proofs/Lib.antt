@@ -13,3 +13,4 @@ pub mod HeadAgain
 pub mod HeadNext
 pub mod Within
 pub mod HeadPlaces
+pub mod PutTexts

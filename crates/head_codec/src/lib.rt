@@ -5,6 +5,7 @@ mod fault;
 mod keeping;
 mod kept;
 mod laws;
+mod putting;
 mod reading;
 mod seen;
 mod table;
@@ -16,5 +17,6 @@ pub use laws::{
     head_faults_lie_within_the_bytes, heads_are_read_back, heads_begin_with_their_transitions,
     heads_have_one_spelling, no_head_begins_another,
 };
+pub use putting::put_head;
 pub use reading::read_head;
 pub use writing::{Counts, ROW_BYTES, append_front, append_row, write_head};

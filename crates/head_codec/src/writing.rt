@@ -68,7 +68,8 @@ fn append_rows<X: HeadRow>(out: &mut Vec<u8>, rows: &[X]) -> Result<(), OutOfMem
     Ok(())
 }
 
-fn counts(rows: &Rows) -> Counts
+/// What stands in front of the tables of these rows.
+pub(crate) fn counts(rows: &Rows) -> Counts
     requires { IsValid rows.now }
     ensures { result ≡ head_counts rows.now }
 {

@@ -1,11 +1,8 @@
-use Rattle.std.proofs.Common.{◌≡◌, ◌∙◌, ℕ, length, slice_get, sym, subst, ap}
+use Rattle.std.proofs.Common.{◌≡◌, ◌∙◌, length, sym, ap}
 use Rattle.std.specs.List.{range_with_len}
-use Rattle.std.specs.List.Sorted.{IsSortedByKey}
-use Rattle.std.specs.Option.{option_cmp, option_map}
 use Rattle.std.proofs.lemmas.List.{length-map}
-use Rattle.std.proofs.lemmas.Option.{slice_get-map}
 use Rattle.indexmap.specs.IndexMap.{values}
-use Rattle.bbs_index.proofs.Numbering.{AreNumbered-sorted}
+use Rattle.bbs_index.proofs.Numbering.{AreNumbered-by_keys}
 use Rattle.bbs_index.proofs.Ordering.{AreNumbered-range}
 use Rattle.bbs_index.proofs.sorted.order_entries.Goals as goal
 
@@ -15,9 +12,6 @@ returns-clause-rows g c =
     let rows = values c.args.map.now in
     let keys = c.as_slice-keys.result.now in
     let are = c.as_slice-keys.ensures ∙ c.keys.ensures.rest in
-    let by_entry : (n : ℕ) → slice_get keys n ≡ option_map (λ e. e.0) (slice_get entries n) = λ n. ap (λ ks. slice_get ks n) are ∙ slice_get-map (λ e. e.0) entries n in
     let count : length keys ≡ length rows = ap length are ∙ length-map entries (λ e. e.0) ∙ sym (length-map entries (λ e. e.1)) in
-    AreNumbered-sorted g.met.X.Rowed.ordered g.met.X.Key.Eq.laws g.met.X.Key.Ord.matches_eq g.X.Rowed.key entries c.requires.shelf c.keys.ensures.unique
-    (range_with_len 0 (length keys)) c.follow.new.self.numbers
-    (AreNumbered-range rows (length keys) count) c.follow.ensures.order
-    (subst (λ key. IsSortedByKey key (option_cmp g.X.Key.Ord.cmp) c.follow.new.self.numbers) (λ i n. by_entry n i) c.follow.ensures.sorted)
+    AreNumbered-by_keys g.met.X.Rowed.ordered g.met.X.Key.Eq.laws g.met.X.Key.Ord.matches_eq g.X.Rowed.key entries c.requires.shelf c.keys.ensures.unique keys are
+    (range_with_len 0 (length keys)) c.follow.new.self.numbers (AreNumbered-range rows (length keys) count) c.follow.ensures.order c.follow.ensures.sorted

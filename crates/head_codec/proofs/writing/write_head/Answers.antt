@@ -1,4 +1,4 @@
-use Rattle.std.proofs.Common.{◌≡◌, ℕ, List, [], ◌++◌, ap, ◌∙◌, append_assoc}
+use Rattle.std.proofs.Common.{◌≡◌, ℕ, List, [], ◌++◌, ap, ◌∙◌}
 use Rattle.std.specs.List.{flat_map}
 use Rattle.cell_records.specs.declared.cell_row.CellRow.{CellRow}
 use Rattle.lrp_records.specs.declared.actual.Actual.{Actual}
@@ -8,15 +8,8 @@ use Rattle.bbs_model.specs.declared.domain_row.DomainRow.{DomainRow}
 use Rattle.bbs_codec.specs.Formats.{desired}
 use Rattle.head_codec.specs.Head.{Counts, counts, head_counts, head_spelled}
 use Rattle.bbs_codec.specs.RowFormats.{actual, task_row, cell_row, domain_row}
+use Rattle.head_codec.proofs.PutTexts.{joined}
 use Rattle.head_codec.proofs.writing.write_head.Goals as goal
-
--- six texts, each put behind the one before it
-joined : (c d a t r m : List ℕ) → (((((([] ++ c) ++ d) ++ a) ++ t) ++ r) ++ m) ≡ c ++ (d ++ (a ++ (t ++ (r ++ m))))
-joined c d a t r m =
-    append_assoc (((c ++ d) ++ a) ++ t) r m
-    ∙ append_assoc ((c ++ d) ++ a) t (r ++ m)
-    ∙ append_assoc (c ++ d) a (t ++ (r ++ m))
-    ∙ append_assoc c d (a ++ (t ++ (r ++ m)))
 
 pub returns-clause-bytes : goal.returns-clause-bytes
 unfolding head_spelled
