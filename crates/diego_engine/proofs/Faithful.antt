@@ -1,5 +1,5 @@
 -- What a run did, from each way in which the program ends.
-use Rattle.std.proofs.Common.{◌≡◌, ℕ, List, Option, Some, Ok, sym, subst, inl, inr}
+use Rattle.std.proofs.Common.{◌≡◌, ℕ, true, List, Option, Some, Ok, sym, subst, inl, inr}
 use Rattle.disk_trait.specs.Past.{Past}
 use Rattle.bbs_model.specs.Replay.{IsLawful}
 use Rattle.bbs_model.specs.Valid.{IsValid}
@@ -8,6 +8,7 @@ use Rattle.bbs_model.specs.declared.rows.Rows.{Rows}
 use Rattle.program_ends.specs.Ports.{Ports}
 use Rattle.program_ends.specs.declared.ending.Ending.{Ending}
 use Rattle.program_ends.specs.declared.ending.Ending.TheVariants as ending
+use Rattle.scenario_player.specs.Wordings.{Wording}
 use Rattle.program_run.specs.Reading.{ReadsWhole}
 use Rattle.program_run.specs.Runs.{EndsLate, IsEmpty, RunEnds, ScriptEnds}
 use Rattle.program_run.specs.declared.ended.Ended.{Ended}
@@ -15,13 +16,15 @@ use Rattle.run_theorem.specs.Headline.{IsFaithful}
 use Rattle.run_theorem.specs.Laws.{PlayedRunsAreFaithful}
 use Rattle.scenario_lines.specs.declared.script.Script.{Script}
 use Rattle.scenario_reader.specs.Facts.{IsScript}
+use Rattle.program_tools.specs.Words.{asks_for_run}
 use Rattle.program_tools.specs.declared.words.Asked.{Asked}
 use Rattle.program_tools.specs.declared.words.Asked.TheVariants as asked
 use Rattle.diego_engine.specs.Headline.{DidRun, Headline, IsFaithfulTo, IsIdle}
 use Rattle.diego_engine.specs.Top.{ProgramEnds}
+use Rattle.diego_engine.proofs.Ran.{ran}
 use Rattle.diego_engine.proofs.Recoveries.{opened, recovery_from}
 
-module _ {D : Type 0} (told : D → Option Past) (faults moment : D → ℕ) (law : PlayedRunsAreFaithful told) (e : Ended)
+module _ {D : Type 0} (told : D → Option Past) (faults moment : D → ℕ) (wording : Wording) (law : PlayedRunsAreFaithful told) (e : Ended)
     (left left' : Option (List ℕ)) (v w : Ports) where
   -- by the ending, of what is told here
   abbrev pub Did : Ending → Type 0
@@ -31,35 +34,35 @@ module _ {D : Type 0} (told : D → Option Past) (faults moment : D → ℕ) (la
   DidFaithfully how = IsFaithfulTo how e.log.items e.answers.items e.reports.items left left' v.told w.told
 
   -- a scenario that was played on a board
-  played : (script : Script) (how : Ending) → IsScript script → (late : EndsLate told faults moment script how e v w)
+  played : (script : Script) (how : Ending) → IsScript script → (late : EndsLate told faults moment wording script how e v w)
       → IsFaithful script how e.answers.items e.reports.items late.rows e.log.items
   played script how sound late =
       let p = late.plays in
       subst (λ (rows : Rows). IsFaithful script how e.answers.items e.reports.items rows e.log.items) p.base
       (subst (λ (log : List Item). IsFaithful script how e.answers.items e.reports.items p.board.base log) (sym p.log)
-      (law script how e.answers.items e.reports.items p.board p.left late.between.held w.held late.between.write_faults w.write_faults sound
+      (law wording script how e.answers.items e.reports.items p.board p.left late.between.held w.held late.between.write_faults w.write_faults sound
       p.fresh.log (subst IsValid (sym p.base) p.valid)
       (subst (λ (rows : Rows). IsLawful rows p.left.log) (sym p.base) (subst (λ (log : List Item). IsLawful late.rows log) p.log p.lawful)) p.plays))
 
-  faithfully : (script : Script) (how : Ending) → ReadsWhole (Ok script) left left' → IsScript script → EndsLate told faults moment script how e v w
+  faithfully : (script : Script) (how : Ending) → ReadsWhole (Ok script) left left' → IsScript script → EndsLate told faults moment wording script how e v w
       → DidFaithfully how
   faithfully script how reads sound late = record {
     script = script;
     rows = late.rows;
     reads = reads;
-    opened = opened told faults moment e v w script how late;
+    opened = opened told faults moment wording e v w script how late;
     faithful = played script how sound late;
   }
 
   idle : IsEmpty e → IsIdle e.log.items e.answers.items e.reports.items
   idle is = (is.log, is.answers, is.reports)
 
-  starved : (script : Script) → ReadsWhole (Ok script) left left' → IsScript script → ScriptEnds told faults moment script ending.OutOfMemory e v w
+  starved : (script : Script) → ReadsWhole (Ok script) left left' → IsScript script → ScriptEnds told faults moment wording script ending.OutOfMemory e v w
       → Did ending.OutOfMemory
   starved script reads sound (inl late) = inl (faithfully script ending.OutOfMemory reads sound late)
   starved script reads sound (inr ends) = inr (idle ends.0)
 
-  did : (how : Ending) → RunEnds told faults moment how e left left' v w → Did how
+  did : (how : Ending) → RunEnds told faults moment wording how e left left' v w → Did how
   did ending.Done runs = faithfully runs.script ending.Done runs.reads runs.sound runs.ends
   did ending.Doubt runs = faithfully runs.script ending.Doubt runs.reads runs.sound runs.ends
   did ending.Unwritten runs = faithfully runs.script ending.Unwritten runs.reads runs.sound runs.ends
@@ -74,9 +77,9 @@ module _ {D : Type 0} (told : D → Option Past) (faults moment : D → ℕ) (la
   did (ending.NotABoard area) runs = idle runs.ends.0
   did (ending.Damaged area at) runs = idle runs.ends.0
 
-  pub headline_from : (how : Ending) (what : Option Asked) → what ≡ Some asked.Run → ProgramEnds told faults moment how what e left left' v w
+  pub headline_from : (how : Ending) (what : Option Asked) → asks_for_run what ≡ true → ProgramEnds told faults moment wording how what e left left' v w
       → Headline how e.log.items e.marks.items e.answers.items e.reports.items left left' v.told w.told v.disk_faults w.disk_faults
   headline_from how what is ends = record {
-    recovery = recovery_from told faults moment e v w left left' how what is ends;
-    run = did how (subst (λ (x : Option Asked). ProgramEnds told faults moment how x e left left' v w) is ends);
+    recovery = recovery_from told faults moment wording e v w left left' how what is ends;
+    run = did how (ran told faults moment wording e left left' v w how what is ends);
   }

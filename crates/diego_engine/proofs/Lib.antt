@@ -1,3 +1,4 @@
+pub mod Ran
 pub mod Recoveries
 pub mod Faithful
 pub mod SinceEntry

@@ -1,5 +1,5 @@
 -- What is recovered, from each way in which the program ends.
-use Rattle.std.proofs.Common.{◌≡◌, ℕ, ◌≤◌, List, [], Option, Some, None, refl, sym, subst, arith, inl, inr}
+use Rattle.std.proofs.Common.{◌≡◌, ℕ, ◌≤◌, true, List, [], Option, Some, None, refl, sym, subst, arith, inl, inr}
 use Rattle.disk_trait.specs.Past.{Past, Image}
 use Rattle.disk_trait.specs.Held.{Leaves}
 use Rattle.disk_trait.specs.Steps.{Goes}
@@ -14,13 +14,16 @@ use Rattle.program_ends.specs.Opening.{EndsUnopened}
 use Rattle.program_ends.specs.Ports.{Ports, IsTold}
 use Rattle.program_ends.specs.declared.ending.Ending.{Ending}
 use Rattle.program_ends.specs.declared.ending.Ending.TheVariants as ending
+use Rattle.scenario_player.specs.Wordings.{Wording}
 use Rattle.program_run.specs.Runs.{EndsIdle, EndsLate, EndsUnseen, IsEmpty, RunEnds, ScriptEnds}
 use Rattle.program_run.specs.declared.ended.Ended.{Ended}
 use Rattle.scenario_lines.specs.declared.script.Script.{Script}
 use Rattle.program_tools.proofs.Public.{later_from}
+use Rattle.program_tools.specs.Words.{asks_for_run}
 use Rattle.program_tools.specs.declared.words.Asked.{Asked}
 use Rattle.program_tools.specs.declared.words.Asked.TheVariants as asked
 use Rattle.diego_engine.specs.Top.{ProgramEnds}
+use Rattle.diego_engine.proofs.Ran.{ran}
 use Rattle.diego_engine.proofs.SinceEntry.{recovers_resting, recovers_on}
 
 keeps_same : (p : Past) → KeepsContent p p
@@ -36,12 +39,12 @@ told_back None None Does goes is = absurd is
 told_back None (Some r) Does goes is = absurd goes
 told_back (Some q) told' Does goes is = tt
 
-module _ {D : Type 0} (told : D → Option Past) (faults moment : D → ℕ) (e : Ended) (v w : Ports) where
+module _ {D : Type 0} (told : D → Option Past) (faults moment : D → ℕ) (wording : Wording) (e : Ended) (v w : Ports) where
   abbrev pub HasRecovery : Type 0
   HasRecovery = BoardTakesLog e.log.items e.marks.items v.told w.told v.disk_faults w.disk_faults
 
   -- what was opened is the board that the disk held
-  pub opened : (script : Script) (how : Ending) (late : EndsLate told faults moment script how e v w) (image : Image) → Shows v.told image → IsTold w.told
+  pub opened : (script : Script) (how : Ending) (late : EndsLate told faults moment wording script how e v w) (image : Image) → Shows v.told image → IsTold w.told
       → IsBoard late.rows image
   opened script how late image shows is =
       late.opens.found image (late.opens.still image shows (told_back late.between.told w.told Extends late.plays.extends is))
@@ -69,13 +72,13 @@ module _ {D : Type 0} (told : D → Option Past) (faults moment : D → ℕ) (e 
   idle how (is, ends) = let (le, goes) = rests how ends in empty is le goes
 
   -- a run that played its scenario on a board
-  late : (script : Script) (how : Ending) → EndsLate told faults moment script how e v w → HasRecovery
+  late : (script : Script) (how : Ending) → EndsLate told faults moment wording script how e v w → HasRecovery
   late script how ends =
       recovers_on v.told ends.between.told w.told ends.rows e.log.items e.marks.items ends.between.clock v.disk_faults w.disk_faults
       (opened script how ends) ends.opens.secures ends.plays.extends ends.opens.timed ends.plays.lawful ends.plays.kept
       (subst (λ (n : ℕ). RoseForEach (doubts_in e.log.items) n w.disk_faults) ends.opens.no_fault ends.plays.doubts)
 
-  of_script : (script : Script) (how : Ending) → ScriptEnds told faults moment script how e v w → HasRecovery
+  of_script : (script : Script) (how : Ending) → ScriptEnds told faults moment wording script how e v w → HasRecovery
   of_script script ending.Done ends = late script ending.Done ends
   of_script script ending.Doubt ends = late script ending.Doubt ends
   of_script script ending.Unwritten ends = late script ending.Unwritten ends
@@ -97,10 +100,10 @@ module _ {D : Type 0} (told : D → Option Past) (faults moment : D → ℕ) (e 
   none_unseen : (how : Ending) → EndsUnseen how e v w → HasCauses
   none_unseen how (is, ends) = let stands = ends.faults in none is (omega (arith, stands))
 
-  late_causes : (script : Script) (how : Ending) → EndsLate told faults moment script how e v w → HasCauses
+  late_causes : (script : Script) (how : Ending) → EndsLate told faults moment wording script how e v w → HasCauses
   late_causes script how ends = subst (λ (n : ℕ). RoseForEach (doubts_in e.log.items) n w.disk_faults) ends.opens.no_fault ends.plays.doubts
 
-  script_causes : (script : Script) (how : Ending) → ScriptEnds told faults moment script how e v w → HasCauses
+  script_causes : (script : Script) (how : Ending) → ScriptEnds told faults moment wording script how e v w → HasCauses
   script_causes script ending.Done ends = late_causes script ending.Done ends
   script_causes script ending.Doubt ends = late_causes script ending.Doubt ends
   script_causes script ending.Unwritten ends = late_causes script ending.Unwritten ends
@@ -109,7 +112,7 @@ module _ {D : Type 0} (told : D → Option Past) (faults moment : D → ℕ) (e 
   script_causes script how ends = none_idle how ends
 
   module _ (left left' : Option (List ℕ)) where
-    by_ending : (how : Ending) → RunEnds told faults moment how e left left' v w → HasRecovery
+    by_ending : (how : Ending) → RunEnds told faults moment wording how e left left' v w → HasRecovery
     by_ending (ending.Script why) ends = untouched (ending.Script why) ends.0
     by_ending ending.Read ends = untouched ending.Read ends.0
     by_ending ending.TooLong ends = untouched ending.TooLong ends.0
@@ -117,10 +120,10 @@ module _ {D : Type 0} (told : D → Option Past) (faults moment : D → ℕ) (e 
     by_ending ending.OutOfMemory (inr (ends, lost)) = idle ending.OutOfMemory ends
     by_ending how runs = of_script runs.script how runs.ends
 
-    pub recovery_from : (how : Ending) (what : Option Asked) → what ≡ Some asked.Run → ProgramEnds told faults moment how what e left left' v w → HasRecovery
-    recovery_from how what is ends = by_ending how (subst (λ (x : Option Asked). ProgramEnds told faults moment how x e left left' v w) is ends)
+    pub recovery_from : (how : Ending) (what : Option Asked) → asks_for_run what ≡ true → ProgramEnds told faults moment wording how what e left left' v w → HasRecovery
+    recovery_from how what is ends = by_ending how (ran told faults moment wording e left left' v w how what is ends)
 
-    run_causes : (how : Ending) → RunEnds told faults moment how e left left' v w → HasCauses
+    run_causes : (how : Ending) → RunEnds told faults moment wording how e left left' v w → HasCauses
     run_causes (ending.Script why) ends = none_unseen (ending.Script why) ends.0
     run_causes ending.Read ends = none_unseen ending.Read ends.0
     run_causes ending.TooLong ends = none_unseen ending.TooLong ends.0
@@ -128,8 +131,9 @@ module _ {D : Type 0} (told : D → Option Past) (faults moment : D → ℕ) (e 
     run_causes ending.OutOfMemory (inr (ends, lost)) = none_idle ending.OutOfMemory ends
     run_causes how runs = script_causes runs.script how runs.ends
 
-    pub doubts_from : (how : Ending) (what : Option Asked) → ProgramEnds told faults moment how what e left left' v w → HasCauses
+    pub doubts_from : (how : Ending) (what : Option Asked) → ProgramEnds told faults moment wording how what e left left' v w → HasCauses
     doubts_from how (Some asked.Run) ends = run_causes how ends
+    doubts_from how (Some asked.Routes) ends = run_causes how ends
     doubts_from how (Some asked.Prepare) ends = none ends.empty (later_from v w how (Some asked.Prepare) ends.still)
     doubts_from how (Some asked.Records) ends = none ends.empty (later_from v w how (Some asked.Records) ends.still)
     doubts_from how (Some asked.Check) ends = none ends.empty (later_from v w how (Some asked.Check) ends.still)

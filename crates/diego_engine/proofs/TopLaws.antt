@@ -1,5 +1,5 @@
 -- What each status says, from how the program ends.
-use Rattle.std.proofs.Common.{◌≡◌, ◌⊎◌, ℕ, ◌+◌, ◌<◌, ◌≤◌, true, Bool, List, ◌++◌, length, Option, Some, None, Result, Ok, Err, refl, sym, ap, subst, ◌∙◌, arith, inl, inr, length-append, append-nil}
+use Rattle.std.proofs.Common.{◌≡◌, ◌⊎◌, ℕ, ◌+◌, ◌<◌, ◌≤◌, true, false, Bool, List, ◌++◌, length, Option, Some, None, Result, Ok, Err, refl, sym, ap, subst, ◌∙◌, arith, inl, inr, length-append, append-nil}
 use Rattle.std.specs.Io.KnownBytes.{Consumes, IsAtEnd}
 use Rattle.byte_ports.specs.Cause.{Rose}
 use Rattle.byte_ports.specs.Content.{Lost}
@@ -18,6 +18,7 @@ use Rattle.program_ends.specs.Opening.{is_before_board}
 use Rattle.program_ends.specs.Ports.{Ports, PrintsTo, IsTold}
 use Rattle.program_ends.specs.declared.ending.Ending.{Ending}
 use Rattle.program_ends.specs.declared.ending.Ending.TheVariants as ending
+use Rattle.scenario_player.specs.Wordings.{Wording}
 use Rattle.program_run.specs.Reading.{ReadsWhole, TellsAs, limit}
 use Rattle.program_run.specs.Runs.{EndsLate, IsEmpty, RunEnds, RunsScript}
 use Rattle.program_run.specs.declared.ended.Ended.{Ended}
@@ -25,13 +26,15 @@ use Rattle.scenario_lines.specs.declared.script.Script.{Script}
 use Rattle.scenario_reader.specs.Accepted.{script_of}
 use Rattle.scenario_reader.specs.declared.fault.ScriptFault.{ScriptFault}
 use Rattle.program_tools.specs.Still.{StillEnds}
+use Rattle.program_tools.specs.Words.{asks_for_run}
 use Rattle.program_tools.specs.declared.words.Asked.{Asked}
 use Rattle.program_tools.specs.declared.words.Asked.TheVariants as asked
 use Rattle.program_tools.proofs.Public as still
 use Rattle.program_tools.proofs.Public.{not_of_source}
 use Rattle.diego_engine.specs.Top.{ProgramEnds, RunsWhole, Meets}
+use Rattle.diego_engine.proofs.Ran.{ran}
 
-module _ {D : Type 0} (told : D → Option Past) (faults moment : D → ℕ) (e : Ended) (left left' : Option (List ℕ)) (v w : Ports) where
+module _ {D : Type 0} (told : D → Option Past) (faults moment : D → ℕ) (wording : Wording) (e : Ended) (left left' : Option (List ℕ)) (v w : Ports) where
   -- the source gave no scenario, and its first fault was told, whole or up to a fault of the sink
   abbrev pub TellsFault : Type 0
   TellsFault = (fault : ScriptFault) × ReadsWhole (Err fault) left left'
@@ -39,52 +42,52 @@ module _ {D : Type 0} (told : D → Option Past) (faults moment : D → ℕ) (e 
 
   -- ---- a run
 
-  run_read : (how : Ending) → status_of how ≡ 1 → RunEnds told faults moment how e left left' v w → ⊥
+  run_read : (how : Ending) → status_of how ≡ 1 → RunEnds told faults moment wording how e left left' v w → ⊥
   run_read ending.Usage n runs = absurd runs.ends.1
   run_read how n h = absurd (omega (arith, n))
 
-  run_script_from : (how : Ending) → status_of how ≡ 2 → RunEnds told faults moment how e left left' v w → TellsFault
+  run_script_from : (how : Ending) → status_of how ≡ 2 → RunEnds told faults moment wording how e left left' v w → TellsFault
   run_script_from (ending.Script why) n ((empty, ends), reads) = (why, reads, ends.whole, ends.prints)
   run_script_from how n h = absurd (omega (arith, n))
 
   -- the sink failed in a text
-  text_failed : (script : Script) → EndsLate told faults moment script ending.Unwritten e v w → Rose v.write_faults w.write_faults
+  text_failed : (script : Script) → EndsLate told faults moment wording script ending.Unwritten e v w → Rose v.write_faults w.write_faults
   text_failed script late = subst (λ (m : ℕ). Rose m w.write_faults) late.opens.same_sink.1 (elim late.plays.plays [
     | inl part ↦ part.prints.part.cause.rose refl
     | inr part ↦ part.prints.part.cause.rose refl
   ])
 
-  run_unwritten : (how : Ending) → status_of how ≡ 4 → RunEnds told faults moment how e left left' v w → Rose v.write_faults w.write_faults
+  run_unwritten : (how : Ending) → status_of how ≡ 4 → RunEnds told faults moment wording how e left left' v w → Rose v.write_faults w.write_faults
   run_unwritten ending.Unwritten n runs = text_failed runs.script runs.ends
   run_unwritten how n h = absurd (omega (arith, n))
 
   -- the disk failed in a phase
-  call_failed : (script : Script) → EndsLate told faults moment script ending.Doubt e v w → Rose v.disk_faults w.disk_faults
+  call_failed : (script : Script) → EndsLate told faults moment wording script ending.Doubt e v w → Rose v.disk_faults w.disk_faults
   call_failed script late =
       let some : 0 < doubts_in e.log.items = subst (λ (l : List Item). 0 < doubts_in l) (sym late.plays.log) late.plays.plays.over in
       let causes = late.plays.doubts in
       subst (λ (m : ℕ). Rose m w.disk_faults) late.opens.no_fault (omega (arith, some, causes))
 
-  run_unstored : (how : Ending) → status_of how ≡ 5 → RunEnds told faults moment how e left left' v w → Rose v.disk_faults w.disk_faults
+  run_unstored : (how : Ending) → status_of how ≡ 5 → RunEnds told faults moment wording how e left left' v w → Rose v.disk_faults w.disk_faults
   run_unstored ending.Unopened n runs = runs.ends.1.cause.rose refl
   run_unstored ending.Doubt n runs = call_failed runs.script runs.ends
   run_unstored how n h = absurd (omega (arith, n))
 
-  run_refused : (how : Ending) → status_of how ≡ 6 → RunEnds told faults moment how e left left' v w
+  run_refused : (how : Ending) → status_of how ≡ 6 → RunEnds told faults moment wording how e left left' v w
       → (why : LoadFault) × (w.disk_faults ≡ v.disk_faults) × ((image : Image) → Shows v.told image → IsTold w.told → IsRefused why image)
   run_refused (ending.NotABoard area) n runs = (fault.NotABoard area, runs.ends.1.early.cause.stood refl, runs.ends.1.refused)
   run_refused (ending.Damaged area at) n runs = (fault.Damaged area at, runs.ends.1.early.cause.stood refl, runs.ends.1.refused)
   run_refused how n h = absurd (omega (arith, n))
 
-  run_too_long : (how : Ending) → status_of how ≡ 8 → RunEnds told faults moment how e left left' v w → Lost left left' (limit + 1)
+  run_too_long : (how : Ending) → status_of how ≡ 8 → RunEnds told faults moment wording how e left left' v w → Lost left left' (limit + 1)
   run_too_long ending.TooLong n h = h.1
   run_too_long how n h = absurd (omega (arith, n))
 
-  run_exists : (how : Ending) → status_of how ≡ 9 → RunEnds told faults moment how e left left' v w → ⊥
+  run_exists : (how : Ending) → status_of how ≡ 9 → RunEnds told faults moment wording how e left left' v w → ⊥
   run_exists ending.Exists n runs = absurd runs.ends.1
   run_exists how n h = absurd (omega (arith, n))
 
-  run_untouched : (how : Ending) → is_before_board (status_of how) ≡ true → RunEnds told faults moment how e left left' v w → (w.told ≡ v.told) × (w.disk_faults ≡ v.disk_faults)
+  run_untouched : (how : Ending) → is_before_board (status_of how) ≡ true → RunEnds told faults moment wording how e left left' v w → (w.told ≡ v.told) × (w.disk_faults ≡ v.disk_faults)
   run_untouched ending.Usage n runs = absurd runs.ends.1
   run_untouched (ending.Script why) n h = (h.0.1.told, h.0.1.faults)
   run_untouched ending.Read n h = (h.0.1.told, h.0.1.faults)
@@ -99,62 +102,70 @@ module _ {D : Type 0} (told : D → Option Past) (faults moment : D → ℕ) (e 
 
   -- ---- the program
 
-  pub usage_from : (how : Ending) (what : Option Asked) → status_of how ≡ 1 → ProgramEnds told faults moment how what e left left' v w → what ≡ None
+  pub usage_from : (how : Ending) (what : Option Asked) → status_of how ≡ 1 → ProgramEnds told faults moment wording how what e left left' v w → what ≡ None
   usage_from how (Some asked.Run) n h = absurd (run_read how n h)
+  usage_from how (Some asked.Routes) n h = absurd (run_read how n h)
   usage_from how (Some asked.Prepare) n h = still.usage_from v w how (Some asked.Prepare) n h.still
   usage_from how (Some asked.Records) n h = still.usage_from v w how (Some asked.Records) n h.still
   usage_from how (Some asked.Check) n h = still.usage_from v w how (Some asked.Check) n h.still
   usage_from how None n h = refl
 
-  pub usage_to : (how : Ending) (what : Option Asked) → what ≡ None → ProgramEnds told faults moment how what e left left' v w → status_of how ≡ 1
+  pub usage_to : (how : Ending) (what : Option Asked) → what ≡ None → ProgramEnds told faults moment wording how what e left left' v w → status_of how ≡ 1
   usage_to how (Some x) is h = cc
   usage_to how None is h = still.usage_to v w how None refl h.still
 
-  pub script_from : (how : Ending) (what : Option Asked) → status_of how ≡ 2 → ProgramEnds told faults moment how what e left left' v w → TellsFault
+  pub script_from : (how : Ending) (what : Option Asked) → status_of how ≡ 2 → ProgramEnds told faults moment wording how what e left left' v w → TellsFault
   script_from how (Some asked.Run) n h = run_script_from how n h
+  script_from how (Some asked.Routes) n h = run_script_from how n h
   script_from how (Some asked.Prepare) n h = absurd (not_here how (Some asked.Prepare) 2 (λ never. omega (arith, never)) refl n h.still)
   script_from how (Some asked.Records) n h = absurd (not_here how (Some asked.Records) 2 (λ never. omega (arith, never)) refl n h.still)
   script_from how (Some asked.Check) n h = absurd (not_here how (Some asked.Check) 2 (λ never. omega (arith, never)) refl n h.still)
   script_from how None n h = absurd (not_here how None 2 (λ never. omega (arith, never)) refl n h.still)
 
-  pub unwritten_from : (how : Ending) (what : Option Asked) → status_of how ≡ 4 → ProgramEnds told faults moment how what e left left' v w → Rose v.write_faults w.write_faults
+  pub unwritten_from : (how : Ending) (what : Option Asked) → status_of how ≡ 4 → ProgramEnds told faults moment wording how what e left left' v w → Rose v.write_faults w.write_faults
   unwritten_from how (Some asked.Run) n h = run_unwritten how n h
+  unwritten_from how (Some asked.Routes) n h = run_unwritten how n h
   unwritten_from how (Some asked.Prepare) n h = still.unwritten_from v w how (Some asked.Prepare) n h.still
   unwritten_from how (Some asked.Records) n h = still.unwritten_from v w how (Some asked.Records) n h.still
   unwritten_from how (Some asked.Check) n h = still.unwritten_from v w how (Some asked.Check) n h.still
   unwritten_from how None n h = still.unwritten_from v w how None n h.still
 
-  pub unstored_from : (how : Ending) (what : Option Asked) → status_of how ≡ 5 → ProgramEnds told faults moment how what e left left' v w → Rose v.disk_faults w.disk_faults
+  pub unstored_from : (how : Ending) (what : Option Asked) → status_of how ≡ 5 → ProgramEnds told faults moment wording how what e left left' v w → Rose v.disk_faults w.disk_faults
   unstored_from how (Some asked.Run) n h = run_unstored how n h
+  unstored_from how (Some asked.Routes) n h = run_unstored how n h
   unstored_from how (Some asked.Prepare) n h = still.unstored_from v w how (Some asked.Prepare) n h.still
   unstored_from how (Some asked.Records) n h = still.unstored_from v w how (Some asked.Records) n h.still
   unstored_from how (Some asked.Check) n h = still.unstored_from v w how (Some asked.Check) n h.still
   unstored_from how None n h = still.unstored_from v w how None n h.still
 
-  pub refused_from : (how : Ending) (what : Option Asked) → status_of how ≡ 6 → ProgramEnds told faults moment how what e left left' v w → (why : LoadFault) × (w.disk_faults ≡ v.disk_faults) × ((image : Image) → Shows v.told image → IsTold w.told → IsRefused why image)
+  pub refused_from : (how : Ending) (what : Option Asked) → status_of how ≡ 6 → ProgramEnds told faults moment wording how what e left left' v w → (why : LoadFault) × (w.disk_faults ≡ v.disk_faults) × ((image : Image) → Shows v.told image → IsTold w.told → IsRefused why image)
   refused_from how (Some asked.Run) n h = run_refused how n h
+  refused_from how (Some asked.Routes) n h = run_refused how n h
   refused_from how (Some asked.Prepare) n h = still.refused_from v w how (Some asked.Prepare) n h.still
   refused_from how (Some asked.Records) n h = still.refused_from v w how (Some asked.Records) n h.still
   refused_from how (Some asked.Check) n h = still.refused_from v w how (Some asked.Check) n h.still
   refused_from how None n h = still.refused_from v w how None n h.still
 
-  pub too_long_from : (how : Ending) (what : Option Asked) → status_of how ≡ 8 → ProgramEnds told faults moment how what e left left' v w → Lost left left' (limit + 1)
+  pub too_long_from : (how : Ending) (what : Option Asked) → status_of how ≡ 8 → ProgramEnds told faults moment wording how what e left left' v w → Lost left left' (limit + 1)
   too_long_from how (Some asked.Run) n h = run_too_long how n h
+  too_long_from how (Some asked.Routes) n h = run_too_long how n h
   too_long_from how (Some asked.Prepare) n h = absurd (not_here how (Some asked.Prepare) 8 (λ never. omega (arith, never)) refl n h.still)
   too_long_from how (Some asked.Records) n h = absurd (not_here how (Some asked.Records) 8 (λ never. omega (arith, never)) refl n h.still)
   too_long_from how (Some asked.Check) n h = absurd (not_here how (Some asked.Check) 8 (λ never. omega (arith, never)) refl n h.still)
   too_long_from how None n h = absurd (not_here how None 8 (λ never. omega (arith, never)) refl n h.still)
 
-  pub exists_from : (how : Ending) (what : Option Asked) → status_of how ≡ 9 → ProgramEnds told faults moment how what e left left' v w
+  pub exists_from : (how : Ending) (what : Option Asked) → status_of how ≡ 9 → ProgramEnds told faults moment wording how what e left left' v w
       → (what ≡ Some asked.Prepare) × (w.disk_faults ≡ v.disk_faults) × Goes v.told w.told FindsBytes
   exists_from how (Some asked.Run) n h = absurd (run_exists how n h)
+  exists_from how (Some asked.Routes) n h = absurd (run_exists how n h)
   exists_from how (Some asked.Prepare) n h = still.exists_from v w how (Some asked.Prepare) n h.still
   exists_from how (Some asked.Records) n h = still.exists_from v w how (Some asked.Records) n h.still
   exists_from how (Some asked.Check) n h = still.exists_from v w how (Some asked.Check) n h.still
   exists_from how None n h = still.exists_from v w how None n h.still
 
-  pub untouched_from : (how : Ending) (what : Option Asked) → is_before_board (status_of how) ≡ true → ProgramEnds told faults moment how what e left left' v w → (w.told ≡ v.told) × (w.disk_faults ≡ v.disk_faults)
+  pub untouched_from : (how : Ending) (what : Option Asked) → is_before_board (status_of how) ≡ true → ProgramEnds told faults moment wording how what e left left' v w → (w.told ≡ v.told) × (w.disk_faults ≡ v.disk_faults)
   untouched_from how (Some asked.Run) n h = run_untouched how n h
+  untouched_from how (Some asked.Routes) n h = run_untouched how n h
   untouched_from how (Some asked.Prepare) n h = still.untouched_from v w how (Some asked.Prepare) n h.still
   untouched_from how (Some asked.Records) n h = still.untouched_from v w how (Some asked.Records) n h.still
   untouched_from how (Some asked.Check) n h = still.untouched_from v w how (Some asked.Check) n h.still
@@ -164,9 +175,9 @@ module _ {D : Type 0} (told : D → Option Past) (faults moment : D → ℕ) (e 
   is_done ending.Done n = refl
   is_done how n = absurd (omega (arith, n))
 
-  pub done_from : (how : Ending) (what : Option Asked) → status_of how ≡ 0 → what ≡ Some asked.Run → ProgramEnds told faults moment how what e left left' v w → RunsWhole told faults moment e left left' v w
+  pub done_from : (how : Ending) (what : Option Asked) → status_of how ≡ 0 → asks_for_run what ≡ true → ProgramEnds told faults moment wording how what e left left' v w → RunsWhole told faults moment wording e left left' v w
   done_from how what n is h =
-      subst (λ (x : Option Asked). ProgramEnds told faults moment ending.Done x e left left' v w) is (subst (λ (x : Ending). ProgramEnds told faults moment x what e left left' v w) (is_done how n) h)
+      ran told faults moment wording e left left' v w ending.Done what is (subst (λ (x : Ending). ProgramEnds told faults moment wording x what e left left' v w) (is_done how n) h)
 
   -- ---- completeness
 
@@ -202,7 +213,7 @@ module _ {D : Type 0} (told : D → Option Past) (faults moment : D → ℕ) (e 
   pub not_both : (script : Script) (fault : ScriptFault) → Ok script ≡ Err fault → ⊥
   not_both script fault same = cc
 
-  run_complete : (how : Ending) → RunEnds told faults moment how e left left' v w → Meets left v.told → IsTold w.told
+  run_complete : (how : Ending) → RunEnds told faults moment wording how e left left' v w → Meets left v.told → IsTold w.told
       → (status_of how ≡ 3 → ⊥) → (Rose v.write_faults w.write_faults → ⊥) → (Rose v.disk_faults w.disk_faults → ⊥) → (status_of how ≡ 0) ⊎ (status_of how ≡ 7)
   run_complete ending.Done h m is read sink disk = inl refl
   run_complete ending.OutOfMemory h m is read sink disk = inr refl
@@ -219,15 +230,15 @@ module _ {D : Type 0} (told : D → Option Past) (faults moment : D → ℕ) (e 
   run_complete ending.Usage runs m is read sink disk = absurd runs.ends.1
   run_complete ending.Exists runs m is read sink disk = absurd runs.ends.1
 
-  pub complete_from : (how : Ending) (what : Option Asked) → what ≡ Some asked.Run → ProgramEnds told faults moment how what e left left' v w → Meets left v.told → IsTold w.told
+  pub complete_from : (how : Ending) (what : Option Asked) → asks_for_run what ≡ true → ProgramEnds told faults moment wording how what e left left' v w → Meets left v.told → IsTold w.told
       → (status_of how ≡ 3 → ⊥) → (Rose v.write_faults w.write_faults → ⊥) → (Rose v.disk_faults w.disk_faults → ⊥) → (status_of how ≡ 0) ⊎ (status_of how ≡ 7)
-  complete_from how what is h = run_complete how (subst (λ (x : Option Asked). ProgramEnds told faults moment how x e left left' v w) is h)
+  complete_from how what is h = run_complete how (ran told faults moment wording e left left' v w how what is h)
 
   -- a source that tells no scenario is refused
-  no_script : (why : ScriptFault) → TellsAs (Err why) left → (how : Ending) → RunsScript told faults moment how e left left' v w → ⊥
+  no_script : (why : ScriptFault) → TellsAs (Err why) left → (how : Ending) → RunsScript told faults moment wording how e left left' v w → ⊥
   no_script why tells how runs = not_both runs.script why (sym (as_told (Err why) (Ok runs.script) tells runs.reads))
 
-  run_no_script : (why : ScriptFault) → TellsAs (Err why) left → (how : Ending) → (status_of how ≡ 3 → ⊥) → RunEnds told faults moment how e left left' v w
+  run_no_script : (why : ScriptFault) → TellsAs (Err why) left → (how : Ending) → (status_of how ≡ 3 → ⊥) → RunEnds told faults moment wording how e left left' v w
       → (status_of how ≡ 2) ⊎ (status_of how ≡ 7)
   run_no_script why tells (ending.Script other) read h = inl refl
   run_no_script why tells ending.OutOfMemory read h = inr refl
@@ -235,15 +246,16 @@ module _ {D : Type 0} (told : D → Option Past) (faults moment : D → ℕ) (e 
   run_no_script why tells ending.TooLong read h = absurd (not_too_long (Err why) tells h.1)
   run_no_script why tells how read runs = absurd (no_script why tells how runs)
 
-  pub no_script_from : (how : Ending) (what : Option Asked) (why : ScriptFault) → what ≡ Some asked.Run → ProgramEnds told faults moment how what e left left' v w
+  pub no_script_from : (how : Ending) (what : Option Asked) (why : ScriptFault) → asks_for_run what ≡ true → ProgramEnds told faults moment wording how what e left left' v w
       → TellsAs (Err why) left → (status_of how ≡ 3 → ⊥) → (status_of how ≡ 2) ⊎ (status_of how ≡ 7)
   no_script_from how what why is h tells read =
-      run_no_script why tells how read (subst (λ (x : Option Asked). ProgramEnds told faults moment how x e left left' v w) is h)
+      run_no_script why tells how read (ran told faults moment wording e left left' v w how what is h)
 
   -- ---- words that ask for no run
 
-  pub still_ends : (how : Ending) (what : Option Asked) → (what ≡ Some asked.Run → ⊥) → IsEmpty e → StillEnds how what v w → left' ≡ left → ProgramEnds told faults moment how what e left left' v w
-  still_ends how (Some asked.Run) not_run empty ends same = absurd (not_run refl)
+  pub still_ends : (how : Ending) (what : Option Asked) → asks_for_run what ≡ false → IsEmpty e → StillEnds how what v w → left' ≡ left → ProgramEnds told faults moment wording how what e left left' v w
+  still_ends how (Some asked.Run) not_run empty ends same = absurd (cc (not_run))
+  still_ends how (Some asked.Routes) not_run empty ends same = absurd (cc (not_run))
   still_ends how (Some asked.Prepare) not_run empty ends same = record { empty = empty; still = ends; unread = same }
   still_ends how (Some asked.Records) not_run empty ends same = record { empty = empty; still = ends; unread = same }
   still_ends how (Some asked.Check) not_run empty ends same = record { empty = empty; still = ends; unread = same }

@@ -1,5 +1,5 @@
 -- How the program ends, by what it was asked, what the source gave, and what the sink and the disk did.
-use Rattle.std.specs.Prelude.{◌≡◌, ℕ, List, Option, Some, None, Ok}
+use Rattle.std.specs.Prelude.{◌≡◌, ℕ, List, [], Option, Some, None, Ok}
 use Rattle.byte_ports.specs.Cause.{Rose}
 use Rattle.disk_trait.specs.Past.{Past, Image}
 use Rattle.disk_trait.specs.Shows.{Shows}
@@ -10,6 +10,8 @@ use Rattle.program_ends.specs.Ports.{IsTold, Ports, ports_of}
 use Rattle.program_ends.specs.declared.ending.Ending.{Ending}
 use Rattle.program_ends.specs.declared.ending.Ending.TheVariants as ending
 use Rattle.program_ends.specs.declared.top_end.TopEnd.{TopEnd}
+use Rattle.scenario_player.specs.Wordings.{Wording, whole_wording}
+use Rattle.route_runs.specs.Wording.{route_wording}
 use Rattle.program_run.specs.Reading.{ReadsWhole, TellsAs}
 use Rattle.program_run.specs.Runs.{IsEmpty, RunEnds, RunsScript}
 use Rattle.program_run.specs.declared.ended.Ended.{Ended}
@@ -24,18 +26,31 @@ pub record EndsWithoutRun (how : Ending) (what : Option Asked) (e : Ended) (left
   pub still : StillEnds how what v w
   pub unread : left' ≡ left
 
--- how the program ends
-abbrev pub ProgramEnds : {D : Type 0} → (D → Option Past) → (D → ℕ) → (D → ℕ) → Ending → Option Asked → Ended →
+-- in what words the run is told that was asked for; where none was, nothing is
+abbrev pub wording_of : Option Asked → Wording
+wording_of (Some asked.Run) = whole_wording
+wording_of (Some asked.Routes) = route_wording
+wording_of other = λ script phase answers report base before after. []
+
+-- how the program ends, whose runs are told in these words
+abbrev pub ProgramEnds : {D : Type 0} → (D → Option Past) → (D → ℕ) → (D → ℕ) → Wording → Ending → Option Asked → Ended →
     Option (List ℕ) → Option (List ℕ) → Ports → Ports → Type 0
-ProgramEnds told faults moment how (Some asked.Run) e left left' v w = RunEnds told faults moment how e left left' v w
-ProgramEnds told faults moment how (Some asked.Prepare) e left left' v w = EndsWithoutRun how (Some asked.Prepare) e left left' v w
-ProgramEnds told faults moment how (Some asked.Records) e left left' v w = EndsWithoutRun how (Some asked.Records) e left left' v w
-ProgramEnds told faults moment how (Some asked.Check) e left left' v w = EndsWithoutRun how (Some asked.Check) e left left' v w
-ProgramEnds told faults moment how None e left left' v w = EndsWithoutRun how None e left left' v w
+ProgramEnds told faults moment wording how (Some asked.Run) e left left' v w =
+    RunEnds told faults moment wording how e left left' v w
+ProgramEnds told faults moment wording how (Some asked.Routes) e left left' v w =
+    RunEnds told faults moment wording how e left left' v w
+ProgramEnds told faults moment wording how (Some asked.Prepare) e left left' v w =
+    EndsWithoutRun how (Some asked.Prepare) e left left' v w
+ProgramEnds told faults moment wording how (Some asked.Records) e left left' v w =
+    EndsWithoutRun how (Some asked.Records) e left left' v w
+ProgramEnds told faults moment wording how (Some asked.Check) e left left' v w =
+    EndsWithoutRun how (Some asked.Check) e left left' v w
+ProgramEnds told faults moment wording how None e left left' v w = EndsWithoutRun how None e left left' v w
 
 -- what was asked for came as far as the opening of the board: a run once its source gave a scenario
 abbrev pub ReachesBoard : Option Asked → Option (List ℕ) → Option (List ℕ) → Type 0
 ReachesBoard (Some asked.Run) left left' = (script : Script) × ReadsWhole (Ok script) left left'
+ReachesBoard (Some asked.Routes) left left' = (script : Script) × ReadsWhole (Ok script) left left'
 ReachesBoard (Some asked.Prepare) left left' = ⊥
 ReachesBoard (Some asked.Records) left left' = Unit {0}
 ReachesBoard (Some asked.Check) left left' = Unit {0}
@@ -59,9 +74,9 @@ pub record Meets (left : Option (List ℕ)) (told : Option Past) : Type 0 where
   pub board : IsBoard rows image
 
 -- a scenario was read and a board opened, every phase ran on it, nothing is in doubt, and the whole text was written
-abbrev pub RunsWhole : {D : Type 0} → (D → Option Past) → (D → ℕ) → (D → ℕ) → Ended →
+abbrev pub RunsWhole : {D : Type 0} → (D → Option Past) → (D → ℕ) → (D → ℕ) → Wording → Ended →
     Option (List ℕ) → Option (List ℕ) → Ports → Ports → Type 0
-RunsWhole told faults moment e left left' v w = RunsScript told faults moment ending.Done e left left' v w
+RunsWhole told faults moment wording e left left' v w = RunsScript told faults moment wording ending.Done e left left' v w
 
 -- what the program handed back of its run
 abbrev pub run_of : {S K D : Type 0} → Ending → TopEnd S K D → Ended
@@ -84,13 +99,13 @@ module _ {S K D : Type 0} (left : S → Option (List ℕ)) (held : K → Option 
   -- how the program ends that was asked for this and was given these, by what it hands back
   abbrev pub EndsAt : Option Asked → S → K → D → TopEnd S K D → Type 0
   EndsAt what source sink disk end =
-      (how : Ending) × (end.status ≡ status_of how) × ProgramEnds told faults moment how what (run_of how end)
+      (how : Ending) × (end.status ≡ status_of how) × ProgramEnds told faults moment (wording_of what) how what (run_of how end)
       (left source) (left end.source) (ports_now held write_faults told faults moment sink disk)
       (ports_now held write_faults told faults moment end.sink end.disk)
 
-  -- a run that was given these did all of its scenario, by what it hands back
-  abbrev pub RunsWholeAt : S → K → D → TopEnd S K D → Type 0
-  RunsWholeAt source sink disk end =
-      (how : Ending) × RunsWhole told faults moment (run_of how end)
+  -- a run that was asked for so and was given these did all of its scenario, by what it hands back
+  abbrev pub RunsWholeAt : Option Asked → S → K → D → TopEnd S K D → Type 0
+  RunsWholeAt what source sink disk end =
+      (how : Ending) × RunsWhole told faults moment (wording_of what) (run_of how end)
       (left source) (left end.source) (ports_now held write_faults told faults moment sink disk)
       (ports_now held write_faults told faults moment end.sink end.disk)

@@ -13,7 +13,7 @@ ghost use Rattle.program_ends.specs.Ending.{script_line};
 ghost use Rattle.program_ends.specs.Opening.{is_before_board};
 ghost use Rattle.program_ends.specs.Ports.{PrintsTo};
 ghost use Rattle.program_tools.specs.Still.{IsStopped, MeetsNoBoard, MeetsObstacle};
-ghost use Rattle.program_tools.specs.Words.{asked_of};
+ghost use Rattle.program_tools.specs.Words.{asked_of, asks_for_run};
 ghost use Rattle.program_tools.specs.declared.words.Asked.TheVariants as wanted;
 ghost use Rattle.program_run.specs.Reading.{ReadsWhole, TellsAs, TellsTooMuch, limit};
 ghost use Rattle.scenario_lines.specs.declared.script.Script.{Script as AScript};
@@ -48,8 +48,8 @@ pub fn diego_top_in_memory<R: Threads + Wait + Sync, S: Source, K: Sink, G: Gate
         × ReadsWhole (Err fault) (S.left source) (S.left result.source)
         × (whole : Bool) × PrintsTo whole (script_line fault)
         (K.held sink) (K.held result.sink) (K.faults sink) (K.faults result.sink) }
-    ensures no_script { (fault : AFault) → asked_of (map (λ w. string_bytes w) words.now) ≡ Some wanted.Run
-        → TellsAs (Err fault) (S.left source)
+    ensures no_script { (fault : AFault) → TellsAs (Err fault) (S.left source)
+        → asks_for_run (asked_of (map (λ w. string_bytes w) words.now)) ≡ true
         → NoFault (S.faults source) (S.faults result.source)
         → (result.status ≡ 2) ⊎ (result.status ≡ 7) }
     ensures read { HasCause (result.status == 3) (S.faults source) (S.faults result.source) }
@@ -66,12 +66,12 @@ pub fn diego_top_in_memory<R: Threads + Wait + Sync, S: Source, K: Sink, G: Gate
         → (asked_of (map (λ w. string_bytes w) words.now) ≡ Some wanted.Prepare)
         × (faults_of result.disk ≡ faults_of disk)
         × Goes (Some (memory_past disk)) (Some (memory_past result.disk)) FindsBytes }
-    ensures no_board { (script : AScript) → asked_of (map (λ w. string_bytes w) words.now) ≡ Some wanted.Run
-        → TellsAs (Ok script) (S.left source) → MeetsNoBoard (Some (memory_past disk))
-        → NoFault (S.faults source) (S.faults result.source)
+    ensures no_board { (script : AScript) → TellsAs (Ok script) (S.left source)
+        → asks_for_run (asked_of (map (λ w. string_bytes w) words.now)) ≡ true
+        → MeetsNoBoard (Some (memory_past disk)) → NoFault (S.faults source) (S.faults result.source)
         → NoFault (faults_of disk) (faults_of result.disk)
         → (result.status ≡ 6) ⊎ (result.status ≡ 7) }
-    ensures too_much { asked_of (map (λ w. string_bytes w) words.now) ≡ Some wanted.Run
+    ensures too_much { asks_for_run (asked_of (map (λ w. string_bytes w) words.now)) ≡ true
         → TellsTooMuch (S.left source)
         → NoFault (S.faults source) (S.faults result.source)
         → (result.status ≡ 8) ⊎ (result.status ≡ 7) }
@@ -87,11 +87,12 @@ pub fn diego_top_in_memory<R: Threads + Wait + Sync, S: Source, K: Sink, G: Gate
     // answers, the reports, the log and the disk are those of these phases, and the whole text of them was
     // written.
     ensures done { result.status ≡ 0
-        → asked_of (map (λ w. string_bytes w) words.now) ≡ Some wanted.Run
-        → RunsWholeInMemoryAt S.left K.held K.faults source sink disk result }
+        → asks_for_run (asked_of (map (λ w. string_bytes w) words.now)) ≡ true
+        → RunsWholeInMemoryAt S.left K.held K.faults
+        (asked_of (map (λ w. string_bytes w) words.now)) source sink disk result }
 
     // With a scenario and a board, and without a fault, all is done unless memory runs out.
-    ensures complete { asked_of (map (λ w. string_bytes w) words.now) ≡ Some wanted.Run
+    ensures complete { asks_for_run (asked_of (map (λ w. string_bytes w) words.now)) ≡ true
         → Meets (S.left source) (Some (memory_past disk))
         → NoFault (S.faults source) (S.faults result.source) → NoFault (K.faults sink) (K.faults result.sink)
         → NoFault (faults_of disk) (faults_of result.disk)

@@ -1,5 +1,5 @@
 //! The whole of what the program does.
-ghost use Rattle.std.specs.Prelude.{◌≡◌, ◌≢◌, ◌⊎◌, ◌+◌, ◌==◌, ◌↔◌, true, None, Some, Ok, Err, Bool, IsTrue, List, ℕ, map, string_bytes};
+ghost use Rattle.std.specs.Prelude.{◌≡◌, ◌⊎◌, ◌+◌, ◌==◌, ◌↔◌, true, false, None, Some, Ok, Err, Bool, IsTrue, List, ℕ, map, string_bytes};
 ghost use Rattle.byte_ports.specs.Cause.{HasCause, Rose};
 ghost use Rattle.byte_ports.specs.Content.{Lost};
 ghost use Rattle.disk_trait.specs.Past.{Image};
@@ -14,12 +14,13 @@ ghost use Rattle.program_ends.specs.Opening.{is_before_board};
 ghost use Rattle.program_ends.specs.Ports.{IsTold, PrintsTo};
 ghost use Rattle.program_ends.specs.declared.ending.Ending.{Ending as AnEnding};
 ghost use Rattle.program_tools.specs.Still.{IsStopped, MeetsNoBoard, MeetsObstacle};
-ghost use Rattle.program_tools.specs.Words.{asked_of};
+ghost use Rattle.program_tools.specs.Words.{asked_of, asks_for_run};
 ghost use Rattle.program_tools.specs.declared.words.Asked.TheVariants as wanted;
 ghost use Rattle.diego_engine.specs.Headline.{Headline};
 ghost use Rattle.diego_engine.specs.Serial.{RunsSeriallyAt};
-ghost use Rattle.diego_engine.specs.Top.{EndsAt, Meets, NoFault, ReachesBoard, RunsWholeAt, TellsWithoutFault};
+ghost use Rattle.diego_engine.specs.Top.{EndsAt, Meets, NoFault, ReachesBoard, RunsWholeAt, TellsWithoutFault, ports_now, run_of};
 ghost use Rattle.program_run.specs.Reading.{ReadsWhole, TellsAs, TellsTooMuch, limit};
+ghost use Rattle.program_run.specs.Runs.{RunEnds};
 ghost use Rattle.scenario_lines.specs.declared.script.Script.{Script as AScript};
 ghost use Rattle.scenario_reader.specs.declared.fault.ScriptFault.{ScriptFault as AFault};
 
@@ -28,16 +29,25 @@ use disk_trait::Disk;
 use program_ends::{TopEnd, number_of};
 use program_run::{Ended, run};
 use program_tools::{Asked, read_words, still_top};
+use route_runs::RouteTeller;
 use run_function::runs_are_alone;
 use run_theorem::played_runs_are_faithful;
+use scenario_player::{Teller, WholeTeller};
 use std::alloc::Global;
 use std::sync::Wait;
 use std::thread::Threads;
 
-fn asks_for_a_run(alloc: Global, words: &[String]) -> bool
+fn asks_for_whole(alloc: Global, words: &[String]) -> bool
     ensures { IsTrue result ↔ (asked_of (map (λ w. string_bytes w) words.now) ≡ Some wanted.Run) }
 {
     matches!(read_words(alloc, words), Some(Asked::Run))
+}
+
+fn asks_for_routes(alloc: Global, words: &[String]) -> bool
+    ensures { IsTrue result ↔
+        (asked_of (map (λ w. string_bytes w) words.now) ≡ Some wanted.Routes) }
+{
+    matches!(read_words(alloc, words), Some(Asked::Routes))
 }
 
 fn top_end<S, K, D>(ended: Ended, source: S, sink: K, disk: D) -> TopEnd<S, K, D>
@@ -65,27 +75,50 @@ fn top_end<S, K, D>(ended: Ended, source: S, sink: K, disk: D) -> TopEnd<S, K, D
     }
 }
 
+/// Runs a scenario, with its phases told in the words of `T`.
+fn run_top<
+    T: Teller + Drop,
+    R: Threads + Wait + Sync,
+    S: Source,
+    K: Sink,
+    D: Disk + Drop + Send,
+    G: Gate + Sync,
+>(rt: &R, alloc: Global, mut source: S, mut sink: K, disk: D, gate: &G) -> TopEnd<S, K, D>
+    ensures ends { (how : AnEnding) × (result.status ≡ status_of how)
+        × RunEnds D.told D.fault_count D.moment T.wording how (run_of how result)
+        (S.left source) (S.left result.source)
+        (ports_now K.held K.faults D.told D.fault_count D.moment sink disk)
+        (ports_now K.held K.faults D.told D.fault_count D.moment result.sink result.disk) }
+    ensures read { HasCause (result.status == 3) (S.faults source) (S.faults result.source) }
+    ensures unopened { is_before_board result.status ≡ true → result.disk ≡ disk }
+{
+    let (ended, disk) = run::<T, R, S, K, D, G>(rt, alloc, &mut source, &mut sink, disk, gate);
+    top_end(ended, source, sink, disk)
+}
+
 fn whole_top<R: Threads + Wait + Sync, S: Source, K: Sink, D: Disk + Drop + Send, G: Gate + Sync>(
     rt: &R,
     alloc: Global,
     words: &[String],
-    mut source: S,
-    mut sink: K,
+    source: S,
+    sink: K,
     disk: D,
     gate: &G,
 ) -> TopEnd<S, K, D>
     ensures ends { EndsAt S.left K.held K.faults D.told D.fault_count D.moment
         (asked_of (map (λ w. string_bytes w) words.now)) source sink disk result }
     ensures read { HasCause (result.status == 3) (S.faults source) (S.faults result.source) }
-    ensures unread { asked_of (map (λ w. string_bytes w) words.now) ≢ Some wanted.Run
+    ensures unread { asks_for_run (asked_of (map (λ w. string_bytes w) words.now)) ≡ false
         → result.source ≡ source }
     ensures unopened { is_before_board result.status ≡ true → result.disk ≡ disk }
 {
-    if !asks_for_a_run(alloc, words) {
-        return still_top(alloc, words, source, sink, disk);
+    if asks_for_whole(alloc, words) {
+        return run_top::<WholeTeller, R, S, K, D, G>(rt, alloc, source, sink, disk, gate);
     }
-    let (ended, disk) = run(rt, alloc, &mut source, &mut sink, disk, gate);
-    top_end(ended, source, sink, disk)
+    if asks_for_routes(alloc, words) {
+        return run_top::<RouteTeller, R, S, K, D, G>(rt, alloc, source, sink, disk, gate);
+    }
+    still_top(alloc, words, source, sink, disk)
 }
 
 /// All that the program does. `headline` is what the board promises, whatever the status; what is printed
@@ -101,7 +134,7 @@ pub fn diego_top<
 >(rt: &R, alloc: Global, words: &[String], source: S, sink: K, disk: D, gate: &G) -> TopEnd<S, K, D>
     // What was acknowledged, a stop leaves; nothing else shows but a doubt; and each doubt has a fault of
     // the disk for its cause.
-    ensures headline { asked_of (map (λ w. string_bytes w) words.now) ≡ Some wanted.Run
+    ensures headline { asks_for_run (asked_of (map (λ w. string_bytes w) words.now)) ≡ true
         → (how : AnEnding) × (result.status ≡ status_of how)
         × Headline how result.log.items result.marks.items result.answers.items result.reports.items
         (S.left source) (S.left result.source)
@@ -118,8 +151,8 @@ pub fn diego_top<
         × ReadsWhole (Err fault) (S.left source) (S.left result.source)
         × (whole : Bool) × PrintsTo whole (script_line fault)
         (K.held sink) (K.held result.sink) (K.faults sink) (K.faults result.sink) }
-    ensures no_script { (fault : AFault) → asked_of (map (λ w. string_bytes w) words.now) ≡ Some wanted.Run
-        → TellsAs (Err fault) (S.left source)
+    ensures no_script { (fault : AFault) → TellsAs (Err fault) (S.left source)
+        → asks_for_run (asked_of (map (λ w. string_bytes w) words.now)) ≡ true
         → NoFault (S.faults source) (S.faults result.source)
         → (result.status ≡ 2) ⊎ (result.status ≡ 7) }
     ensures read { HasCause (result.status == 3) (S.faults source) (S.faults result.source) }
@@ -137,12 +170,12 @@ pub fn diego_top<
         → (asked_of (map (λ w. string_bytes w) words.now) ≡ Some wanted.Prepare)
         × (D.fault_count result.disk ≡ D.fault_count disk)
         × Goes (D.told disk) (D.told result.disk) FindsBytes }
-    ensures no_board { (script : AScript) → asked_of (map (λ w. string_bytes w) words.now) ≡ Some wanted.Run
-        → TellsAs (Ok script) (S.left source) → MeetsNoBoard (D.told disk)
-        → NoFault (S.faults source) (S.faults result.source)
+    ensures no_board { (script : AScript) → TellsAs (Ok script) (S.left source)
+        → asks_for_run (asked_of (map (λ w. string_bytes w) words.now)) ≡ true
+        → MeetsNoBoard (D.told disk) → NoFault (S.faults source) (S.faults result.source)
         → TellsWithoutFault (D.told result.disk) (D.fault_count disk) (D.fault_count result.disk)
         → (result.status ≡ 6) ⊎ (result.status ≡ 7) }
-    ensures too_much { asked_of (map (λ w. string_bytes w) words.now) ≡ Some wanted.Run
+    ensures too_much { asks_for_run (asked_of (map (λ w. string_bytes w) words.now)) ≡ true
         → TellsTooMuch (S.left source)
         → NoFault (S.faults source) (S.faults result.source)
         → (result.status ≡ 8) ⊎ (result.status ≡ 7) }
@@ -154,26 +187,26 @@ pub fn diego_top<
 
     // What is handed back is what was handed in: the source, where nothing is run, and the disk, where it
     // ends before the opening.
-    ensures unread { asked_of (map (λ w. string_bytes w) words.now) ≢ Some wanted.Run
+    ensures unread { asks_for_run (asked_of (map (λ w. string_bytes w) words.now)) ≡ false
         → result.source ≡ source }
     ensures unopened { is_before_board result.status ≡ true → result.disk ≡ disk }
 
     // A run that ends with 0 read a scenario, opened a board, and ran every phase on it: the answers, the
     // reports, the log and the disk are those of these phases, and the whole text of them was written.
     ensures done { result.status ≡ 0
-        → asked_of (map (λ w. string_bytes w) words.now) ≡ Some wanted.Run
+        → asks_for_run (asked_of (map (λ w. string_bytes w) words.now)) ≡ true
         → RunsWholeAt S.left K.held K.faults D.told D.fault_count D.moment
-        source sink disk result }
+        (asked_of (map (λ w. string_bytes w) words.now)) source sink disk result }
 
     // Where each phase has one actor or a round alone, all of that is a function of the scenario and the
     // board: the answers, the reports, the log, the text, and what the disk reads afterwards.
     ensures serial { result.status ≡ 0
-        → asked_of (map (λ w. string_bytes w) words.now) ≡ Some wanted.Run
+        → asks_for_run (asked_of (map (λ w. string_bytes w) words.now)) ≡ true
         → RunsSeriallyAt S.left K.held K.faults D.told D.fault_count D.moment
-        source sink disk result }
+        (asked_of (map (λ w. string_bytes w) words.now)) source sink disk result }
 
     // With a scenario and a board, and without a fault, all is done unless memory runs out.
-    ensures complete { asked_of (map (λ w. string_bytes w) words.now) ≡ Some wanted.Run
+    ensures complete { asks_for_run (asked_of (map (λ w. string_bytes w) words.now)) ≡ true
         → Meets (S.left source) (D.told disk)
         → NoFault (S.faults source) (S.faults result.source) → NoFault (K.faults sink) (K.faults result.sink)
         → TellsWithoutFault (D.told result.disk) (D.fault_count disk) (D.fault_count result.disk)

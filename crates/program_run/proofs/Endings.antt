@@ -15,24 +15,25 @@ use Rattle.program_ends.specs.declared.ending.Ending.{Ending}
 use Rattle.program_ends.specs.declared.ending.Ending.TheVariants as ending
 use Rattle.scenario_lines.specs.declared.script.Script.{Script}
 use Rattle.scenario_reader.specs.declared.fault.ScriptFault.{ScriptFault}
+use Rattle.scenario_player.specs.Wordings.{Wording}
 use Rattle.program_run.specs.Reading.{ReadsScript, ReadsWhole, is_read, limit}
 use Rattle.program_run.specs.Runs.{EndsUnseen, IsEmpty, PlaysOn, RunEnds, RunsScript, ScriptEnds}
 use Rattle.program_run.specs.declared.ended.Ended.{Ended}
 
-module _ {D : Type 0} (told : D → Option Past) (faults moment : D → ℕ) where
+module _ {D : Type 0} (told : D → Option Past) (faults moment : D → ℕ) (wording : Wording) where
   -- ---- a scenario
 
   module _ (script : Script) (e : Ended) (v w : Ports) where
     -- it was played on the board that was opened
-    pub played_ends : (rows : Rows) (m : Ports) → Opens rows v m → (how : Ending) → PlaysOn told faults moment script rows how e m w
-        → ScriptEnds told faults moment script how e v w
+    pub played_ends : (rows : Rows) (m : Ports) → Opens rows v m → (how : Ending) → PlaysOn told faults moment wording script rows how e m w
+        → ScriptEnds told faults moment wording script how e v w
     played_ends rows m opens ending.Done plays = record { rows = rows; between = m; opens = opens; plays = plays }
     played_ends rows m opens ending.Doubt plays = record { rows = rows; between = m; opens = opens; plays = plays }
     played_ends rows m opens ending.Unwritten plays = record { rows = rows; between = m; opens = opens; plays = plays }
     played_ends rows m opens ending.OutOfMemory plays = inl (record { rows = rows; between = m; opens = opens; plays = plays })
     played_ends rows m opens how plays = absurd plays.plays
 
-    idle_ends : (how : Ending) → IsEmpty e → EndsUnopened how v w → ScriptEnds told faults moment script how e v w
+    idle_ends : (how : Ending) → IsEmpty e → EndsUnopened how v w → ScriptEnds told faults moment wording script how e v w
     idle_ends ending.Done empty ends = absurd ends
     idle_ends ending.Doubt empty ends = absurd ends
     idle_ends ending.Unwritten empty ends = absurd ends
@@ -40,26 +41,26 @@ module _ {D : Type 0} (told : D → Option Past) (faults moment : D → ℕ) whe
     idle_ends how empty ends = (empty, ends)
 
     -- no board was opened
-    pub unopened_ends : (how : Ending) → e.ending ≡ how → IsEmpty e → EndsUnopened how v w → ScriptEnds told faults moment script e.ending e v w
+    pub unopened_ends : (how : Ending) → e.ending ≡ how → IsEmpty e → EndsUnopened how v w → ScriptEnds told faults moment wording script e.ending e v w
     unopened_ends how is empty ends =
-        subst (λ (x : Ending). ScriptEnds told faults moment script x e v w) (sym is) (idle_ends how empty ends)
+        subst (λ (x : Ending). ScriptEnds told faults moment wording script x e v w) (sym is) (idle_ends how empty ends)
 
     -- it looked at the disk
-    pub not_before : (how : Ending) → ScriptEnds told faults moment script how e v w → is_before_board (status_of how) ≡ true → ⊥
+    pub not_before : (how : Ending) → ScriptEnds told faults moment wording script how e v w → is_before_board (status_of how) ≡ true → ⊥
     not_before (ending.Script why) ends before = absurd ends.1
     not_before ending.Read ends before = absurd ends.1
     not_before ending.TooLong ends before = absurd ends.1
     not_before ending.Usage ends before = absurd ends.1
     not_before how ends before = cc
 
-    pub not_read : (how : Ending) → ScriptEnds told faults moment script how e v w → is_read how ≡ false
+    pub not_read : (how : Ending) → ScriptEnds told faults moment wording script how e v w → is_read how ≡ false
     not_read ending.Read ends = absurd ends.1
     not_read how ends = refl
 
   -- ---- a run
 
   module _ (e : Ended) (left left' : Option (List ℕ)) (v w : Ports) where
-    pub script_runs : (how : Ending) → RunsScript told faults moment how e left left' v w → RunEnds told faults moment how e left left' v w
+    pub script_runs : (how : Ending) → RunsScript told faults moment wording how e left left' v w → RunEnds told faults moment wording how e left left' v w
     script_runs (ending.Script why) runs = absurd runs.ends.1
     script_runs ending.Read runs = absurd runs.ends.1
     script_runs ending.TooLong runs = absurd runs.ends.1
@@ -78,7 +79,7 @@ module _ {D : Type 0} (told : D → Option Past) (faults moment : D → ℕ) whe
             let e : m ≡ p.clock = omega (arith, from, to) in subst (λ (k : ℕ). Leaves (p.held k area) left) e leaves;
       }
 
-      wants : IsEmpty e → Prints whole (line_of ending.OutOfMemory) v w → LostAtMost left left' limit → RunEnds told faults moment ending.OutOfMemory e left left' v w
+      wants : IsEmpty e → Prints whole (line_of ending.OutOfMemory) v w → LostAtMost left left' limit → RunEnds told faults moment wording ending.OutOfMemory e left left' v w
       wants empty prints lost = inr (
         (
           empty,
@@ -96,14 +97,14 @@ module _ {D : Type 0} (told : D → Option Past) (faults moment : D → ℕ) whe
       lost_of : (fault : ScriptFault) → ReadsWhole (Err fault) left left' → LostAtMost left left' limit
       lost_of fault reads = (reads.bytes, reads.few, reads.consumes)
 
-      as_ends : (how other : Ending) → other ≡ how → RunEnds told faults moment how e left left' v w → RunEnds told faults moment other e left left' v w
-      as_ends how other is ends = subst (λ (x : Ending). RunEnds told faults moment x e left left' v w) (sym is) ends
+      as_ends : (how other : Ending) → other ≡ how → RunEnds told faults moment wording how e left left' v w → RunEnds told faults moment wording other e left left' v w
+      as_ends how other is ends = subst (λ (x : Ending). RunEnds told faults moment wording x e left left' v w) (sym is) ends
 
       as_prints : (how other : Ending) → other ≡ how → Prints whole (line_of other) v w → Prints whole (line_of how) v w
       as_prints how other is prints = subst (λ (x : Ending). Prints whole (line_of x) v w) is prints
 
       unread_ends : (what how : Ending) → ReadsScript (Err what) left left' → EndsAs what how → IsEmpty e → Prints whole (line_of how) v w
-          → RunEnds told faults moment how e left left' v w
+          → RunEnds told faults moment wording how e left left' v w
       unread_ends (ending.Script why) how reads (inl is) empty prints =
           as_ends (ending.Script why) how is (unseen (ending.Script why) empty (as_prints (ending.Script why) how is prints), reads)
       unread_ends (ending.Script why) how reads (inr is) empty prints =
@@ -118,7 +119,7 @@ module _ {D : Type 0} (told : D → Option Past) (faults moment : D → ℕ) whe
 
       -- the source gave no scenario
       pub unread : (what how : Ending) → e.ending ≡ how → ReadsScript (Err what) left left' → EndsAs what how → IsEmpty e → Prints whole (line_of how) v w
-          → RunEnds told faults moment e.ending e left left' v w
+          → RunEnds told faults moment wording e.ending e left left' v w
       unread what how is reads ends empty prints = as_ends how e.ending is (unread_ends what how reads ends empty prints)
 
 -- the source failed where reading it says so

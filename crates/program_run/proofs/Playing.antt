@@ -17,6 +17,7 @@ use Rattle.program_ends.specs.Ports.{Ports}
 use Rattle.program_ends.specs.declared.ending.Ending.{Ending}
 use Rattle.scenario_lines.specs.declared.script.Script.{Script}
 use Rattle.scenario_player.specs.Plays.{Plays}
+use Rattle.scenario_player.specs.Wordings.{Wording}
 use Rattle.program_run.specs.Runs.{IsOn, PlaysOn}
 use Rattle.program_run.specs.declared.ended.Ended.{Ended}
 use Rattle.program_run.proofs.Goings.{plays_goes}
@@ -27,7 +28,7 @@ pub record Gives {D : Type 0} (told : D → Option Past) (faults : D → ℕ) (l
   pub kept : ForSome (told left.disk) (Kept left.base left.log left.marks left.since)
   pub doubts : RoseForEach (doubts_in left.log) left.faults (faults left.disk)
 
-module _ {D : Type 0} (told : D → Option Past) (faults moment : D → ℕ) (script : Script) (board left : View D) (how : Ending) (e : Ended) (v w : Ports) where
+module _ {D : Type 0} (told : D → Option Past) (faults moment : D → ℕ) (wording : Wording) (script : Script) (board left : View D) (how : Ending) (e : Ended) (v w : Ports) where
   module _ (since : board.since ≡ moment board.disk) (count : board.faults ≡ faults board.disk)
       (opened : IsOn told faults moment board v) (closed : IsOn told faults moment left w)
       (log : e.log.items ≡ left.log) (marks : e.marks.items ≡ left.marks) (gives : Gives told faults left)
@@ -67,8 +68,8 @@ module _ {D : Type 0} (told : D → Option Past) (faults moment : D → ℕ) (sc
         (subst (λ (t : Option Past). Goes (told board.disk) t (WritesOn board.base fresh)) (sym closed.told_is)
         (subst (λ (x : Rows). Goes (told board.disk) (told left.disk) (WritesOn x fresh)) begins (goes.writes begin.calm (ap doubts_in same ∙ none)).1)))
 
-    on : IsFresh board → Plays told script how e.answers.items e.reports.items board left v.held w.held v.write_faults w.write_faults
-        → PlaysOn told faults moment script board.base how e v w
+    on : IsFresh board → Plays told wording script how e.answers.items e.reports.items board left v.held w.held v.write_faults w.write_faults
+        → PlaysOn told faults moment wording script board.base how e v w
     on begin plays = record {
       board = board;
       left = left;
@@ -92,8 +93,8 @@ module _ {D : Type 0} (told : D → Option Past) (faults moment : D → ℕ) (sc
   pub plays_on : IsFresh board → board.since ≡ moment board.disk → board.faults ≡ faults board.disk
       → IsOn told faults moment board v → IsOn told faults moment left w
       → e.log.items ≡ left.log → e.marks.items ≡ left.marks → Gives told faults left
-      → Plays told script how e.answers.items e.reports.items board left v.held w.held v.write_faults w.write_faults
-      → PlaysOn told faults moment script board.base how e v w
+      → Plays told wording script how e.answers.items e.reports.items board left v.held w.held v.write_faults w.write_faults
+      → PlaysOn told faults moment wording script board.base how e v w
   plays_on begin since count opened closed log marks gives plays =
-      let (fresh, goes) = plays_goes told script e.answers.items e.reports.items board left v.held w.held v.write_faults w.write_faults how plays in
+      let (fresh, goes) = plays_goes told wording script e.answers.items e.reports.items board left v.held w.held v.write_faults w.write_faults how plays in
       on since count opened closed log marks gives fresh goes begin plays

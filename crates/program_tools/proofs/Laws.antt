@@ -50,6 +50,7 @@ module _ (v w : Ports) where
   pub opens_from : (how : Ending) (what : Option Asked) → is_before_board (status_of how) ≡ true → StillEnds how what v w → what ≡ None
   opens_from how None n h = refl
   opens_from how (Some asked.Run) n h = absurd h
+  opens_from how (Some asked.Routes) n h = absurd h
   opens_from how (Some asked.Prepare) n h = absurd (prepare_opens how n h)
   opens_from how (Some asked.Records) n h = absurd (records_open how n h)
   opens_from how (Some asked.Check) n h = absurd (check_opens how n h)
@@ -80,6 +81,7 @@ module _ (v w : Ports) where
   unwritten_from ending.Unwritten (Some asked.Check) n (check, s) = s.prints.cause.rose refl
   unwritten_from ending.Unwritten (Some asked.Prepare) n h = absurd h
   unwritten_from ending.Unwritten (Some asked.Run) n h = absurd h
+  unwritten_from ending.Unwritten (Some asked.Routes) n h = absurd h
   unwritten_from ending.Unwritten None n h = absurd h
   unwritten_from how what n h = absurd (omega (arith, n))
 
@@ -88,11 +90,13 @@ module _ (v w : Ports) where
   unstored_from ending.Unopened (Some asked.Check) n h = h.cause.rose refl
   unstored_from ending.Unopened (Some asked.Prepare) n h = h.cause.rose refl
   unstored_from ending.Unopened (Some asked.Run) n h = absurd h
+  unstored_from ending.Unopened (Some asked.Routes) n h = absurd h
   unstored_from ending.Unopened None n h = absurd h
   unstored_from ending.Doubt (Some asked.Records) n h = absurd h
   unstored_from ending.Doubt (Some asked.Check) n h = absurd h
   unstored_from ending.Doubt (Some asked.Prepare) n h = absurd h
   unstored_from ending.Doubt (Some asked.Run) n h = absurd h
+  unstored_from ending.Doubt (Some asked.Routes) n h = absurd h
   unstored_from ending.Doubt None n h = absurd h
   unstored_from how what n h = absurd (omega (arith, n))
 
@@ -102,11 +106,13 @@ module _ (v w : Ports) where
   refused_from (ending.NotABoard area) (Some asked.Check) n h = (fault.NotABoard area, h.early.cause.stood refl, h.refused)
   refused_from (ending.NotABoard area) (Some asked.Prepare) n h = absurd h
   refused_from (ending.NotABoard area) (Some asked.Run) n h = absurd h
+  refused_from (ending.NotABoard area) (Some asked.Routes) n h = absurd h
   refused_from (ending.NotABoard area) None n h = absurd h
   refused_from (ending.Damaged area at) (Some asked.Records) n h = (fault.Damaged area at, h.early.cause.stood refl, h.refused)
   refused_from (ending.Damaged area at) (Some asked.Check) n h = (fault.Damaged area at, h.early.cause.stood refl, h.refused)
   refused_from (ending.Damaged area at) (Some asked.Prepare) n h = absurd h
   refused_from (ending.Damaged area at) (Some asked.Run) n h = absurd h
+  refused_from (ending.Damaged area at) (Some asked.Routes) n h = absurd h
   refused_from (ending.Damaged area at) None n h = absurd h
   refused_from how what n h = absurd (omega (arith, n))
 
@@ -117,6 +123,7 @@ module _ (v w : Ports) where
   exists_from ending.Exists (Some asked.Records) n h = absurd h
   exists_from ending.Exists (Some asked.Check) n h = absurd h
   exists_from ending.Exists (Some asked.Run) n h = absurd h
+  exists_from ending.Exists (Some asked.Routes) n h = absurd h
   exists_from ending.Exists None n h = absurd h
   exists_from how what n h = absurd (omega (arith, n))
 
@@ -160,6 +167,7 @@ module _ (v w : Ports) where
 
   pub later_from : (how : Ending) (what : Option Asked) → StillEnds how what v w → v.disk_faults ≤ w.disk_faults
   later_from how (Some asked.Run) h = absurd h
+  later_from how (Some asked.Routes) h = absurd h
   later_from how (Some asked.Prepare) h = prepare_later how h
   later_from how (Some asked.Records) h = records_later how h
   later_from how (Some asked.Check) h = check_later how h
@@ -182,6 +190,7 @@ module _ (v w : Ports) where
   refusal_met : (how : Ending) (what : Option Asked) → status_of how ≡ 6 → StillEnds how what v w → MeetsStill what v.told → IsTold w.told → ⊥
   refusal_met how None n h m told = m
   refusal_met how (Some asked.Run) n h m told = m
+  refusal_met how (Some asked.Routes) n h m told = m
   refusal_met how (Some asked.Prepare) n h m told = no_refusal how n h
     where
       no_refusal : (x : Ending) → status_of x ≡ 6 → PrepareEnds x v w → ⊥
@@ -196,6 +205,7 @@ module _ (v w : Ports) where
   bytes_met (Some asked.Records) h m told = h
   bytes_met (Some asked.Check) h m told = h
   bytes_met (Some asked.Run) h m told = h
+  bytes_met (Some asked.Routes) h m told = h
   bytes_met None h m told = h
 
   grammar_met : (how : Ending) (what : Option Asked) → is_before_board (status_of how) ≡ true → StillEnds how what v w → MeetsStill what v.told → ⊥
@@ -260,6 +270,7 @@ module _ (v w : Ports) where
     where
       by_word : (x : Option Asked) → StillEnds how x v w → MeetsObstacle x v.told → IsStopped x (status_of how)
       by_word (Some asked.Run) h m = absurd m
+      by_word (Some asked.Routes) h m = absurd m
       by_word (Some asked.Prepare) h m = prepare_stopped how h m told disk
       by_word (Some asked.Records) h m = records_stopped how h m told disk
       by_word (Some asked.Check) h m = check_stopped how h m told disk

@@ -71,6 +71,7 @@ UsageEnds other v w = ⊥
 -- how words that ask for no run end
 abbrev pub StillEnds : Ending → Option Asked → Ports → Ports → Type 0
 StillEnds how (Some asked.Run) v w = ⊥
+StillEnds how (Some asked.Routes) v w = ⊥
 StillEnds how (Some asked.Prepare) v w = PrepareEnds how v w
 StillEnds how (Some asked.Records) v w = RecordsEnds how v w
 StillEnds how (Some asked.Check) v w = CheckEnds how v w
@@ -86,6 +87,7 @@ pub record MeetsBoard (told : Option Past) : Type 0 where
 -- the disk tells what the word asks for: two empty areas, or a board
 abbrev pub MeetsStill : Option Asked → Option Past → Type 0
 MeetsStill (Some asked.Run) told = ⊥
+MeetsStill (Some asked.Routes) told = ⊥
 MeetsStill (Some asked.Prepare) told = Shows told (λ area. [])
 MeetsStill (Some asked.Records) told = MeetsBoard told
 MeetsStill (Some asked.Check) told = MeetsBoard told
@@ -107,6 +109,7 @@ pub record MeetsBytes (told : Option Past) : Type 0 where
 -- the disk tells what stops the word: an area that isn't empty, or no board
 abbrev pub MeetsObstacle : Option Asked → Option Past → Type 0
 MeetsObstacle (Some asked.Run) told = ⊥
+MeetsObstacle (Some asked.Routes) told = ⊥
 MeetsObstacle (Some asked.Prepare) told = MeetsBytes told
 MeetsObstacle (Some asked.Records) told = MeetsNoBoard told
 MeetsObstacle (Some asked.Check) told = MeetsNoBoard told
@@ -115,6 +118,7 @@ MeetsObstacle None told = ⊥
 -- the word ends with the status of what stops it; the line of a defect may want memory
 abbrev pub IsStopped : Option Asked → ℕ → Type 0
 IsStopped (Some asked.Run) status = ⊥
+IsStopped (Some asked.Routes) status = ⊥
 IsStopped (Some asked.Prepare) status = status ≡ 9
 IsStopped (Some asked.Records) status = (status ≡ 6) ⊎ (status ≡ 7)
 IsStopped (Some asked.Check) status = (status ≡ 6) ⊎ (status ≡ 7)

@@ -1,5 +1,5 @@
 //! The top call of the words that ask for no run.
-ghost use Rattle.std.specs.Prelude.{◌≡◌, ◌≢◌, ◌⊎◌, ◌↔◌, true, None, Some, [], map, string_bytes};
+ghost use Rattle.std.specs.Prelude.{◌≡◌, ◌⊎◌, ◌↔◌, true, false, None, Some, [], map, string_bytes};
 ghost use Rattle.byte_ports.specs.Cause.{Rose};
 ghost use Rattle.disk_trait.specs.Past.{Image};
 ghost use Rattle.disk_trait.specs.Shows.{Shows};
@@ -12,7 +12,7 @@ ghost use Rattle.program_ends.specs.Opening.{is_before_board};
 ghost use Rattle.program_ends.specs.Ports.{IsTold, ports_of};
 ghost use Rattle.program_ends.specs.declared.ending.Ending.{Ending as AnEnding};
 ghost use Rattle.program_tools.specs.Still.{StillEnds, MeetsStill, MeetsObstacle, IsStopped};
-ghost use Rattle.program_tools.specs.Words.{asked_of};
+ghost use Rattle.program_tools.specs.Words.{asked_of, asks_for_run};
 ghost use Rattle.program_tools.specs.declared.words.Asked.TheVariants as wanted;
 
 use crate::preparing::prepare_board;
@@ -30,7 +30,7 @@ fn still<K: Sink, D: Disk>(
     sink: &mut K,
     mut disk: D,
 ) -> (Ending, D)
-    requires { asked ≢ Some wanted.Run }
+    requires { asks_for_run asked ≡ false }
     ensures untouched { asked ≡ None → result.1 ≡ disk }
     ensures ends { StillEnds result.0 asked
         (ports_of (K.held sink.old) (K.faults sink.old)
@@ -58,7 +58,7 @@ pub fn still_top<S: Source, K: Sink, D: Disk>(
     mut sink: K,
     disk: D,
 ) -> TopEnd<S, K, D>
-    requires { asked_of (map (λ w. string_bytes w) words.now) ≢ Some wanted.Run }
+    requires { asks_for_run (asked_of (map (λ w. string_bytes w) words.now)) ≡ false }
     ensures source { result.source ≡ source }
     ensures lists { (result.log.items ≡ []) × (result.marks.items ≡ [])
         × (result.answers.items ≡ []) × (result.reports.items ≡ []) }

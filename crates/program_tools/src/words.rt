@@ -11,6 +11,8 @@ use std::alloc::{AllocError, Global};
 pub enum Asked {
     /// To run the scenario that the source gives.
     Run,
+    /// To run it, and to print what it changes of the routes in place of all that it does.
+    Routes,
     /// To make an empty board.
     Prepare,
     /// To print each row of the board.
@@ -21,7 +23,13 @@ pub enum Asked {
 
 impl Asked {
     /// All that the program can be asked for.
-    pub(crate) const ALL: [Asked; 4] = [Asked::Run, Asked::Prepare, Asked::Records, Asked::Check];
+    pub(crate) const ALL: [Asked; 5] = [
+        Asked::Run,
+        Asked::Routes,
+        Asked::Prepare,
+        Asked::Records,
+        Asked::Check,
+    ];
 
     /// The word that asks for it.
     pub(crate) fn word(self) -> &'static str
@@ -29,6 +37,7 @@ impl Asked {
     {
         match self {
             Asked::Run => "run",
+            Asked::Routes => "routes",
             Asked::Prepare => "prepare",
             Asked::Records => "records",
             Asked::Check => "check",
@@ -81,14 +90,17 @@ mod tests {
 
     #[test]
     fn one_word_behind_the_programs_name_is_read(rt: HostRuntime) -> Result<(), Fail> {
-        let cases: [(&[&str], Option<Asked>); 21] = [
+        let cases: [(&[&str], Option<Asked>); 25] = [
             (&["diego", "run"], Some(Asked::Run)),
+            (&["diego", "routes"], Some(Asked::Routes)),
             (&["diego", "prepare"], Some(Asked::Prepare)),
             (&["diego", "records"], Some(Asked::Records)),
             (&["diego", "check"], Some(Asked::Check)),
             (&["", "check"], Some(Asked::Check)),
             (&["diego", "Records"], None),
             (&["diego", "record"], None),
+            (&["diego", "route"], None),
+            (&["diego", "Routes"], None),
             (&["diego", "checks"], None),
             (&["diego", ""], None),
             (&["diego", "-h"], None),
@@ -96,6 +108,7 @@ mod tests {
             (&["diego", "--"], None),
             (&["diego", "help"], None),
             (&["diego", "run", "x"], None),
+            (&["diego", "routes", "run"], None),
             (&["diego", "run", "--"], None),
             (&["diego", "check", "records"], None),
             (&["diego", "generate", "7"], None),

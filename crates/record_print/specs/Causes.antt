@@ -14,7 +14,7 @@ use Rattle.container_store.specs.declared.refusal.StoreRefusal.TheVariants as st
 use Rattle.cell_rep.specs.declared.call_end.RepRefusal.{RepRefusal}
 use Rattle.cell_rep.specs.declared.call_end.RepRefusal.TheVariants.{Down, Store}
 use Rattle.record_print.specs.Words.{state_word}
-use Rattle.record_print.specs.Spelled.{instance_text}
+use Rattle.line_writing.specs.Spelled.{instance_text}
 
 -- that container has the row
 abbrev pub held_text : Instance → List ℕ

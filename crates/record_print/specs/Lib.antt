@@ -4,4 +4,4 @@ pub mod Causes
 pub mod PrintedRows
 pub mod Printed
 pub mod PrintedRounds
-pub mod Writing
+pub mod Jobs

@@ -1,7 +1,8 @@
 -- The lines that are printed: each the compact text of one JSON object with its members in byte order, and a newline.
-use Rattle.std.specs.Prelude.{ℕ, List, [], ◌∷◌, ◌++◌, codes}
+use Rattle.std.specs.Prelude.{ℕ, List, codes}
 use Rattle.serde_json.specs.Data.{Data, string, object, member, no_members, Members}
-use Rattle.serde_json.specs.Written.{compact_text}
+pub use Rattle.line_writing.specs.Line.{line_text}
+use Rattle.line_writing.specs.Spelled.{whole}
 use Rattle.bbs_model.specs.declared.event.Event.{Event}
 use Rattle.bbs_model.specs.declared.event.Row.{Row}
 use Rattle.bbs_model.specs.declared.reply.Reply.TheVariants as reply
@@ -11,13 +12,9 @@ use Rattle.record_print.specs.declared.asked.Asked.{Asked}
 use Rattle.record_print.specs.declared.check.Check.{Check}
 use Rattle.record_print.specs.declared.summary.Summary.{Summary}
 use Rattle.record_print.specs.Words.{check_area_word, asked_word, change_word, end_word, table_word}
-use Rattle.record_print.specs.Spelled.{whole, asked_subject}
+use Rattle.record_print.specs.Spelled.{asked_subject}
 use Rattle.record_print.specs.Causes.{why_text, rep_why_text}
 use Rattle.record_print.specs.PrintedRows.{row_data}
-
--- one line
-abbrev pub line_text : Data → List ℕ
-line_text d = compact_text d ++ 10 ∷ []
 
 -- a row, with its table
 abbrev pub record_data : Row → Data

@@ -4,7 +4,8 @@ use Rattle.serde_json.specs.Data.{Data, boolean, string, array, object, member, 
 use Rattle.serde_json.specs.View.{items_of}
 use Rattle.cell_records.specs.declared.job_name.JobName.{JobName}
 use Rattle.convergence.specs.declared.report.Report.{Report}
-use Rattle.record_print.specs.Spelled.{whole, job_text}
+use Rattle.line_writing.specs.Spelled.{whole}
+use Rattle.record_print.specs.Spelled.{job_text}
 
 -- nothing was lost or refused, each job has its place, and nobody else did anything in the meantime
 abbrev pub is_complete : Report → Bool

@@ -13,7 +13,7 @@ use Rattle.bbs_model.specs.declared.domain_row.DomainRow.{DomainRow}
 use Rattle.bbs_model.specs.declared.event.Row.{Row}
 use Rattle.bbs_model.specs.declared.event.Row.TheVariants as row
 use Rattle.record_print.specs.Words.{presence_word, state_word}
-use Rattle.record_print.specs.Spelled.{whole, optional_number_data, optional_name_data, optional_instance_data, optional_truth_data}
+use Rattle.line_writing.specs.Spelled.{whole, optional_number_data, optional_name_data, optional_instance_data, optional_truth_data}
 
 -- whether a task failed, once it has its outcome
 abbrev pub failed_of : TaskState → Option Bool

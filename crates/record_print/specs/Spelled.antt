@@ -1,8 +1,6 @@
--- How instances and keys are spelled, what a command names, and what isn't there.
-use Rattle.std.specs.Prelude.{ℕ, Bool, List, ◌++◌, Option, Some, None, codes}
+-- How keys are spelled, and what a command names.
+use Rattle.std.specs.Prelude.{ℕ, List, ◌++◌, Some, None, codes}
 use Rattle.std.specs.Fmt.{decimal}
-use Rattle.serde_json.specs.Data.{Data, null, boolean, number, unsigned, string}
-use Rattle.diego_names.specs.declared.instance.Instance.{Instance}
 use Rattle.diego_names.specs.declared.key.Key.{Key}
 use Rattle.cell_records.specs.declared.job_name.JobName.{JobName}
 use Rattle.cell_records.specs.declared.job_name.JobName.TheVariants as job
@@ -10,10 +8,6 @@ use Rattle.bbs_model.specs.declared.command.Op.{Op}
 use Rattle.bbs_model.specs.declared.command.Op.TheVariants as op
 use Rattle.record_print.specs.declared.asked.Asked.{Asked}
 use Rattle.record_print.specs.declared.asked.Asked.TheVariants as asked
-
--- an instance: the epoch of its cell, a point, and its number there
-abbrev pub instance_text : Instance → List ℕ
-instance_text instance = decimal instance.epoch ++ (codes "." ++ decimal instance.number)
 
 -- a key: the process, a slash, and the index
 abbrev pub key_text : Key → List ℕ
@@ -61,27 +55,3 @@ abbrev pub asked_subject : List ℕ → Asked → List ℕ
 asked_subject actor (asked.Command op) = subject_text op
 asked_subject actor (asked.Word word (Some job)) = job_text job
 asked_subject actor (asked.Word word None) = actor
-
--- a whole number
-abbrev pub whole : ℕ → Data
-whole n = number (unsigned n)
-
--- a whole number, or null
-abbrev pub optional_number_data : Option ℕ → Data
-optional_number_data None = null
-optional_number_data (Some n) = whole n
-
--- a name, or null
-abbrev pub optional_name_data : Option (List ℕ) → Data
-optional_name_data None = null
-optional_name_data (Some name) = string name
-
--- an instance as its text, or null
-abbrev pub optional_instance_data : Option Instance → Data
-optional_instance_data None = null
-optional_instance_data (Some instance) = string (instance_text instance)
-
--- a truth value, or null
-abbrev pub optional_truth_data : Option Bool → Data
-optional_truth_data None = null
-optional_truth_data (Some truth) = boolean truth

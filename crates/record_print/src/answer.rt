@@ -2,11 +2,9 @@
 ghost use Rattle.std.specs.Prelude.{◌≡◌, IfOk, OnOk};
 ghost use Rattle.serde_json.specs.Data.{no_members as nothing_more};
 ghost use Rattle.record_print.specs.Printed.{line_text, answer_data, answer_members, refused_data};
-ghost use Rattle.record_print.specs.Writing.{AddsValue};
+ghost use Rattle.line_writing.specs.Writing.{AddsValue};
 
 use crate::asked::Asked;
-use crate::line::{line_begun, line_ended};
-use crate::member::{begin, end, put_number, put_text};
 use crate::spelled::asked_subject;
 use crate::why::{rep_why_text, why_text};
 use crate::word::{asked_word, end_word};
@@ -14,6 +12,7 @@ use bbs_model::Reply;
 use cell_rep::CallEnd;
 use diego_names::Name;
 use json::Writer;
+use line_writing::{begin, end, line_begun, line_ended, put_number, put_text};
 use std::alloc::{AllocError, Global};
 
 /// The answer to an actor at a line of the scenario.

@@ -1,13 +1,12 @@
 //! The line that tells what a board's disk holds.
 ghost use Rattle.std.specs.Prelude.{◌≡◌, IfOk, OnOk};
 ghost use Rattle.record_print.specs.Printed.{check_data, line_text};
-ghost use Rattle.record_print.specs.Writing.{AddsValue};
+ghost use Rattle.line_writing.specs.Writing.{AddsValue};
 
-use crate::line::{line_begun, line_ended};
-use crate::member::{begin, end, put_number, put_text};
 use crate::word::area_word;
 use disk_trait::Area;
 use json::Writer;
+use line_writing::{begin, end, line_begun, line_ended, put_number, put_text};
 use std::alloc::{AllocError, Global};
 
 /// What a check of a board finds.

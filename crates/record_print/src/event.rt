@@ -1,14 +1,13 @@
 //! The lines that tell a row, and what became of one.
 ghost use Rattle.std.specs.Prelude.{◌≡◌, IfOk, OnOk};
 ghost use Rattle.record_print.specs.Printed.{event_data, line_text, record_data};
-ghost use Rattle.record_print.specs.Writing.{AddsValue};
+ghost use Rattle.line_writing.specs.Writing.{AddsValue};
 
-use crate::line::{line_begun, line_ended};
-use crate::member::{begin, end, put_text};
 use crate::rows::put_row;
 use crate::word::{change_word, table_word};
 use bbs_model::{Event, Row};
 use json::Writer;
+use line_writing::{begin, end, line_begun, line_ended, put_text};
 use std::alloc::{AllocError, Global};
 
 /// An event of the board.

@@ -5,8 +5,6 @@ mod answer;
 mod asked;
 mod check;
 mod event;
-mod line;
-mod member;
 mod round;
 mod rows;
 mod spelled;

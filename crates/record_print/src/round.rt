@@ -2,14 +2,17 @@
 ghost use Rattle.std.specs.Prelude.{◌≡◌, codes, IfOk, OnOk};
 ghost use Rattle.record_print.specs.PrintedRounds.{failed_round_data, is_complete, report_data, subjects_data};
 ghost use Rattle.record_print.specs.Printed.{line_text};
-ghost use Rattle.record_print.specs.Writing.{AddsMember, AddsTokens, AddsValue, job_tokens};
+ghost use Rattle.line_writing.specs.Writing.{AddsMember, AddsTokens, AddsValue};
+ghost use Rattle.record_print.specs.Jobs.{job_tokens};
 
-use crate::line::{line_begun, line_ended};
-use crate::member::{begin, begin_list, end, end_list, put_key, put_number, put_text, put_truth};
 use crate::spelled::job_text;
 use cell_records::JobName;
 use convergence::Report;
 use json::Writer;
+use line_writing::{
+    begin, begin_list, end, end_list, line_begun, line_ended, put_key, put_number, put_text,
+    put_truth,
+};
 use std::alloc::{AllocError, Global};
 
 /// What a round reports.

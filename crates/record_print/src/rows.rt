@@ -1,7 +1,7 @@
 //! The rows of the five tables as objects, with the members that are printed.
 ghost use Rattle.std.specs.Prelude.{codes, OnOk};
 ghost use Rattle.record_print.specs.PrintedRows.{row_data};
-ghost use Rattle.record_print.specs.Writing.{AddsMember, AddsValue};
+ghost use Rattle.line_writing.specs.Writing.{AddsMember, AddsValue};
 
 mod actual;
 mod cell;
@@ -9,13 +9,13 @@ mod desired;
 mod domain;
 mod task;
 
-use crate::member::put_key;
 use actual::put_actual;
 use bbs_model::Row;
 use cell::put_cell;
 use desired::put_desired;
 use domain::put_domain;
 use json::Writer;
+use line_writing::put_key;
 use std::alloc::{AllocError, Global};
 use task::put_task;
 

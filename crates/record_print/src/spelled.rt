@@ -1,21 +1,12 @@
-//! How an instance and a key are spelled, and what a command names.
+//! How a key is spelled, and what a command names.
 ghost use Rattle.std.specs.Prelude.{◌≡◌, IfOk, string_bytes};
-ghost use Rattle.record_print.specs.Spelled.{asked_subject, instance_text, job_text, key_text, subject_text};
+ghost use Rattle.record_print.specs.Spelled.{asked_subject, job_text, key_text, subject_text};
 
 use crate::asked::Asked;
 use bbs_model::Op;
 use cell_records::JobName;
-use diego_names::{Instance, Key, Name};
+use diego_names::{Key, Name};
 use std::alloc::{AllocError, Global};
-
-/// The epoch of its cell, a point, and its number there.
-pub fn instance_text(alloc: Global, instance: &Instance) -> Result<String, AllocError>
-    ensures { IfOk result (λ s. string_bytes s ≡ instance_text instance.now) }
-{
-    let epoch = instance.epoch;
-    let number = instance.number;
-    format!(in alloc; "{epoch}.{number}")
-}
 
 /// The process, a slash, and the index.
 pub fn key_text(alloc: Global, key: &Key) -> Result<String, AllocError>

@@ -1,11 +1,10 @@
 //! The last line of a run.
 ghost use Rattle.std.specs.Prelude.{◌≡◌, IfOk, OnOk};
 ghost use Rattle.record_print.specs.Printed.{line_text, summary_data};
-ghost use Rattle.record_print.specs.Writing.{AddsValue};
+ghost use Rattle.line_writing.specs.Writing.{AddsValue};
 
-use crate::line::{line_begun, line_ended};
-use crate::member::{begin, end, put_number};
 use json::Writer;
+use line_writing::{begin, end, line_begun, line_ended, put_number};
 use std::alloc::{AllocError, Global};
 
 /// The counts of a run.

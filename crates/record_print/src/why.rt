@@ -2,12 +2,12 @@
 ghost use Rattle.std.specs.Prelude.{◌≡◌, IfOk, string_bytes};
 ghost use Rattle.record_print.specs.Causes.{held_text, lrp_why_text, not_due_text, rep_why_text, store_why_text, task_why_text, why_text, wrong_instance_text, wrong_state_text};
 
-use crate::spelled::instance_text;
 use crate::word::state_word;
 use bbs_model::BoardRefusal;
 use cell_rep::RepRefusal;
 use container_store::StoreRefusal;
 use diego_names::{Instance, StateName};
+use line_writing::instance_text;
 use lrp_records::LrpRefusal;
 use std::alloc::{AllocError, Global};
 use task_records::TaskRefusal;

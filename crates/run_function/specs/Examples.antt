@@ -15,6 +15,7 @@ use Rattle.scenario_lines.specs.declared.actor.Actor.{Actor}
 use Rattle.scenario_lines.specs.declared.script.Line.{Line}
 use Rattle.scenario_lines.specs.declared.script.Phase.{Phase}
 use Rattle.scenario_lines.specs.declared.script.Script.{Script}
+use Rattle.scenario_player.specs.Wordings.{whole_wording}
 use Rattle.run_function.specs.Boards.{SoleBoard}
 use Rattle.run_function.specs.Scripts.{items_alone, words_alone}
 
@@ -89,10 +90,10 @@ task_act name = act.Client (op.NewTask name 64 64 None)
 
 -- a run on an empty board prints these pieces of a text, joined
 abbrev pub PrintsPieces : Script → List (List ℕ) → Type 0
-PrintsPieces script pieces = words_alone script empty ≡ flat_map (λ piece. piece) pieces
+PrintsPieces script pieces = words_alone whole_wording script empty ≡ flat_map (λ piece. piece) pieces
 
 -- a run on an empty board writes these payloads behind what the disk reads
 abbrev pub Writes : Script → List (List ℕ) → Type 0
 Writes script payloads =
     (written_behind empty.base (record { area = A; version = 2; generation = 1; head = []; payloads = [] })
-    (items_alone script empty)).payloads ≡ payloads
+    (items_alone whole_wording script empty)).payloads ≡ payloads

@@ -8,7 +8,7 @@ use byte_ports::{MemorySink, OpenGate};
 use disk_trait::MemoryDisk;
 use program_ends::Ending;
 use scenario_lines::Script;
-use scenario_player::{Played, play};
+use scenario_player::{Played, WholeTeller, play};
 use scenario_reader::read_script;
 use std::alloc::Global;
 use std::panic::Expect;
@@ -127,7 +127,9 @@ fn play_on(
     requires script { IsScript script.now }
     requires fresh { board.log ≡ [] }
 {
-    let (board, played) = play(rt, alloc, script, board, sink, &OpenGate);
+    let (board, played) = play::<WholeTeller, _, _, _, _>(
+        rt, alloc, script, board, sink, &OpenGate,
+    );
     close(board);
     played
 }

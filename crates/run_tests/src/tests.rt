@@ -30,6 +30,8 @@ mod mending;
 mod pairs;
 mod playing;
 mod rounds;
+mod route_tables;
+mod routes;
 mod shapes;
 mod shown;
 mod together;

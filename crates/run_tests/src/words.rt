@@ -4,9 +4,8 @@ mod bytes;
 mod faults;
 mod shown;
 
-ghost use Rattle.std.specs.Prelude.{◌≢◌, Some, map, string_bytes};
-ghost use Rattle.program_tools.specs.Words.{asked_of};
-ghost use Rattle.program_tools.specs.declared.words.Asked.TheVariants as wanted;
+ghost use Rattle.std.specs.Prelude.{◌≡◌, false, map, string_bytes};
+ghost use Rattle.program_tools.specs.Words.{asked_of, asks_for_run};
 
 use crate::given::{
     Given, Left, areas_disk, ends, holds, left_of, sink_of, source_of, tells_nothing, words_of,
@@ -19,11 +18,11 @@ use std::process::Abort;
 
 // The words, which must not ask for a run.
 fn still_words_of(rt: &impl Abort, alloc: Global, texts: &[&str]) -> Vec<String>
-    ensures { asked_of (map (λ w. string_bytes w) result.items) ≢ Some wanted.Run }
+    ensures { asks_for_run (asked_of (map (λ w. string_bytes w) result.items)) ≡ false }
 {
     let words = words_of(rt, alloc, texts);
     let asked = read_words(alloc, &words);
-    assert!(rt; !matches!(asked, Some(Asked::Run)));
+    assert!(rt; !matches!(asked, Some(Asked::Run) | Some(Asked::Routes)));
     words
 }
 

@@ -24,6 +24,7 @@ use Rattle.phase_actors.specs.Runs.{is_starved_end}
 use Rattle.phase_runs.specs.Actors.{LogBegins}
 use Rattle.scenario_player.specs.Courses.{beginning, PlaysPhase, RunCourse}
 use Rattle.scenario_player.specs.Plays.{IsCutIn, IsUntold, Plays, PlaysCut, PlaysPart, PlaysUnsummed, PlaysWhole, RanFirst}
+use Rattle.scenario_player.specs.Wordings.{Wording}
 use Rattle.run_theorem.specs.Answers.{IsTrueOf}
 use Rattle.run_theorem.specs.Headline.{RunEndsAt, IsFaithful, outset}
 use Rattle.run_theorem.specs.Laws.{PlayedRunsAreFaithful, PlayedRunsKeepBase}
@@ -44,15 +45,15 @@ begins_as first log same = ([], same ∙ sym (append-nil first))
 abbrev pub TasksCompleteOnce : Type 0
 TasksCompleteOnce = (base : Rows) (log : List Item) (birth : ℕ) → IsValid base → IsLawful base log → CompletesOnce base log birth
 
-module _ {D : Type 0} (told : D → Option Past) (once : TasksCompleteOnce) (converges : CompleteRoundsConverge) (accounts : RoundsHaveAccounts) (script : Script)
+module _ {D : Type 0} (told : D → Option Past) (once : TasksCompleteOnce) (converges : CompleteRoundsConverge) (accounts : RoundsHaveAccounts) (wording : Wording) (script : Script)
     (is_script : IsScript script) (v : View D) (fresh : v.log ≡ []) (valid : IsValid v.base) where
-  agreed : (ran rest : List Phase) (s : RunCourse D) → RanFirst told script v ran rest s → Agreed told v.base converges accounts script ran (beginning script v) s
+  agreed : (ran rest : List Phase) (s : RunCourse D) → RanFirst told wording script v ran rest s → Agreed told v.base converges accounts wording script ran (beginning script v) s
   agreed ran rest s first =
-      phases_agree told v.base converges accounts script ran (beginning script v) s first.each refl (names_apart script.actors is_script.distinct)
+      phases_agree told v.base converges accounts wording script ran (beginning script v) s first.each refl (names_apart script.actors is_script.distinct)
 
   -- the first phases ran, and the log goes on from theirs
   faithful : (how : Ending) (answers : List Answered) (reports : List Report) (log : List Item) (ran rest : List Phase) (s : RunCourse D)
-      → RanFirst told script v ran rest s → IsLawful v.base log → answers ≡ s.answers → reports ≡ s.reports → LogBegins s.board.log log
+      → RanFirst told wording script v ran rest s → IsLawful v.base log → answers ≡ s.answers → reports ≡ s.reports → LogBegins s.board.log log
       → RunEndsAt how v.base log rest (point_of s) → IsFaithful script how answers reports v.base log
   faithful how answers reports log ran rest s first lawful answers_are reports_are goes ends = record {
     replies = λ a inside. its_true a inside;
@@ -92,31 +93,31 @@ module _ {D : Type 0} (told : D → Option Past) (once : TasksCompleteOnce) (con
 
   module _ (answers : List Answered) (reports : List Report) (w : View D) (lawful : IsLawful v.base w.log) where
     -- the board is as the last phase left it
-    at_last : (how : Ending) (ran rest : List Phase) (s : RunCourse D) → RanFirst told script v ran rest s → answers ≡ s.answers → reports ≡ s.reports
+    at_last : (how : Ending) (ran rest : List Phase) (s : RunCourse D) → RanFirst told wording script v ran rest s → answers ≡ s.answers → reports ≡ s.reports
         → w ≡ s.board → (length s.board.log ≡ length w.log → RunEndsAt how v.base w.log rest (point_of s)) → IsFaithful script how answers reports v.base w.log
     at_last how ran rest s first answers_are reports_are board ends =
         faithful how answers reports w.log ran rest s first lawful answers_are reports_are
         (begins_as s.board.log w.log (ap (λ (x : View D). x.log) board)) (ends (ap (λ (x : View D). length x.log) (sym board)))
 
     module _ (held held' : Option (List ℕ)) (faults faults' : ℕ) where
-      whole_done : PlaysWhole told script ending.Done answers reports v w held held' faults faults' → IsFaithful script ending.Done answers reports v.base w.log
+      whole_done : PlaysWhole told wording script ending.Done answers reports v w held held' faults faults' → IsFaithful script ending.Done answers reports v.base w.log
       whole_done p =
           at_last ending.Done p.ran p.rest p.last p.ends.first p.ends.answers_are p.ends.reports_are p.ends.board (λ e. (e, p.over.0, p.over.1))
 
-      whole_doubt : PlaysWhole told script ending.Doubt answers reports v w held held' faults faults' → IsFaithful script ending.Doubt answers reports v.base w.log
+      whole_doubt : PlaysWhole told wording script ending.Doubt answers reports v w held held' faults faults' → IsFaithful script ending.Doubt answers reports v.base w.log
       whole_doubt p =
           at_last ending.Doubt p.ran p.rest p.last p.ends.first p.ends.answers_are p.ends.reports_are p.ends.board (λ e. (e, p.over))
 
-      unsummed : PlaysUnsummed told script answers reports v w held held' faults faults' → IsFaithful script ending.Unwritten answers reports v.base w.log
+      unsummed : PlaysUnsummed told wording script answers reports v w held held' faults faults' → IsFaithful script ending.Unwritten answers reports v.base w.log
       unsummed p =
           at_last ending.Unwritten p.ran p.rest p.last p.ends.first p.ends.answers_are p.ends.reports_are p.ends.board (λ e. e)
 
-      part : PlaysPart told script answers reports v w held held' faults faults' → IsFaithful script ending.Unwritten answers reports v.base w.log
+      part : PlaysPart told wording script answers reports v w held held' faults faults' → IsFaithful script ending.Unwritten answers reports v.base w.log
       part p =
           at_last ending.Unwritten (p.ran ++ p.phase ∷ []) p.rest p.last
           (record {
             split = p.first.split ∙ sym (append_assoc p.ran (p.phase ∷ []) p.rest);
-            each = each_last (PlaysPhase told script) p.ran p.phase (beginning script v) p.before p.last p.first.each p.plays;
+            each = each_last (PlaysPhase told wording script) p.ran p.phase (beginning script v) p.before p.last p.first.each p.plays;
           })
           p.answers_are p.reports_are p.board (λ e. e)
 
@@ -124,7 +125,7 @@ module _ {D : Type 0} (told : D → Option Past) (once : TasksCompleteOnce) (con
       untold_grows phase s (inl cut) = (cut.fresh, cut.goes.grows)
       untold_grows phase s (inr (news, parts, report, ran)) = (ran.fresh, ran.goes.grows)
 
-      cut_off : (p : PlaysCut told script answers reports v w held held' faults faults') → IsCutIn told p.last p.rest w
+      cut_off : (p : PlaysCut told wording script answers reports v w held held' faults faults') → IsCutIn told p.last p.rest w
           → IsFaithful script ending.OutOfMemory answers reports v.base w.log
       cut_off p cut =
           faithful ending.OutOfMemory answers reports w.log p.ran p.rest p.last p.first lawful p.answers_are p.reports_are
@@ -136,17 +137,17 @@ module _ {D : Type 0} (told : D → Option Past) (once : TasksCompleteOnce) (con
             cut = is_cut told v.base cut.phase p.last cut.calm (agreed p.ran p.rest p.last p.first).base_is w cut.untold;
           }))
 
-      starved : (p : PlaysCut told script answers reports v w held held' faults faults') → (w ≡ p.last.board) ⊎ IsCutIn told p.last p.rest w
+      starved : (p : PlaysCut told wording script answers reports v w held held' faults faults') → (w ≡ p.last.board) ⊎ IsCutIn told p.last p.rest w
           → IsFaithful script ending.OutOfMemory answers reports v.base w.log
       starved p (inl board) = at_last ending.OutOfMemory p.ran p.rest p.last p.first p.answers_are p.reports_are board (λ e. inl e)
       starved p (inr cut) = cut_off p cut
 
-      unwritten : PlaysPart told script answers reports v w held held' faults faults' ⊎ PlaysUnsummed told script answers reports v w held held' faults faults'
+      unwritten : PlaysPart told wording script answers reports v w held held' faults faults' ⊎ PlaysUnsummed told wording script answers reports v w held held' faults faults'
           → IsFaithful script ending.Unwritten answers reports v.base w.log
       unwritten (inl p) = part p
       unwritten (inr p) = unsummed p
 
-      played : (how : Ending) → Plays told script how answers reports v w held held' faults faults' → IsFaithful script how answers reports v.base w.log
+      played : (how : Ending) → Plays told wording script how answers reports v w held held' faults faults' → IsFaithful script how answers reports v.base w.log
       played ending.Done p = whole_done p
       played ending.Doubt p = whole_doubt p
       played ending.Unwritten p = unwritten p
@@ -162,19 +163,19 @@ module _ {D : Type 0} (told : D → Option Past) (once : TasksCompleteOnce) (con
 
 -- the law of runs
 pub played_faithful : {D : Type 0} (told : D → Option Past) → TasksCompleteOnce → CompleteRoundsConverge → RoundsHaveAccounts → PlayedRunsAreFaithful told
-played_faithful told once converges accounts script how answers reports v w held held' faults faults' is_script fresh valid lawful plays =
-    played told once converges accounts script is_script v fresh valid answers reports w lawful held held' faults faults' how plays
+played_faithful told once converges accounts wording script how answers reports v w held held' faults faults' is_script fresh valid lawful plays =
+    played told once converges accounts wording script is_script v fresh valid answers reports w lawful held held' faults faults' how plays
 
-module _ {D : Type 0} (told : D → Option Past) (script : Script) where
-  base_each : (phases : List Phase) (s t : RunCourse D) → Each (PlaysPhase told script) phases s t → t.board.base ≡ s.board.base
+module _ {D : Type 0} (told : D → Option Past) (wording : Wording) (script : Script) where
+  base_each : (phases : List Phase) (s t : RunCourse D) → Each (PlaysPhase told wording script) phases s t → t.board.base ≡ s.board.base
   base_each [] s t same = ap (λ (c : RunCourse D). c.board.base) same
   base_each (phase ∷ phases) s t (m, plays, others) = base_each phases m t others ∙ plays.ran.goes.base
 
   module _ (answers : List Answered) (reports : List Report) (v w : View D) (held held' : Option (List ℕ)) (faults faults' : ℕ) where
-    base_last : (ran rest : List Phase) (s : RunCourse D) → RanFirst told script v ran rest s → w ≡ s.board → w.base ≡ v.base
+    base_last : (ran rest : List Phase) (s : RunCourse D) → RanFirst told wording script v ran rest s → w ≡ s.board → w.base ≡ v.base
     base_last ran rest s first board = ap (λ (x : View D). x.base) board ∙ base_each ran (beginning script v) s first.each
 
-    base_part : PlaysPart told script answers reports v w held held' faults faults' ⊎ PlaysUnsummed told script answers reports v w held held' faults faults'
+    base_part : PlaysPart told wording script answers reports v w held held' faults faults' ⊎ PlaysUnsummed told wording script answers reports v w held held' faults faults'
         → w.base ≡ v.base
     base_part (inl p) =
         ap (λ (x : View D). x.base) p.board ∙ p.plays.ran.goes.base ∙ base_each p.ran (beginning script v) p.before p.first.each
@@ -184,11 +185,11 @@ module _ {D : Type 0} (told : D → Option Past) (script : Script) where
     base_untold phase s (inl cut) = cut.goes.base
     base_untold phase s (inr (news, parts, report, ran)) = ran.goes.base
 
-    base_cut : (p : PlaysCut told script answers reports v w held held' faults faults') → (w ≡ p.last.board) ⊎ IsCutIn told p.last p.rest w → w.base ≡ v.base
+    base_cut : (p : PlaysCut told wording script answers reports v w held held' faults faults') → (w ≡ p.last.board) ⊎ IsCutIn told p.last p.rest w → w.base ≡ v.base
     base_cut p (inl board) = base_last p.ran p.rest p.last p.first board
     base_cut p (inr cut) = base_untold cut.phase p.last cut.untold ∙ base_each p.ran (beginning script v) p.last p.first.each
 
-    base_kept : (how : Ending) → Plays told script how answers reports v w held held' faults faults' → w.base ≡ v.base
+    base_kept : (how : Ending) → Plays told wording script how answers reports v w held held' faults faults' → w.base ≡ v.base
     base_kept ending.Done p = base_last p.ran p.rest p.last p.ends.first p.ends.board
     base_kept ending.Doubt p = base_last p.ran p.rest p.last p.ends.first p.ends.board
     base_kept ending.Unwritten p = base_part p
@@ -204,5 +205,5 @@ module _ {D : Type 0} (told : D → Option Past) (script : Script) where
 
 -- the base stays
 pub played_keep_base : {D : Type 0} (told : D → Option Past) → PlayedRunsKeepBase told
-played_keep_base told script how answers reports v w held held' faults faults' plays =
-    base_kept told script answers reports v w held held' faults faults' how plays
+played_keep_base told wording script how answers reports v w held held' faults faults' plays =
+    base_kept told wording script answers reports v w held held' faults faults' how plays

@@ -20,6 +20,7 @@ use Rattle.phase_runs.specs.Phases.{IsRoundCut, PhaseCut, PhaseRan, RoundRan}
 use Rattle.phase_runs.specs.Reps.{reps_of}
 use Rattle.scenario_player.specs.Courses.{RunCourse, PlaysPhase}
 use Rattle.scenario_player.specs.Plays.{IsUntold}
+use Rattle.scenario_player.specs.Wordings.{Wording}
 use Rattle.run_theorem.specs.Cuts.{PhaseIsCut}
 use Rattle.run_theorem.specs.Phases.{Point, PhaseAgrees}
 use Rattle.run_theorem.proofs.Agreeing.{actor_agrees, actor_as_cut, actor_cut}
@@ -32,9 +33,9 @@ abbrev pub point_of : {D : Type 0} → RunCourse D → Point
 point_of s = record { actors = s.actors; place = length s.board.log; answers = s.answers; reports = s.reports }
 
 module _ {D : Type 0} (told : D → Option Past) (base : Rows) where
-  module _ (converges : CompleteRoundsConverge) (accounts : RoundsHaveAccounts) (script : Script) where
+  module _ (converges : CompleteRoundsConverge) (accounts : RoundsHaveAccounts) (wording : Wording) (script : Script) where
     -- one phase that was played
-    agrees_upto : (phase : Phase) (s t : RunCourse D) (p : PlaysPhase told script phase s t) (log : List Item) → s.board.base ≡ base
+    agrees_upto : (phase : Phase) (s t : RunCourse D) (p : PlaysPhase told wording script phase s t) (log : List Item) → s.board.base ≡ base
         → StandApart (cell_names s.actors) → LogBegins (s.board.log ++ p.ran.fresh) log
         → PhaseAgrees base log phase (point_of s) (record (point_of t) { place = length (s.board.log ++ p.ran.fresh) })
     agrees_upto phase s t p log base_is apart goes = record {
@@ -61,7 +62,7 @@ module _ {D : Type 0} (told : D → Option Past) (base : Rows) where
         first : LogBegins s.board.log log
         first = begins_then s.board.log (s.board.log ++ p.ran.fresh) log (p.ran.fresh, refl) goes
 
-    phase_agrees : (phase : Phase) (s t : RunCourse D) (p : PlaysPhase told script phase s t) (log : List Item) → s.board.base ≡ base
+    phase_agrees : (phase : Phase) (s t : RunCourse D) (p : PlaysPhase told wording script phase s t) (log : List Item) → s.board.base ≡ base
         → StandApart (cell_names s.actors) → LogBegins t.board.log log → PhaseAgrees base log phase (point_of s) (point_of t)
     phase_agrees phase s t p log base_is apart goes =
         subst (λ (xs : List Item). PhaseAgrees base log phase (point_of s) (record (point_of t) { place = length xs })) (sym p.ran.goes.grows)
@@ -74,7 +75,7 @@ module _ {D : Type 0} (told : D → Option Past) (base : Rows) where
       pub apart : StandApart (cell_names t.actors)
       pub each : (log : List Item) → LogBegins t.board.log log → Each (PhaseAgrees base log) phases (point_of s) (point_of t)
 
-    pub phases_agree : (phases : List Phase) (s t : RunCourse D) → Each (PlaysPhase told script) phases s t → s.board.base ≡ base
+    pub phases_agree : (phases : List Phase) (s t : RunCourse D) → Each (PlaysPhase told wording script) phases s t → s.board.base ≡ base
         → StandApart (cell_names s.actors) → Agreed phases s t
     phases_agree [] s t same base_is apart = subst (Agreed [] s) (sym same) (record {
       base_is = base_is;

@@ -22,6 +22,7 @@ use Rattle.scenario_lines.specs.declared.script.Script.{Script}
 use Rattle.scenario_reader.specs.Facts.{IsScript}
 use Rattle.phase_text.specs.Sorting.{by_line}
 use Rattle.scenario_player.specs.Plays.{Plays}
+use Rattle.scenario_player.specs.Wordings.{Wording}
 use Rattle.run_theorem.specs.Answers.{answer_items, board_answer, place_named}
 use Rattle.run_theorem.specs.Headline.{IsFaithful, outset}
 use Rattle.run_theorem.specs.Phases.{PhaseAgrees, Point}
@@ -29,17 +30,17 @@ use Rattle.run_theorem.specs.Phases.{PhaseAgrees, Point}
 -- a scenario that was played on a board that had done nothing is faithful, whatever its end and its disk
 abbrev pub PlayedRunsAreFaithful : {D : Type 0} → (D → Option Past) → Type 0
 PlayedRunsAreFaithful {D = D} told =
-    (script : Script) (how : Ending) (answers : List Answered) (reports : List Report) (v w : View D)
-    (held held' : Option (List ℕ)) (faults faults' : ℕ) → IsScript script → v.log ≡ [] → IsValid v.base →
-    IsLawful v.base w.log → Plays told script how answers reports v w held held' faults faults' →
+    (wording : Wording) (script : Script) (how : Ending) (answers : List Answered) (reports : List Report)
+    (v w : View D) (held held' : Option (List ℕ)) (faults faults' : ℕ) → IsScript script → v.log ≡ [] → IsValid v.base →
+    IsLawful v.base w.log → Plays told wording script how answers reports v w held held' faults faults' →
     IsFaithful script how answers reports v.base w.log
 
 -- the board was opened with the rows that it was opened with
 abbrev pub PlayedRunsKeepBase : {D : Type 0} → (D → Option Past) → Type 0
 PlayedRunsKeepBase {D = D} told =
-    (script : Script) (how : Ending) (answers : List Answered) (reports : List Report) (v w : View D)
-    (held held' : Option (List ℕ)) (faults faults' : ℕ) →
-    Plays told script how answers reports v w held held' faults faults' → w.base ≡ v.base
+    (wording : Wording) (script : Script) (how : Ending) (answers : List Answered) (reports : List Report)
+    (v w : View D) (held held' : Option (List ℕ)) (faults faults' : ℕ) →
+    Plays told wording script how answers reports v w held held' faults faults' → w.base ≡ v.base
 
 -- an answer among these that made the item, and names its place
 pub record IsAnswered (answers : List Answered) (place : ℕ) (i : Item) : Type 0 where

@@ -1,6 +1,6 @@
 -- What came behind a log without doubts.
-use Rattle.std.proofs.Common.{◌≡◌, List, [], ◌∷◌, ◌++◌, length, drop, refl, sym, ap, ◌∙◌, arith}
-use Rattle.std.proofs.Math.Seq.{drop-append_seam}
+use Rattle.std.proofs.Common.{◌≡◌, ℕ, List, [], ◌∷◌, ◌++◌, length, take, drop, refl, sym, ap, ◌∙◌, arith}
+use Rattle.std.proofs.Math.Seq.{drop-append_seam, take-append_seam}
 use Rattle.bbs_model.specs.declared.item.Item.{Item}
 use Rattle.bbs_model.specs.declared.item.Item.TheVariants.{Done, Doubt}
 use Rattle.bbs_board.specs.Doubts.{doubts_in}
@@ -18,3 +18,8 @@ doubts_since before log fresh none grows =
     ∙ ap doubts_in (drop-append_seam before fresh)
     ∙ sym (doubts_behind before fresh none)
     ∙ ap doubts_in (sym grows)
+
+-- up to the place at which it stood before, the whole log is what it was
+pub log_before : (before log fresh : List Item) (from : ℕ) → from ≡ length before → log ≡ before ++ fresh → take from log ≡ before
+log_before before log fresh from is grows =
+    ap (λ (n : ℕ). take n log) is ∙ ap (take (length before)) grows ∙ take-append_seam before fresh

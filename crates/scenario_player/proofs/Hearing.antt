@@ -12,7 +12,7 @@ use Rattle.bbs_model.specs.declared.event.Events.{Events}
 use Rattle.bbs_model.specs.declared.heard.Heard.{Heard}
 use Rattle.bbs_model.specs.declared.item.Item.{Item}
 use Rattle.bbs_model.specs.declared.rows.Rows.{Rows}
-use Rattle.scenario_player.specs.Courses.{events_from}
+use Rattle.scenario_player.specs.Wordings.{events_from}
 
 module _ (base : Rows) (log : List Item) where
   abbrev told : List (Option Events)

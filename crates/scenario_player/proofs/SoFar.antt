@@ -18,29 +18,30 @@ use Rattle.scenario_player.specs.Actors.{starting_actors}
 use Rattle.scenario_player.specs.Courses.{beginning, PlaysPhase}
 use Rattle.scenario_player.specs.Kept.{KeptSoFar, nothing_kept}
 use Rattle.scenario_player.specs.Plays.{PlaysPart, RanFirst}
+use Rattle.scenario_player.specs.Wordings.{Wording}
 use Rattle.scenario_player.specs.Tellings.{run_course, KeepsCourse, PhaseEnds, PhasesEnd, PhasesStop, TellsPhase}
 use Rattle.scenario_player.proofs.Prints.{part_behind, prints_as, prints_none, prints_then}
 use Rattle.scenario_player.proofs.Steps.{each_more}
 
 -- so many phases ran, and their text was printed whole
-pub record RanSo {D : Type 0} (told : D → Option Past) (script : Script) (count : ℕ) (actors : List ActorState) (v w : View D) (kept : KeptSoFar)
+pub record RanSo {D : Type 0} (told : D → Option Past) (wording : Wording) (script : Script) (count : ℕ) (actors : List ActorState) (v w : View D) (kept : KeptSoFar)
     (held held' : Option (List ℕ)) (faults faults' : ℕ) : Type 0 where
   pub text : List ℕ
-  pub each : Each (PlaysPhase told script) (take count script.phases) (beginning script v) (run_course actors w kept text)
+  pub each : Each (PlaysPhase told wording script) (take count script.phases) (beginning script v) (run_course actors w kept text)
   pub prints : PrintsTo true text held held' faults faults'
   pub same : AreSameActors (starting_actors script.actors) actors
   pub counted : kept.phases ≡ count
 
 -- and the next one may run
-pub record IsSoFar {D : Type 0} (told : D → Option Past) (script : Script) (count : ℕ) (actors : List ActorState) (v w : View D) (kept : KeptSoFar)
+pub record IsSoFar {D : Type 0} (told : D → Option Past) (wording : Wording) (script : Script) (count : ℕ) (actors : List ActorState) (v w : View D) (kept : KeptSoFar)
     (held held' : Option (List ℕ)) (faults faults' : ℕ) : Type 0 where
-  pub ran : RanSo told script count actors v w kept held held' faults faults'
+  pub ran : RanSo told wording script count actors v w kept held held' faults faults'
   pub calm : doubts_in w.log ≡ 0
 
-module _ {D : Type 0} (told : D → Option Past) (script : Script) (v : View D) (held : Option (List ℕ)) (faults : ℕ) where
+module _ {D : Type 0} (told : D → Option Past) (wording : Wording) (script : Script) (v : View D) (held : Option (List ℕ)) (faults : ℕ) where
   -- none ran
   pub none_so_far : (actors : List ActorState) (kept : KeptSoFar) → actors ≡ starting_actors script.actors → kept ≡ nothing_kept → v.log ≡ []
-      → IsSoFar told script 0 actors v v kept held held faults faults
+      → IsSoFar told wording script 0 actors v v kept held held faults faults
   none_so_far actors kept begin none fresh = record {
     ran = record {
       text = [];
@@ -55,15 +56,15 @@ module _ {D : Type 0} (told : D → Option Past) (script : Script) (v : View D) 
   }
 
   module _ (count : ℕ) (olds : List ActorState) (m : View D) (kept : KeptSoFar) (mid : Option (List ℕ)) (more : ℕ)
-      (so_far : IsSoFar told script count olds v m kept held mid faults more)
+      (so_far : IsSoFar told wording script count olds v m kept held mid faults more)
       (phase : Phase) (within : count < length script.phases) (is : phase ≡ get_or script.phases count phase)
       (news : List ActorState) (w : View D) (kept' : KeptSoFar) (held' : Option (List ℕ)) (faults' : ℕ) where
     -- one more
-    one_more : TellsPhase told script phase true olds news m w kept kept' mid held' more faults'
-        → RanSo told script (count + 1) news v w kept' held held' faults faults'
+    one_more : TellsPhase told wording script phase true olds news m w kept kept' mid held' more faults'
+        → RanSo told wording script (count + 1) news v w kept' held held' faults faults'
     one_more tells = record {
       text = so_far.ran.text ++ tells.text;
-      each = each_more (PlaysPhase told script) script.phases count phase (beginning script v) (run_course olds m kept so_far.ran.text)
+      each = each_more (PlaysPhase told wording script) script.phases count phase (beginning script v) (run_course olds m kept so_far.ran.text)
           (run_course news w kept' (so_far.ran.text ++ tells.text)) within is so_far.ran.each (tells.is_told so_far.ran.text);
       prints = prints_then true so_far.ran.text tells.text held mid held' faults more faults' so_far.ran.prints tells.prints;
       same = same_then (starting_actors script.actors) olds news so_far.ran.same (tells.is_told []).ran.kept;
@@ -71,15 +72,15 @@ module _ {D : Type 0} (told : D → Option Past) (script : Script) (v : View D) 
     }
 
     -- it ran and met no fault
-    pub so_far_more : PhaseEnds told script phase ending.Done olds news m w kept kept' mid held' more faults'
-        → IsSoFar told script (count + 1) news v w kept' held held' faults faults'
+    pub so_far_more : PhaseEnds told wording script phase ending.Done olds news m w kept kept' mid held' more faults'
+        → IsSoFar told wording script (count + 1) news v w kept' held held' faults faults'
     so_far_more ends = record { ran = one_more ends.1; calm = ends.0 }
 
-    first_of : (ran : RanSo told script (count + 1) news v w kept' held held' faults faults')
-        → RanFirst told script v (take (count + 1) script.phases) (drop (count + 1) script.phases) (run_course news w kept' ran.text)
+    first_of : (ran : RanSo told wording script (count + 1) news v w kept' held held' faults faults')
+        → RanFirst told wording script v (take (count + 1) script.phases) (drop (count + 1) script.phases) (run_course news w kept' ran.text)
     first_of ran = record { split = sym (take-append-drop (count + 1) script.phases); each = ran.each }
 
-    kept_of : (ran : RanSo told script (count + 1) news v w kept' held held' faults faults')
+    kept_of : (ran : RanSo told wording script (count + 1) news v w kept' held held' faults faults')
         → KeepsCourse kept' (run_course news w kept' ran.text) (length (take (count + 1) script.phases))
     kept_of ran = record {
       answers = refl;
@@ -88,8 +89,8 @@ module _ {D : Type 0} (told : D → Option Past) (script : Script) (v : View D) 
     }
 
     -- it ran and the disk failed in it
-    doubt_ends : PhaseEnds told script phase ending.Doubt olds news m w kept kept' mid held' more faults'
-        → PhasesStop told script ending.Doubt v w kept' held held' faults faults'
+    doubt_ends : PhaseEnds told wording script phase ending.Doubt olds news m w kept kept' mid held' more faults'
+        → PhasesStop told wording script ending.Doubt v w kept' held held' faults faults'
     doubt_ends ends = record {
       ran = take (count + 1) script.phases;
       rest = drop (count + 1) script.phases;
@@ -103,8 +104,8 @@ module _ {D : Type 0} (told : D → Option Past) (script : Script) (v : View D) 
     next = drop_more script.phases count phase within ∙ ap (λ (p : Phase). p ∷ drop (count + 1) script.phases) (sym is)
 
     -- it ran and its text was printed in part
-    part_ends : PhaseEnds told script phase ending.Unwritten olds news m w kept kept' mid held' more faults'
-        → PlaysPart told script kept'.answers kept'.reports v w held held' faults faults'
+    part_ends : PhaseEnds told wording script phase ending.Unwritten olds news m w kept kept' mid held' more faults'
+        → PlaysPart told wording script kept'.answers kept'.reports v w held held' faults faults'
     part_ends ends = record {
       ran = take count script.phases;
       phase = phase;
@@ -125,8 +126,8 @@ module _ {D : Type 0} (told : D → Option Past) (script : Script) (v : View D) 
     }
 
     -- it is untold
-    untold_ends : PhaseEnds told script phase ending.OutOfMemory olds news m w kept kept' mid held' more faults'
-        → PhasesStop told script ending.OutOfMemory v w kept' held held' faults faults'
+    untold_ends : PhaseEnds told wording script phase ending.OutOfMemory olds news m w kept kept' mid held' more faults'
+        → PhasesStop told wording script ending.OutOfMemory v w kept' held held' faults faults'
     untold_ends ends = record {
       ran = take count script.phases;
       rest = drop count script.phases;
@@ -150,8 +151,8 @@ module _ {D : Type 0} (told : D → Option Past) (script : Script) (v : View D) 
     }
 
     -- so the phases end, where the next one may not run
-    pub phases_end : (how : Ending) → how ≢ ending.Done → PhaseEnds told script phase how olds news m w kept kept' mid held' more faults'
-        → PhasesEnd told script how v w kept' held held' faults faults'
+    pub phases_end : (how : Ending) → how ≢ ending.Done → PhaseEnds told wording script phase how olds news m w kept kept' mid held' more faults'
+        → PhasesEnd told wording script how v w kept' held held' faults faults'
     phases_end ending.Done other ends = absurd (other refl)
     phases_end ending.Doubt other ends = doubt_ends ends
     phases_end ending.Unwritten other ends = part_ends ends
@@ -168,8 +169,8 @@ module _ {D : Type 0} (told : D → Option Past) (script : Script) (v : View D) 
   -- all phases ran
   pub all_ran : (count : ℕ) (news : List ActorState) (w : View D) (kept : KeptSoFar) (held' : Option (List ℕ)) (faults' : ℕ)
       → length script.phases ≤ count
-      → count ≤ length script.phases → IsSoFar told script count news v w kept held held' faults faults'
-      → PhasesEnd told script ending.Done v w kept held held' faults faults'
+      → count ≤ length script.phases → IsSoFar told wording script count news v w kept held held' faults faults'
+      → PhasesEnd told wording script ending.Done v w kept held held' faults faults'
   all_ran count news w kept held' faults' end within so_far = record {
     ran = take count script.phases;
     rest = [];

@@ -16,6 +16,7 @@ use Rattle.program_ends.specs.Ports.{PrintsTo}
 use Rattle.program_ends.specs.declared.ending.Ending.{Ending}
 use Rattle.program_ends.specs.declared.ending.Ending.TheVariants as ending
 use Rattle.scenario_player.specs.Courses.{PlaysPhase, RunCourse, beginning}
+use Rattle.scenario_player.specs.Wordings.{Wording}
 
 -- the counts of a run on a board that had done nothing before, of which so many phases ran
 abbrev pub summary_of : {D : Type 0} → View D → ℕ → Summary
@@ -35,15 +36,15 @@ abbrev pub run_words : {D : Type 0} → RunCourse D → ℕ → List ℕ
 run_words s phases = s.text ++ summary_words s phases
 
 -- the first phases ran whole, one after another, and these are the others
-pub record RanFirst {D : Type 0} (told : D → Option Past) (script : Script) (v : View D) (ran rest : List Phase)
-    (s : RunCourse D) : Type 0 where
+pub record RanFirst {D : Type 0} (told : D → Option Past) (wording : Wording) (script : Script) (v : View D)
+    (ran rest : List Phase) (s : RunCourse D) : Type 0 where
   pub split : script.phases ≡ ran ++ rest
-  pub each : Each (PlaysPhase told script) ran (beginning script v) s
+  pub each : Each (PlaysPhase told wording script) ran (beginning script v) s
 
 -- these phases ran, the board is as the last of them left it, and so are the answers and the reports
-pub record EndsAt {D : Type 0} (told : D → Option Past) (script : Script) (answers : List Answered)
+pub record EndsAt {D : Type 0} (told : D → Option Past) (wording : Wording) (script : Script) (answers : List Answered)
     (reports : List Report) (v w : View D) (ran rest : List Phase) (s : RunCourse D) : Type 0 where
-  pub first : RanFirst told script v ran rest s
+  pub first : RanFirst told wording script v ran rest s
   pub board : w ≡ s.board
   pub answers_are : answers ≡ s.answers
   pub reports_are : reports ≡ s.reports
@@ -55,13 +56,13 @@ IsPlayedOut ending.Doubt rest doubts = 0 < doubts
 IsPlayedOut other rest doubts = ⊥
 
 -- no further phase was to run, and the whole text was printed
-pub record PlaysWhole {D : Type 0} (told : D → Option Past) (script : Script) (how : Ending)
+pub record PlaysWhole {D : Type 0} (told : D → Option Past) (wording : Wording) (script : Script) (how : Ending)
     (answers : List Answered) (reports : List Report) (v w : View D)
     (held held' : Option (List ℕ)) (faults faults' : ℕ) : Type 0 where
   pub ran : List Phase
   pub rest : List Phase
   pub last : RunCourse D
-  pub ends : EndsAt told script answers reports v w ran rest last
+  pub ends : EndsAt told wording script answers reports v w ran rest last
   pub over : IsPlayedOut how rest (doubts_in w.log)
   pub prints : PrintsTo true (run_words last (length ran)) held held' faults faults'
 
@@ -72,18 +73,18 @@ pub record PrintsPart (first behind : List ℕ) (held held' : Option (List ℕ))
   pub part : PrintsTo false behind mid held' faults faults'
 
 -- no further phase was to run, and the sink failed in the summary
-pub record PlaysUnsummed {D : Type 0} (told : D → Option Past) (script : Script)
+pub record PlaysUnsummed {D : Type 0} (told : D → Option Past) (wording : Wording) (script : Script)
     (answers : List Answered) (reports : List Report) (v w : View D)
     (held held' : Option (List ℕ)) (faults faults' : ℕ) : Type 0 where
   pub ran : List Phase
   pub rest : List Phase
   pub last : RunCourse D
-  pub ends : EndsAt told script answers reports v w ran rest last
+  pub ends : EndsAt told wording script answers reports v w ran rest last
   pub over : IsPlayedOut ending.Done rest (doubts_in w.log) ⊎ IsPlayedOut ending.Doubt rest (doubts_in w.log)
   pub prints : PrintsPart last.text (summary_words last (length ran)) held held' faults faults'
 
 -- the sink failed in the text of this phase, which is the last that ran
-pub record PlaysPart {D : Type 0} (told : D → Option Past) (script : Script)
+pub record PlaysPart {D : Type 0} (told : D → Option Past) (wording : Wording) (script : Script)
     (answers : List Answered) (reports : List Report) (v w : View D)
     (held held' : Option (List ℕ)) (faults faults' : ℕ) : Type 0 where
   pub ran : List Phase
@@ -91,8 +92,8 @@ pub record PlaysPart {D : Type 0} (told : D → Option Past) (script : Script)
   pub rest : List Phase
   pub before : RunCourse D
   pub last : RunCourse D
-  pub first : RanFirst told script v ran (phase ∷ rest) before
-  pub plays : PlaysPhase told script phase before last
+  pub first : RanFirst told wording script v ran (phase ∷ rest) before
+  pub plays : PlaysPhase told wording script phase before last
   pub board : w ≡ last.board
   pub answers_are : answers ≡ last.answers
   pub reports_are : reports ≡ last.reports
@@ -116,28 +117,28 @@ pub record IsCutIn {D : Type 0} (told : D → Option Past) (s : RunCourse D) (re
   pub untold : IsUntold told phase s.actors s.board w
 
 -- memory ran out behind whole phases, whose text was printed; of what was done since nothing is told
-pub record PlaysCut {D : Type 0} (told : D → Option Past) (script : Script)
+pub record PlaysCut {D : Type 0} (told : D → Option Past) (wording : Wording) (script : Script)
     (answers : List Answered) (reports : List Report) (v w : View D)
     (held held' : Option (List ℕ)) (faults faults' : ℕ) : Type 0 where
   pub ran : List Phase
   pub rest : List Phase
   pub last : RunCourse D
-  pub first : RanFirst told script v ran rest last
+  pub first : RanFirst told wording script v ran rest last
   pub board : (w ≡ last.board) ⊎ IsCutIn told last rest w
   pub answers_are : answers ≡ last.answers
   pub reports_are : reports ≡ last.reports
   pub prints : PrintsTo true last.text held held' faults faults'
 
 -- how the run of a scenario on a board ends
-abbrev pub Plays : {D : Type 0} → (D → Option Past) → Script → Ending → List Answered → List Report →
+abbrev pub Plays : {D : Type 0} → (D → Option Past) → Wording → Script → Ending → List Answered → List Report →
     View D → View D → Option (List ℕ) → Option (List ℕ) → ℕ → ℕ → Type 0
-Plays told script ending.Done answers reports v w held held' faults faults' =
-    PlaysWhole told script ending.Done answers reports v w held held' faults faults'
-Plays told script ending.Doubt answers reports v w held held' faults faults' =
-    PlaysWhole told script ending.Doubt answers reports v w held held' faults faults'
-Plays told script ending.Unwritten answers reports v w held held' faults faults' =
-    PlaysPart told script answers reports v w held held' faults faults'
-    ⊎ PlaysUnsummed told script answers reports v w held held' faults faults'
-Plays told script ending.OutOfMemory answers reports v w held held' faults faults' =
-    PlaysCut told script answers reports v w held held' faults faults'
-Plays told script other answers reports v w held held' faults faults' = ⊥
+Plays told wording script ending.Done answers reports v w held held' faults faults' =
+    PlaysWhole told wording script ending.Done answers reports v w held held' faults faults'
+Plays told wording script ending.Doubt answers reports v w held held' faults faults' =
+    PlaysWhole told wording script ending.Doubt answers reports v w held held' faults faults'
+Plays told wording script ending.Unwritten answers reports v w held held' faults faults' =
+    PlaysPart told wording script answers reports v w held held' faults faults'
+    ⊎ PlaysUnsummed told wording script answers reports v w held held' faults faults'
+Plays told wording script ending.OutOfMemory answers reports v w held held' faults faults' =
+    PlaysCut told wording script answers reports v w held held' faults faults'
+Plays told wording script other answers reports v w held held' faults faults' = ⊥

@@ -1,6 +1,6 @@
 //! The events of a phase.
 ghost use Rattle.std.specs.Prelude.{◌≡◌, ◌≤◌, length, IfOk};
-ghost use Rattle.scenario_player.specs.Courses.{events_from};
+ghost use Rattle.scenario_player.specs.Wordings.{events_from};
 
 use bbs_board::Board;
 use bbs_model::Event;
@@ -11,8 +11,9 @@ use std::alloc::Global;
 /// How many items are read at a time.
 const PIECE: u32 = 65_536;
 
-/// The events of the items from a place of the log on, in the order of the log.
-pub(crate) fn events_from<D: Disk>(
+/// The events of the items from a place of the log on, in the order of the log. It takes the time and
+/// the memory of those.
+pub fn events_from<D: Disk>(
     alloc: Global,
     board: &Board<D>,
     from: u64,

@@ -7,6 +7,10 @@ mod events;
 mod kept;
 mod playing;
 mod summing;
-mod telling;
+mod teller;
+mod whole;
 
+pub use events::events_from;
 pub use playing::{Played, play};
+pub use teller::Teller;
+pub use whole::WholeTeller;

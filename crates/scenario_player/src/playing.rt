@@ -3,6 +3,7 @@ ghost use Rattle.std.specs.Prelude.{◌≡◌, ◌+◌, ◌<◌, ◌^◌, [], If
 ghost use Rattle.std.specs.List.{Contains};
 ghost use Rattle.bbs_board.specs.Doubts.{doubts_in};
 ghost use Rattle.phase_runs.specs.Actors.{AreSameActors};
+ghost use Rattle.program_ends.specs.declared.ending.Ending.TheVariants as ending;
 ghost use Rattle.scenario_reader.specs.Facts.{IsScript};
 ghost use Rattle.scenario_player.specs.Actors.{starting_actors};
 ghost use Rattle.scenario_player.specs.Kept.{nothing_kept};
@@ -13,13 +14,14 @@ use crate::actors::actors_of;
 use crate::counting::doubts_in;
 use crate::kept::Kept;
 use crate::summing::{ending_by, finish};
-use crate::telling::tell;
+use crate::teller::Teller;
 use bbs_board::Board;
 use byte_ports::{Gate, Sink};
 use convergence::Report;
 use diego_names::OutOfMemory;
 use disk_trait::Disk;
 use phase_actors::ActorState;
+use phase_text::answers_by_line;
 use phase_threads::run_phase;
 use program_ends::{Ending, written};
 use scenario_lines::{Answered, Phase, Script};
@@ -41,7 +43,7 @@ pub struct Played {
 
 /// Runs a phase behind phases in which the disk never failed, and makes its text. In `Err` memory ran
 /// out, and what is kept is as before.
-fn run_and_tell<R: Threads + Wait + Sync, D: Disk + Drop + Send, G: Gate + Sync>(
+fn run_and_tell<T: Teller, R: Threads + Wait + Sync, D: Disk + Drop + Send, G: Gate + Sync>(
     rt: &R,
     alloc: Global,
     script: &Script,
@@ -49,15 +51,18 @@ fn run_and_tell<R: Threads + Wait + Sync, D: Disk + Drop + Send, G: Gate + Sync>
     gate: &G,
     actors: &mut [ActorState],
     phase: &Phase,
+    teller: &mut T,
     kept: &mut Kept,
 ) -> (Board<D>, Result<Vec<u8>, OutOfMemory>)
     requires script { IsScript script.now }
     requires among { Contains script.now.phases phase.now }
     requires same { AreSameActors (starting_actors script.now.actors) actors.old }
     requires calm { doubts_in board.log ≡ 0 }
+    requires before { T.told teller.old board.base board.log }
     requires few { kept.old.phases + 1 < 2 ^ 64 }
-    ensures told { IfOk result.1 (λ text. IsPhaseTold D.told script.now phase.now
+    ensures told { IfOk result.1 (λ text. IsPhaseTold D.told T.wording script.now phase.now
         actors.old actors.new board result.0 kept.old kept.new text.items) }
+    ensures behind { OnOk result.1 (T.told teller.new result.0.base result.0.log) }
     ensures counted { OnOk result.1 (kept.new.phases ≡ kept.old.phases + 1) }
     ensures untold { OnErr result.1 ((kept.new ≡ kept.old)
         × IsUntold D.told phase.now actors.old board result.0) }
@@ -68,19 +73,32 @@ fn run_and_tell<R: Threads + Wait + Sync, D: Disk + Drop + Send, G: Gate + Sync>
         Ok(ran) => ran,
         Err(want) => return (board, Err(want)),
     };
-    let told = match tell(alloc, script, phase, &board, from, &ran) {
-        Ok(told) => told,
+    let answers = match answers_by_line(alloc, &ran.parts) {
+        Ok(answers) => answers,
         Err(want) => return (board, Err(want)),
     };
-    match kept.add(told.answers, ran.report) {
-        Ok(()) => (board, Ok(told.text)),
+    let made = teller.tell(
+        alloc,
+        script,
+        phase,
+        &board,
+        from,
+        answers.items(),
+        &ran.report,
+    );
+    let text = match made {
+        Ok(text) => text,
+        Err(want) => return (board, Err(want)),
+    };
+    match kept.add(answers, ran.report) {
+        Ok(()) => (board, Ok(text)),
         Err(want) => (board, Err(want)),
     }
 }
 
 /// Runs a phase behind phases in which the disk never failed, and prints its text. `Done` says that the
 /// next one may run.
-fn play_phase<R: Threads + Wait + Sync, K: Sink, D: Disk + Drop + Send, G: Gate + Sync>(
+fn play_phase<T: Teller, R: Threads + Wait + Sync, K: Sink, D: Disk + Drop + Send, G: Gate + Sync>(
     rt: &R,
     alloc: Global,
     script: &Script,
@@ -89,19 +107,22 @@ fn play_phase<R: Threads + Wait + Sync, K: Sink, D: Disk + Drop + Send, G: Gate 
     gate: &G,
     actors: &mut [ActorState],
     phase: &Phase,
+    teller: &mut T,
     kept: &mut Kept,
 ) -> (Board<D>, Ending)
     requires script { IsScript script.now }
     requires among { Contains script.now.phases phase.now }
     requires same { AreSameActors (starting_actors script.now.actors) actors.old }
     requires calm { doubts_in board.log ≡ 0 }
+    requires before { T.told teller.old board.base board.log }
     requires few { kept.old.phases + 1 < 2 ^ 64 }
-    ensures ends { PhaseEnds D.told script.now phase.now result.1 actors.old actors.new
+    ensures ends { PhaseEnds D.told T.wording script.now phase.now result.1 actors.old actors.new
         board result.0 kept.old kept.new
         (K.held sink.old) (K.held sink.new) (K.faults sink.old) (K.faults sink.new) }
+    ensures behind { result.1 ≡ ending.Done → T.told teller.new result.0.base result.0.log }
 {
     let from = board.place() as usize;
-    let (board, told) = run_and_tell(rt, alloc, script, board, gate, actors, phase, kept);
+    let (board, told) = run_and_tell(rt, alloc, script, board, gate, actors, phase, teller, kept);
     let text = match told {
         Ok(text) => text,
         Err(_) => return (board, Ending::OutOfMemory),
@@ -115,7 +136,7 @@ fn play_phase<R: Threads + Wait + Sync, K: Sink, D: Disk + Drop + Send, G: Gate 
 
 /// Runs the phases up to the end of the script or the first in which the disk fails, and prints the
 /// text of each when it has ended.
-fn play_phases<R: Threads + Wait + Sync, K: Sink, D: Disk + Drop + Send, G: Gate + Sync>(
+fn play_phases<T: Teller, R: Threads + Wait + Sync, K: Sink, D: Disk + Drop + Send, G: Gate + Sync>(
     rt: &R,
     alloc: Global,
     script: &Script,
@@ -123,18 +144,22 @@ fn play_phases<R: Threads + Wait + Sync, K: Sink, D: Disk + Drop + Send, G: Gate
     sink: &mut K,
     gate: &G,
     actors: &mut [ActorState],
+    teller: &mut T,
     kept: &mut Kept,
 ) -> (Board<D>, Ending)
     requires script { IsScript script.now }
     requires begin { actors.old ≡ starting_actors script.now.actors }
     requires kept { kept.old ≡ nothing_kept }
     requires fresh { board.log ≡ [] }
-    ensures ends { PhasesEnd D.told script.now result.1 board result.0 kept.new
+    requires before { T.told teller.old board.base board.log }
+    ensures ends { PhasesEnd D.told T.wording script.now result.1 board result.0 kept.new
         (K.held sink.old) (K.held sink.new) (K.faults sink.old) (K.faults sink.new) }
 {
     let phases = script.phases.items();
     for phase in phases {
-        let (left, ending) = play_phase(rt, alloc, script, board, sink, gate, actors, phase, kept);
+        let (left, ending) = play_phase(
+            rt, alloc, script, board, sink, gate, actors, phase, teller, kept,
+        );
         board = left;
         match ending {
             Ending::Done => {}
@@ -144,8 +169,15 @@ fn play_phases<R: Threads + Wait + Sync, K: Sink, D: Disk + Drop + Send, G: Gate
     (board, Ending::Done)
 }
 
-/// Plays the phases with the actors as they begin, and prints the summary.
-fn play_all<R: Threads + Wait + Sync, K: Sink, D: Disk + Drop + Send, G: Gate + Sync>(
+/// Plays the phases with the actors as they begin, tells of them from now on, and prints the
+/// summary.
+fn play_all<
+    T: Teller + Drop,
+    R: Threads + Wait + Sync,
+    K: Sink,
+    D: Disk + Drop + Send,
+    G: Gate + Sync,
+>(
     rt: &R,
     alloc: Global,
     script: &Script,
@@ -157,7 +189,7 @@ fn play_all<R: Threads + Wait + Sync, K: Sink, D: Disk + Drop + Send, G: Gate + 
     requires script { IsScript script.now }
     requires kept { kept.old ≡ nothing_kept }
     requires fresh { board.log ≡ [] }
-    ensures plays { Plays D.told script.now result.1 kept.new.answers kept.new.reports
+    ensures plays { Plays D.told T.wording script.now result.1 kept.new.answers kept.new.reports
         board result.0
         (K.held sink.old) (K.held sink.new) (K.faults sink.old) (K.faults sink.new) }
 {
@@ -165,15 +197,35 @@ fn play_all<R: Threads + Wait + Sync, K: Sink, D: Disk + Drop + Send, G: Gate + 
         Ok(actors) => actors,
         Err(_) => return (board, Ending::OutOfMemory),
     };
-    let (board, ending) = play_phases(rt, alloc, script, board, sink, gate, &mut actors, kept);
+    let mut teller = match T::begin(alloc, &board) {
+        Ok(teller) => teller,
+        Err(_) => return (board, Ending::OutOfMemory),
+    };
+    let (board, ending) = play_phases(
+        rt,
+        alloc,
+        script,
+        board,
+        sink,
+        gate,
+        &mut actors,
+        &mut teller,
+        kept,
+    );
     let ending = finish(alloc, &board, sink, ending, kept.phases());
     (board, ending)
 }
 
 /// Plays a scenario on a board that was just loaded: its phases one after another, and the text of
 /// each when it has ended. A phase in which the disk fails is the last one that runs; behind it, or
-/// behind the last phase, the summary is printed.
-pub fn play<R: Threads + Wait + Sync, K: Sink, D: Disk + Drop + Send, G: Gate + Sync>(
+/// behind the last phase, the summary is printed. Each phase is told in the words of `T`.
+pub fn play<
+    T: Teller + Drop,
+    R: Threads + Wait + Sync,
+    K: Sink,
+    D: Disk + Drop + Send,
+    G: Gate + Sync,
+>(
     rt: &R,
     alloc: Global,
     script: &Script,
@@ -183,12 +235,14 @@ pub fn play<R: Threads + Wait + Sync, K: Sink, D: Disk + Drop + Send, G: Gate + 
 ) -> (Board<D>, Played)
     requires script { IsScript script.now }
     requires fresh { board.log ≡ [] }
-    ensures plays { Plays D.told script.now result.1.ending
+    ensures plays { Plays D.told T.wording script.now result.1.ending
         result.1.answers.items result.1.reports.items board result.0
         (K.held sink.old) (K.held sink.new) (K.faults sink.old) (K.faults sink.new) }
 {
     let mut kept = Kept::new(alloc);
-    let (board, ending) = play_all(rt, alloc, script, board, sink, gate, &mut kept);
+    let (board, ending) = play_all::<T, R, K, D, G>(
+        rt, alloc, script, board, sink, gate, &mut kept,
+    );
     let (answers, reports) = kept.into_lists();
     let played = Played {
         ending,

@@ -2,13 +2,13 @@ ghost use Rattle.std.specs.Prelude.{◌≡◌, OnOk};
 ghost use Rattle.lrp_records.specs.States.{name_of};
 ghost use Rattle.record_print.specs.PrintedRows.{actual_data};
 ghost use Rattle.record_print.specs.Words.{state_word};
-ghost use Rattle.record_print.specs.Writing.{AddsValue};
+ghost use Rattle.line_writing.specs.Writing.{AddsValue};
 
-use crate::member::{
-    begin, end, put_number, put_optional_instance, put_optional_name, put_text, put_truth,
-};
 use crate::word::{presence_word, state_word};
 use json::Writer;
+use line_writing::{
+    begin, end, put_number, put_optional_instance, put_optional_name, put_text, put_truth,
+};
 use lrp_records::{Actual, LrpState};
 use std::alloc::{AllocError, Global};
 

@@ -1,10 +1,10 @@
 ghost use Rattle.std.specs.Prelude.{OnOk};
 ghost use Rattle.record_print.specs.PrintedRows.{cell_data};
-ghost use Rattle.record_print.specs.Writing.{AddsValue};
+ghost use Rattle.line_writing.specs.Writing.{AddsValue};
 
-use crate::member::{begin, end, put_number, put_optional_name, put_text, put_truth};
 use cell_records::CellRow;
 use json::Writer;
+use line_writing::{begin, end, put_number, put_optional_name, put_text, put_truth};
 use std::alloc::AllocError;
 
 pub fn put_cell(line: &mut Writer, row: &CellRow) -> Result<(), AllocError>

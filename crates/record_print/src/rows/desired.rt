@@ -1,9 +1,9 @@
 ghost use Rattle.std.specs.Prelude.{OnOk};
 ghost use Rattle.record_print.specs.PrintedRows.{desired_data};
-ghost use Rattle.record_print.specs.Writing.{AddsValue};
+ghost use Rattle.line_writing.specs.Writing.{AddsValue};
 
-use crate::member::{begin, end, put_number, put_optional_name, put_text};
 use json::Writer;
+use line_writing::{begin, end, put_number, put_optional_name, put_text};
 use lrp_records::Desired;
 use std::alloc::AllocError;
 

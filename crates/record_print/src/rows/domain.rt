@@ -1,10 +1,10 @@
 ghost use Rattle.std.specs.Prelude.{OnOk};
 ghost use Rattle.record_print.specs.PrintedRows.{domain_data};
-ghost use Rattle.record_print.specs.Writing.{AddsValue};
+ghost use Rattle.line_writing.specs.Writing.{AddsValue};
 
-use crate::member::{begin, end, put_optional_number, put_text};
 use bbs_model::DomainRow;
 use json::Writer;
+use line_writing::{begin, end, put_optional_number, put_text};
 use std::alloc::AllocError;
 
 pub fn put_domain(line: &mut Writer, row: &DomainRow) -> Result<(), AllocError>

@@ -2,13 +2,13 @@ ghost use Rattle.std.specs.Prelude.{◌≡◌, OnOk};
 ghost use Rattle.task_records.specs.States.{task_state_name};
 ghost use Rattle.record_print.specs.PrintedRows.{failed_of, task_data};
 ghost use Rattle.record_print.specs.Words.{state_word};
-ghost use Rattle.record_print.specs.Writing.{AddsValue};
+ghost use Rattle.line_writing.specs.Writing.{AddsValue};
 
-use crate::member::{
-    begin, end, put_number, put_optional_instance, put_optional_name, put_optional_truth, put_text,
-};
 use crate::word::state_word;
 use json::Writer;
+use line_writing::{
+    begin, end, put_number, put_optional_instance, put_optional_name, put_optional_truth, put_text,
+};
 use std::alloc::{AllocError, Global};
 use task_records::{Task, TaskState};
 

@@ -119,6 +119,23 @@ pub fn shows(rt: &impl Runtime, alloc: Global, board: &[u8], scenario: &str, row
     says_of(rt, alloc, "records", left.disk, rows);
 }
 
+/// A scenario that is told by the routes, ends with status 0 on this disk, and the whole text of it.
+pub fn tells_routes_on(
+    rt: &impl Runtime,
+    alloc: Global,
+    disk: MemoryDisk,
+    scenario: &str,
+    text: &str,
+) {
+    let left = left_by(rt, alloc, "routes", scenario.as_bytes(), &[], disk);
+    ends(rt, &left, 0, text);
+}
+
+/// The same on a board without rows.
+pub fn tells_routes(rt: &impl Runtime, alloc: Global, scenario: &str, text: &str) {
+    tells_routes_on(rt, alloc, disk_of(rt, alloc, EMPTY, &[]), scenario, text);
+}
+
 /// A word on this board, the status and the text of it, and the bytes that area A holds then.
 pub fn says(
     rt: &impl Runtime,

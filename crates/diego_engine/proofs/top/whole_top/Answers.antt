@@ -1,12 +1,18 @@
 use Rattle.std.proofs.Common.{◌≡◌, Some, map, string_bytes, rules}
 use Rattle.program_tools.specs.Words.{asked_of}
-use Rattle.program_tools.specs.declared.words.Asked.TheVariants.{Run}
+use Rattle.program_tools.specs.declared.words.Asked.TheVariants.{Run, Routes}
+use Rattle.diego_engine.proofs.Ran.{neither}
 use Rattle.diego_engine.proofs.top.whole_top.Goals as goal
 
-pub returns-clause-ends : goal.returns-clause-ends
-returns-clause-ends g c =
-    let is_run : asked_of (map (λ w. string_bytes w) c.args.words.now) ≡ Some Run = search rules in (
-      c.run-ended.result.0.ending,
-      c.top_end.ensures.status,
-      rw (is_run, c.top_end.ensures.lists.0, c.top_end.ensures.lists.1, c.top_end.ensures.lists.2, c.top_end.ensures.lists.3, c.top_end.ensures.ports.0, c.top_end.ensures.ports.1, c.top_end.ensures.ports.2) c.run-ended.ensures.ends,
-    )
+pub still_top-requires : goal.still_top-requires
+still_top-requires g c = neither (asked_of (map (λ w. string_bytes w) c.args.words.now)) (search rules) (search rules)
+
+pub returns-then-asks_for_whole-clause-ends : goal.returns-then-asks_for_whole-clause-ends
+returns-then-asks_for_whole-clause-ends g c =
+    let is : asked_of (map (λ w. string_bytes w) c.args.words.now) ≡ Some Run = search rules in
+    rw is c.run_top.ensures.ends
+
+pub returns-then-asks_for_routes-clause-ends : goal.returns-then-asks_for_routes-clause-ends
+returns-then-asks_for_routes-clause-ends g c =
+    let is : asked_of (map (λ w. string_bytes w) c.args.words.now) ≡ Some Routes = search rules in
+    rw is c.run_top-then-asks_for_routes.ensures.ends

@@ -1,5 +1,5 @@
 use Rattle.std.proofs.Common.{◌∙◌}
-use Rattle.record_print.proofs.Lines.{closed, more, more_text, opened}
+use Rattle.line_writing.proofs.Public.{closed, more, more_text, opened}
 use Rattle.record_print.proofs.answer.put_plain.Goals as goal
 
 pub returns : goal.returns

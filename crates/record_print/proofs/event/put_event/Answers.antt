@@ -1,4 +1,4 @@
-use Rattle.record_print.proofs.Lines.{closed, more, more_text, opened}
+use Rattle.line_writing.proofs.Public.{closed, more, more_text, opened}
 use Rattle.record_print.proofs.event.put_event.Goals as goal
 
 pub returns : goal.returns

@@ -1,4 +1,4 @@
-use Rattle.record_print.proofs.Lines.{closed, more, opened}
+use Rattle.line_writing.proofs.Public.{closed, more, opened}
 use Rattle.record_print.proofs.round.put_failed_round.Goals as goal
 
 pub returns : goal.returns

@@ -1,5 +1,6 @@
 use Rattle.std.proofs.Common.{take}
-use Rattle.record_print.specs.Writing.{AddsTokens, job_tokens}
+use Rattle.line_writing.specs.Writing.{AddsTokens}
+use Rattle.record_print.specs.Jobs.{job_tokens}
 use Rattle.record_print.proofs.round.put_jobs.Given as goal
 
 abbrev pub invariant-loop-job : goal.invariant-loop-job

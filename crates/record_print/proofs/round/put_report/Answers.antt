@@ -1,8 +1,8 @@
 use Rattle.std.proofs.Common.{ap}
 use Rattle.serde_json.specs.Data.{boolean}
 use Rattle.record_print.specs.PrintedRounds.{subjects_data}
-use Rattle.record_print.specs.Spelled.{whole}
-use Rattle.record_print.proofs.Lines.{closed, more, more_as, opened}
+use Rattle.line_writing.specs.Spelled.{whole}
+use Rattle.line_writing.proofs.Public.{closed, more, more_as, opened}
 use Rattle.record_print.proofs.round.put_report.Goals as goal
 
 pub returns : goal.returns

@@ -1,4 +1,4 @@
-use Rattle.record_print.proofs.Lines.{keyed}
+use Rattle.line_writing.proofs.Public.{keyed}
 use Rattle.record_print.proofs.round.put_unplaced.Goals as goal
 
 pub returns : goal.returns

@@ -1,4 +1,4 @@
-use Rattle.record_print.proofs.Lines.{keyed}
+use Rattle.line_writing.proofs.Public.{keyed}
 use Rattle.record_print.proofs.rows.put_row.Goals as goal
 
 pub returns : goal.returns

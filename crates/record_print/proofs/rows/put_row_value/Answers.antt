@@ -1,7 +1,7 @@
 use Rattle.std.proofs.Common.{sym, subst}
 use Rattle.std.specs.Result.{OnOk}
 use Rattle.record_print.specs.PrintedRows.{row_data}
-use Rattle.record_print.specs.Writing.{AddsValue}
+use Rattle.line_writing.specs.Writing.{AddsValue}
 use Rattle.record_print.proofs.rows.put_row_value.Goals as goal
 
 pub returns-in-Actual : goal.returns-in-Actual

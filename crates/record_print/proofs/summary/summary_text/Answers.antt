@@ -1,4 +1,4 @@
-use Rattle.record_print.proofs.Lines.{if_ok, line_written}
+use Rattle.line_writing.proofs.Public.{if_ok, line_written}
 use Rattle.record_print.proofs.summary.summary_text.Goals as goal
 
 pub returns : goal.returns

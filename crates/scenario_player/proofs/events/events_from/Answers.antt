@@ -1,6 +1,6 @@
 use Rattle.std.proofs.Common.{◌++◌, List, ap, arith, ◌∙◌}
 use Rattle.bbs_model.specs.declared.event.Event.{Event}
-use Rattle.scenario_player.specs.Courses.{events_from}
+use Rattle.scenario_player.specs.Wordings.{events_from}
 use Rattle.scenario_player.proofs.Hearing.{heard_more, heard_whole}
 use Rattle.scenario_player.proofs.events.events_from.Goals as goal
 

@@ -1,5 +1,5 @@
 use Rattle.std.proofs.Common.{◌≡◌, ◌-◌, ◌≤◌, ◌++◌, length}
-use Rattle.scenario_player.specs.Courses.{events_from}
+use Rattle.scenario_player.specs.Wordings.{events_from}
 use Rattle.scenario_player.proofs.events.events_from.Given as goal
 
 abbrev pub invariant-loop-at : goal.invariant-loop-at

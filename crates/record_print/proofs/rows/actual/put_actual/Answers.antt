@@ -1,6 +1,6 @@
 use Rattle.std.proofs.Common.{ap}
-use Rattle.record_print.specs.Spelled.{optional_instance_data, optional_name_data}
-use Rattle.record_print.proofs.Lines.{closed, more, more_as, more_text, opened}
+use Rattle.line_writing.specs.Spelled.{optional_instance_data, optional_name_data}
+use Rattle.line_writing.proofs.Public.{closed, more, more_as, more_text, opened}
 use Rattle.record_print.proofs.rows.actual.put_actual.Goals as goal
 
 pub returns : goal.returns

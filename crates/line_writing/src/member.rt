@@ -1,9 +1,9 @@
 //! Members of an object, each written behind the one before. What may be absent is null then.
 ghost use Rattle.std.specs.Prelude.{◌∷◌, [], OnOk};
 ghost use Rattle.serde_json.specs.Data.{boolean, null, string};
-ghost use Rattle.record_print.specs.Spelled.{optional_instance_data, optional_name_data, optional_number_data, optional_truth_data, whole};
+ghost use Rattle.line_writing.specs.Spelled.{optional_instance_data, optional_name_data, optional_number_data, optional_truth_data, whole};
 ghost use Rattle.json.specs.Token.{begin_array, begin_object, end_array, end_object, key as a_key};
-ghost use Rattle.record_print.specs.Writing.{AddsMember, AddsTokens};
+ghost use Rattle.line_writing.specs.Writing.{AddsMember, AddsTokens};
 
 use crate::spelled::instance_text;
 use diego_names::{Instance, Name};

@@ -1,0 +1,10 @@
+pub mod Order
+pub mod Members
+pub mod Once
+pub mod Lists
+pub mod Searching
+pub mod Filters
+pub mod Numbers
+pub mod Counts
+pub mod Following
+pub mod Logs

@@ -1,0 +1,5 @@
+pub mod Entries
+pub mod Routes
+pub mod Routing
+pub mod Keeping
+pub mod Lines
