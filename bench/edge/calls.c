@@ -1,14 +1,16 @@
 // Stands between the program and its calls of the system: notes them, and makes some of them fail.
 //
 //   gcc -shared -fPIC -O1 -o calls.so calls.c -ldl
-//   LD_PRELOAD=calls.so EDGE_NOTES=FILE EDGE_FAILS="NAME FROM TO ERRNO" EDGE_HOLDS="NAME NUMBER" program ..
+//   LD_PRELOAD=calls.so EDGE_NOTES=FILE EDGE_FAILS="NAME FROM TO ERRNO[,..]" EDGE_COUNTS=FILE EDGE_HOLDS="NAME NUMBER" program ..
 //
 // EDGE_NOTES names a file. It gets a line for each call, in their order and as soon as it is answered: the call's name, the file
 // that the descriptor leads to (or the path that was given), and, of a read or write, its place and count. A call that failed has
 // `failed ERRNO` behind it.
 //
 // EDGE_FAILS makes calls fail and leaves them undone: those of this name with these numbers, the first being 1. `malloc` is
-// one of the names, and counts each request for memory of the program.
+// one of the names, and counts each request for memory of the program. Up to four such parts may follow one another.
+//
+// EDGE_COUNTS names a file. When the program ends it gets a line for each part of EDGE_FAILS: how many calls of that name were made.
 //
 // EDGE_HOLDS stops the program, by SIGSTOP, before the call of this name and number is made.
 #define _GNU_SOURCE
@@ -28,9 +30,14 @@
 
 static pthread_mutex_t turn = PTHREAD_MUTEX_INITIALIZER;
 static int notes = -1;
-static char failing[32], holding[32];
-static long from, to, failing_count, held, holding_count;
-static int error;
+static char holding[32];
+static long held, holding_count;
+static struct {
+    char name[32];
+    long from, to, count;
+    int error;
+} failing[4];
+static int failing_parts;
 
 __attribute__((constructor)) static void begin(void) {
     const char *name = getenv("EDGE_NOTES"), *fails = getenv("EDGE_FAILS"), *holds = getenv("EDGE_HOLDS");
@@ -40,7 +47,11 @@ __attribute__((constructor)) static void begin(void) {
         notes = fcntl(fd, F_DUPFD_CLOEXEC, 100);
         syscall(SYS_close, fd);
     }
-    if (fails && sscanf(fails, "%31s %ld %ld %d", failing, &from, &to, &error) != 4) _exit(120);
+    for (; fails; fails = strchr(fails, ',') ? strchr(fails, ',') + 1 : NULL) {
+        if (failing_parts == 4) _exit(120);
+        __typeof__(&failing[0]) part = &failing[failing_parts++];
+        if (sscanf(fails, "%31s %ld %ld %d", part->name, &part->from, &part->to, &part->error) != 4) _exit(120);
+    }
     if (holds && sscanf(holds, "%31s %ld", holding, &held) != 2) _exit(120);
 }
 
@@ -48,11 +59,32 @@ __attribute__((constructor)) static void begin(void) {
 static int fails(const char *name) {
     if (!strcmp(name, holding) && __atomic_add_fetch(&holding_count, 1, __ATOMIC_SEQ_CST) == held)
         syscall(SYS_tgkill, getpid(), syscall(SYS_gettid), SIGSTOP);
-    if (strcmp(name, failing)) return 0;
-    long number = __atomic_add_fetch(&failing_count, 1, __ATOMIC_SEQ_CST);
-    if (number < from || number > to) return 0;
-    errno = error;
-    return 1;
+    for (int i = 0; i < failing_parts; i++) {
+        if (strcmp(name, failing[i].name)) continue;
+        long number = __atomic_add_fetch(&failing[i].count, 1, __ATOMIC_SEQ_CST);
+        if (number < failing[i].from || number > failing[i].to) continue;
+        errno = failing[i].error;
+        return 1;
+    }
+    return 0;
+}
+
+// Tells the counts. The program ends by `_exit`, which runs no destructor.
+__attribute__((destructor)) static void end(void) {
+    const char *name = getenv("EDGE_COUNTS");
+    if (!name) return;
+    int fd = syscall(SYS_openat, AT_FDCWD, name, O_WRONLY | O_CREAT | O_TRUNC | O_CLOEXEC, 0600);
+    for (int i = 0; i < failing_parts; i++) {
+        char line[80];
+        int length = snprintf(line, sizeof line, "%s %ld\n", failing[i].name, failing[i].count);
+        if (syscall(SYS_write, fd, line, (size_t)length) != length) syscall(SYS_exit_group, 121);
+    }
+    syscall(SYS_close, fd);
+}
+
+void _exit(int status) {
+    end();
+    for (;;) syscall(SYS_exit_group, status);
 }
 
 static void note(const char *name, int fd, const char *path, const char *rest, int failed) {
