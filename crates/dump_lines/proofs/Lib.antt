@@ -1,3 +1,5 @@
 pub mod Faults
 pub mod JsonText
 pub mod Lists
+pub mod Public
+pub mod SoundLines

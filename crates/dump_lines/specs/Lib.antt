@@ -1,4 +1,5 @@
 pub mod Cells
+pub mod Facts
 pub mod Faults
 pub mod Json
 pub mod Lines

@@ -88,10 +88,17 @@ lose_each_in d = or_shape (each_in d) >>= λ of. Ok (question.LoseEach of)
 unfoldable pub without_cells : TurnOrder → Data → Result TurnOrder LineFault
 without_cells order d = if has (codes "cells") d then Err BadShape else Ok order
 
+-- a list that names cells names one at least
+abbrev pub some_cells : List (List ℕ) → Result (List (List ℕ)) LineFault
+some_cells cells = if length cells == 0 then Err BadShape else Ok cells
+
+-- the cells that a line lists
+unfoldable pub cells_in : Data → Result (List (List ℕ)) LineFault
+cells_in d = all_in name_as (codes "cells") d >>= some_cells
+
 -- the order in which cells are given
 unfoldable pub given_in : Data → Result TurnOrder LineFault
-given_in d =
-    if has (codes "cells") d then (all_in name_as (codes "cells") d >>= λ cells. Ok (Given cells)) else Err BadShape
+given_in d = if has (codes "cells") d then (cells_in d >>= λ cells. Ok (Given cells)) else Err BadShape
 
 -- the order in which cells go, by its word
 unfoldable pub order_named : List ℕ → Data → Result TurnOrder LineFault
@@ -111,11 +118,19 @@ turns_in order d = order & number_or 1 (codes "at_least") d >>= λ (order, at_le
 
 -- the cells that are drained, where they are listed
 unfoldable pub drained_in : Data → Result (Option (List (List ℕ))) LineFault
-drained_in d = if has (codes "cells") d then (all_in name_as (codes "cells") d >>= λ cells. Ok (Some cells)) else Ok None
+drained_in d = if has (codes "cells") d then (cells_in d >>= λ cells. Ok (Some cells)) else Ok None
+
+-- a batch has one cell at least
+abbrev pub as_batch : ℕ → Result ℕ LineFault
+as_batch at_a_time = if at_a_time == 0 then Err BadShape else Ok at_a_time
+
+-- how many cells a batch has at most
+unfoldable pub batch_in : Data → Result ℕ LineFault
+batch_in d = number_in (codes "at_a_time") d >>= as_batch
 
 -- cells are drained
 unfoldable pub drain_in : Result (Option (List (List ℕ))) LineFault → Data → Result Question LineFault
-drain_in cells d = number_in (codes "at_a_time") d & cells >>= λ (at_a_time, cells). Ok (question.Drain at_a_time cells)
+drain_in cells d = batch_in d & cells >>= λ (at_a_time, cells). Ok (question.Drain at_a_time cells)
 
 -- the tag of what is to find room
 unfoldable pub tag_given : Data → Result (Option (List ℕ)) LineFault

@@ -1,6 +1,7 @@
 //! What a line is: first as JSON, then by its kind.
-ghost use Rattle.std.specs.Prelude.{◌≡◌};
+ghost use Rattle.std.specs.Prelude.{◌≡◌, IfOk};
 ghost use Rattle.serde_json.specs.View.{view};
+ghost use Rattle.dump_lines.specs.Facts.{IsLine};
 ghost use Rattle.dump_lines.specs.Faults.{Gives};
 ghost use Rattle.dump_lines.specs.Lines.{kind_of, line_as, line_in, line_of};
 
@@ -15,8 +16,15 @@ use serde_json::Value;
 use std::alloc::Global;
 
 /// Reads the bytes of one line, without its newline.
-#[tactic(auto, unfolding(crate::specs::Lines::line_of))]
 pub fn read_dump_line(alloc: Global, line: &[u8]) -> Result<DumpLine, LineError>
+    ensures exact { Gives result (line_of line.now) }
+    ensures facts { IfOk result IsLine }
+{
+    line_of(alloc, line)
+}
+
+#[tactic(auto, unfolding(crate::specs::Lines::line_of))]
+fn line_of(alloc: Global, line: &[u8]) -> Result<DumpLine, LineError>
     ensures { Gives result (line_of line.now) }
 {
     let value = json_of(alloc, line)?;

@@ -24,9 +24,10 @@ pub enum Question {
     },
     /// What happens where cells are emptied in batches.
     Drain {
-        /// How many cells a batch has at most. A batch of 0 is not refused.
+        /// How many cells a batch has at most: one or more.
         at_a_time: u32,
-        /// The cells in their order; where there is no list all cells are drained.
+        /// The cells in their order, of which there is one at least; where there is no list all
+        /// cells are drained.
         cells: Option<List<Name>>,
     },
     /// Where so many instances more of a process would go.
@@ -52,5 +53,6 @@ pub enum TurnOrder {
     /// The fullest first.
     Fullest,
     ByName,
+    /// These cells, of which there is one at least.
     Given(List<Name>),
 }

@@ -3,7 +3,7 @@ ghost use Rattle.std.specs.Prelude.{◌≡◌, IfOk, string_bytes};
 ghost use Rattle.std.specs.BTreeMap.{keys};
 ghost use Rattle.std.specs.List.{list_all};
 ghost use Rattle.serde_json.specs.View.{view};
-ghost use Rattle.dump_lines.specs.Questions.{ask_in, ask_named, drain_in, drained_in, each_in, each_named, fit_in, given_in, has_only, is_known, lose_in, lose_of, lose_each_in, order_in, order_named, process_in, question_as, question_in, tag_given, turns_in, without_cells};
+ghost use Rattle.dump_lines.specs.Questions.{as_batch, ask_in, ask_named, batch_in, cells_in, drain_in, drained_in, each_in, each_named, fit_in, given_in, has_only, is_known, lose_in, lose_of, lose_each_in, order_in, order_named, process_in, question_as, question_in, some_cells, tag_given, turns_in, without_cells};
 
 use crate::cell::demand_of;
 use crate::fault::{LineFault, both};
@@ -137,6 +137,26 @@ fn lose_each_in(value: &Value) -> Result<Question, LineFault>
     }
 }
 
+// A list that names cells names one at least.
+fn some_cells(cells: List<Name>) -> Result<List<Name>, LineFault>
+    ensures { result ≡ some_cells cells }
+{
+    if cells.is_empty() {
+        return Err(LineFault::BadShape);
+    }
+    Ok(cells)
+}
+
+#[tactic(auto, unfolding(crate::specs::Questions::cells_in))]
+fn cells_in(alloc: Global, value: &Value) -> Result<Result<List<Name>, LineFault>, OutOfMemory>
+    ensures { IfOk result (λ read. read ≡ cells_in (view value.now)) }
+{
+    match names_or_none(alloc, value, "cells")? {
+        Ok(cells) => Ok(some_cells(cells)),
+        Err(fault) => Ok(Err(fault)),
+    }
+}
+
 // Cells are given for one order alone.
 #[tactic(auto, unfolding(crate::specs::Questions::without_cells))]
 fn without_cells(order: TurnOrder, value: &Value) -> Result<TurnOrder, LineFault>
@@ -156,7 +176,7 @@ fn given_in(alloc: Global, value: &Value) -> Result<Result<TurnOrder, LineFault>
     if !has(value, "cells") {
         return Ok(Err(LineFault::BadShape));
     }
-    match names_or_none(alloc, value, "cells")? {
+    match cells_in(alloc, value)? {
         Ok(cells) => Ok(Ok(TurnOrder::Given(cells))),
         Err(fault) => Ok(Err(fault)),
     }
@@ -207,10 +227,27 @@ fn drained_in(
     if !has(value, "cells") {
         return Ok(Ok(None));
     }
-    match names_or_none(alloc, value, "cells")? {
+    match cells_in(alloc, value)? {
         Ok(cells) => Ok(Ok(Some(cells))),
         Err(fault) => Ok(Err(fault)),
     }
+}
+
+fn as_batch(at_a_time: u32) -> Result<u32, LineFault>
+    ensures { result ≡ as_batch at_a_time }
+{
+    if at_a_time == 0 {
+        return Err(LineFault::BadShape);
+    }
+    Ok(at_a_time)
+}
+
+// How many cells a batch has at most.
+#[tactic(auto, unfolding(crate::specs::Questions::batch_in))]
+fn batch_in(value: &Value) -> Result<u32, LineFault>
+    ensures { result ≡ batch_in (view value.now) }
+{
+    as_batch(number_in(value, "at_a_time")?)
 }
 
 #[tactic(auto, unfolding(crate::specs::Questions::drain_in))]
@@ -220,7 +257,7 @@ fn drain_in(
 ) -> Result<Question, LineFault>
     ensures { result ≡ drain_in cells (view value.now) }
 {
-    let (at_a_time, cells) = both(number_in(value, "at_a_time"), cells)?;
+    let (at_a_time, cells) = both(batch_in(value), cells)?;
     Ok(Question::Drain { at_a_time, cells })
 }
 

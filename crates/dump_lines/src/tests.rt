@@ -297,7 +297,7 @@ fn of_two_faults_the_first_in_the_order_counts(rt: HostRuntime) -> Result<(), Fa
     Ok(())
 }
 
-const QUESTIONS: [(&str, &str); 34] = [
+const QUESTIONS: [(&str, &str); 40] = [
     (r#"{"ask":"show"}"#, "asks"),
     (r#"{"ask":"Show"}"#, "bad shape"),
     (r#"{"ask":1}"#, "bad shape"),
@@ -334,8 +334,20 @@ const QUESTIONS: [(&str, &str); 34] = [
         r#"{"ask":"lose_in_turn","order":"given","cells":[""]}"#,
         "bad name",
     ),
+    (
+        r#"{"ask":"lose_in_turn","order":"given","cells":[]}"#,
+        "bad shape",
+    ),
+    (
+        r#"{"ask":"lose_in_turn","order":"given","cells":null}"#,
+        "bad shape",
+    ),
     (r#"{"ask":"lose_in_turn"}"#, "bad shape"),
     (r#"{"ask":"drain","at_a_time":2}"#, "asks"),
+    (r#"{"ask":"drain","at_a_time":1}"#, "asks"),
+    (r#"{"ask":"drain","at_a_time":0}"#, "bad shape"),
+    (r#"{"ask":"drain","at_a_time":0,"cells":[""]}"#, "bad shape"),
+    (r#"{"ask":"drain","at_a_time":2,"cells":[]}"#, "bad shape"),
     (
         r#"{"ask":"drain","at_a_time":2,"cells":["c1","c2"]}"#,
         "asks",

@@ -1,0 +1,7 @@
+use Rattle.std.proofs.Common.{◌≡◌, ◌++◌, take}
+use Rattle.std.specs.List.{flat_map}
+use Rattle.headroom_print.specs.Lines.{found_lines}
+use Rattle.headroom_print.proofs.line_kinds.add_all_found.Given as goal
+
+abbrev pub invariant-loop-one : goal.invariant-loop-one
+invariant-loop-one l = l.text.items ≡ l.fn.text.items ++ flat_map found_lines (take l.one-index l.found)

@@ -1,0 +1,4 @@
+mod KeyPlaces
+mod Orders
+mod Survivals
+mod Turning

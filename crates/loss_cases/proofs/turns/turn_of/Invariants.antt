@@ -1,0 +1,7 @@
+use Rattle.std.proofs.Common.{◌≡◌, drop}
+use Rattle.loss_cases.specs.Turns.{turn_from, turn_of}
+use Rattle.loss_cases.proofs.turns.turn_of.Given as goal
+
+abbrev pub invariant-loop-cell : goal.invariant-loop-cell
+invariant-loop-cell l =
+    turn_from l.fn.site l.tag l.count l.gone (drop l.cell-index l.cells) ≡ turn_of l.fn.site l.fn.tag l.fn.cells

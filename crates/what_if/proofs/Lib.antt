@@ -1,0 +1,9 @@
+mod Lists
+mod Open
+mod Holding
+mod Turns
+mod Bare
+mod Few
+mod Planned
+mod Parts
+mod VerdictLemmas

@@ -1,0 +1,15 @@
+pub mod Stays
+pub mod Waiting
+pub mod Sites
+pub mod Verdicts
+pub mod Plans
+pub mod Holders
+pub mod Placed
+pub mod Sums
+pub mod Tags
+pub mod Zones
+pub mod Spread
+pub mod Losses
+pub mod Shows
+pub mod Drains
+pub mod Notes

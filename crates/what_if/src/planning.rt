@@ -1,0 +1,108 @@
+//! The plan of a loss.
+ghost use Rattle.std.specs.Prelude.{◌≡◌, ℕ, ◌≤◌, ◌^◌, List, length, map, filter, is_some, IfOk};
+ghost use Rattle.auctioneer.specs.Asked.{AreJobs};
+ghost use Rattle.what_if.specs.Holders.{found_before, waits_by, IsHolders};
+ghost use Rattle.what_if.specs.Plans.{planned};
+ghost use Rattle.what_if.specs.Sites.{IsSite};
+ghost use Rattle.what_if.specs.Stays.{stays};
+
+use crate::cells::open_cells;
+use crate::placing::{Outcome, Setting, place_all, without_jobs};
+use crate::plan::Plan;
+use crate::site::Site;
+use crate::stays::{Holders, stays};
+use crate::verdicts::verdict_of;
+use crate::waiting::{held_before, waits};
+use auctioneer::{Auction, Stand, in_order};
+use cell_records::Job;
+use diego_names::{List, Name, OutOfMemory};
+use forecast_records::Verdict;
+use std::alloc::Global;
+
+// Which cell holds which instance with these cells lost.
+fn holders_of(alloc: Global, site: &Site, lost: &[Name]) -> Result<Holders, OutOfMemory>
+    ensures { IfOk result (IsHolders (stays site.now lost.now)) }
+{
+    let list = stays(alloc, site, lost)?;
+    Holders::of(alloc, &list)
+}
+
+// Those of the jobs that a cell held while nothing was lost.
+fn held_jobs(alloc: Global, jobs: &[Job], before: &Holders) -> Result<Vec<Job>, OutOfMemory>
+    ensures { IfOk result (λ held. held.items
+        ≡ filter (λ j. is_some (found_before before.now j.job)) jobs.now) }
+{
+    let held = jobs
+        .iter()
+        .filter(|job| held_before(before, &job.job).is_some())
+        .copied()
+        .collect(alloc)?;
+    Ok(held)
+}
+
+// What waits where instances are held so.
+fn waiting_of(alloc: Global, site: &Site, holders: &Holders) -> Result<Vec<Job>, OutOfMemory>
+    requires { IsSite site.now }
+    ensures value { IfOk result (λ jobs. jobs.items ≡ waits_by site.now holders.now) }
+    ensures apart { IfOk result (λ jobs. AreJobs jobs.items) }
+    ensures few { IfOk result (λ jobs. length jobs.items ≤ 2 ^ 32) }
+{
+    let jobs = waits(alloc, site, holders)?;
+    Ok(jobs)
+}
+
+// The plan that came of it.
+fn plan_from(
+    jobs: Vec<Job>,
+    before: Vec<Stand>,
+    outcome: Outcome,
+    stands: Auction,
+    displaced: &[Job],
+    verdict: Verdict,
+) -> Plan
+    ensures { result ≡ record {
+      jobs = jobs.items;
+      before = before.items;
+      placements = outcome.placements;
+      left = outcome.left;
+      without_room = outcome.without_room;
+      stands = stands;
+      displaced = length displaced.now;
+      verdict = verdict;
+    } }
+{
+    Plan {
+        jobs: List::from(jobs),
+        before: List::from(before),
+        placements: outcome.placements,
+        left: outcome.left,
+        without_room: outcome.without_room,
+        stands,
+        displaced: displaced.len() as u64,
+        verdict,
+    }
+}
+
+/// Where all that waits goes once these cells are lost.
+pub fn plan_of(alloc: Global, site: &Site, lost: &[Name]) -> Result<Plan, OutOfMemory>
+    requires { IsSite site.now }
+    ensures { IfOk result (λ plan. plan ≡ planned site.now lost.now) }
+{
+    let now = holders_of(alloc, site, &[])?;
+    let then = holders_of(alloc, site, lost)?;
+    let waiting = waiting_of(alloc, site, &then)?;
+    let displaced = held_jobs(alloc, &waiting, &now)?;
+    let jobs = in_order(alloc, &waiting)?;
+    let cells = open_cells(alloc, site, lost)?;
+    let mut auction = Auction::new(alloc, &cells)?;
+    let before = without_jobs(alloc, auction.stands())?;
+    let setting = Setting {
+        before: &before,
+        jobs: &jobs,
+        holders: &now,
+    };
+    let outcome = place_all(alloc, &mut auction, &setting)?;
+    let counting = held_jobs(alloc, outcome.left.items(), &now)?;
+    let verdict = verdict_of(&before, &jobs, &counting);
+    Ok(plan_from(jobs, before, outcome, auction, &displaced, verdict))
+}
