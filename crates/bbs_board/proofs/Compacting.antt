@@ -1,12 +1,11 @@
--- A switch and the whole of a checkpoint, where the disk may tell nothing.
-use Rattle.std.proofs.Common.{◌≡◌, ◌⊎◌, inl, inr, ⊎_elim, ℕ, ◌+◌, ◌<◌, ◌-◌, ◌^◌, Bool, true, false, ◌||◌, ◌==◌, nat_lt, List, length, Option, Some, None, refl, sym, ap, subst, ◌∙◌, arith}
+-- A switch, and a mend before it, where the disk may tell nothing.
+use Rattle.std.proofs.Common.{◌≡◌, ◌⊎◌, inl, inr, ⊎_elim, ℕ, ◌+◌, ◌<◌, ◌^◌, Bool, true, false, List, length, Option, refl, sym, ap, subst, ◌∙◌, arith}
 use Rattle.std.specs.Prelude.{if◌then◌else◌}
-use Rattle.std.proofs.lemmas.Bool.Decides.{nat_tests}
 use Rattle.std.specs.Option.{ForSome}
 use Rattle.disk_trait.specs.Past.{Past, other}
 use Rattle.disk_trait.specs.Runs.{Extends}
 use Rattle.disk_trait.specs.Steps.{Goes}
-use Rattle.disk_trait.proofs.Public.{goes_then, goes_weaker, goes_same, extends_same, extends_then}
+use Rattle.disk_trait.proofs.Public.{goes_then, goes_weaker, extends_then}
 use Rattle.head_codec.specs.Head.{head_spelled, FitsHead}
 use Rattle.bbs_journal.specs.Calls.{Settles}
 use Rattle.bbs_journal.specs.Switching.{close_calls}
@@ -17,17 +16,15 @@ use Rattle.bbs_journal.specs.declared.other_gate.OtherGate.TheVariants.{Shut, Lo
 use Rattle.bbs_journal.specs.declared.waiting.Waiting.{Waiting}
 use Rattle.bbs_journal.specs.declared.waiting.Waiting.TheVariants.{Nothing, Frame, Header}
 use Rattle.bbs_snapshot.specs.Switches.{Switches, SwitchesAll, StaysThere, KnowsAfterSwitch}
-use Rattle.bbs_model.specs.Replay.{replay_log, IsLawful}
-use Rattle.bbs_model.specs.Valid.{IsValid}
+use Rattle.bbs_model.specs.Replay.{replay_log}
 use Rattle.bbs_model.specs.declared.item.Item.{Item}
 use Rattle.bbs_model.specs.declared.rows.Rows.{Rows}
-use Rattle.bbs_board.specs.Checkpoint.{Compacts, Checkpoints, MovesOn, MovedOn, has_to_compact}
+use Rattle.bbs_board.specs.Checkpoint.{Compacts, MovesOn, MovedOn}
 use Rattle.bbs_board.specs.Puts.{StandsWith, StillStands}
 use Rattle.bbs_board.specs.View.{Holds, LeadsOn, StandsOn}
 use Rattle.bbs_board.proofs.Beside.{calm_nothing}
 use Rattle.bbs_board.proofs.Mending.{by_step, standing}
-use Rattle.bbs_board.proofs.Filling.{by_tests, not_by_tests, low_generation}
-use Rattle.bbs_board.proofs.Moving.{leads, calm_ready, holds_there, holds_here, compacts_not, compacts_none, compacts_by}
+use Rattle.bbs_board.proofs.Moving.{leads, calm_ready, holds_there, holds_here, compacts_by}
 
 header_calm : (w : Waiting) → w ≡ (if is_waiting w then Header else Nothing) → frame_waits w ≡ false
 header_calm Nothing own = refl
@@ -137,11 +134,11 @@ module _ {D : Type 0} (v0 v1 v2 : JournalView D) (whole : v0.broken ≡ false) w
     frames = settles.frames;
     waits = λ never. absurd (cc (never));
     frame = λ is. ap frame_waits (sym settles.waiting) ∙ is;
-    generation = λ is. settles.stays.generation;
+    generation = settles.stays.generation;
   }
 
-  pub moved_made : (size : ℕ) → KnowsAfterSwitch true size v1 v2 → MovedOn true v0 v2
-  moved_made size on =
+  pub moved_made : (size : ℕ) → Settles true v0 v1 → KnowsAfterSwitch true size v1 v2 → MovedOn true v0 v2
+  moved_made size settles on =
       let made = on.made refl in
       record {
         whole = ap (λ (v : JournalView D). v.broken) made;
@@ -149,7 +146,7 @@ module _ {D : Type 0} (v0 v1 v2 : JournalView D) (whole : v0.broken ≡ false) w
         frames = ap (λ (v : JournalView D). v.frames) made;
         waits = λ is. ap (λ (v : JournalView D). is_waiting v.waiting) made;
         frame = λ is. absurd (let never : frame_waits v2.waiting ≡ false = ap (λ (v : JournalView D). frame_waits v.waiting) made in cc);
-        generation = λ never. absurd (cc (never));
+        generation = ap (λ (v : JournalView D). v.generation) made ∙ ap (λ (n : ℕ). n + 1) settles.stays.generation;
       }
 
   pub moved_left : Settles true v0 v1 → StaysThere v1 v2 → MovedOn false v0 v2
@@ -159,7 +156,7 @@ module _ {D : Type 0} (v0 v1 v2 : JournalView D) (whole : v0.broken ≡ false) w
     frames = there.frames ∙ settles.frames;
     waits = λ never. absurd (cc (never));
     frame = λ is. absurd (let never : frame_waits v2.waiting ≡ false = header_calm v2.waiting there.waiting in cc);
-    generation = λ is. there.stays.generation ∙ settles.stays.generation;
+    generation = there.stays.generation ∙ settles.stays.generation;
   }
 
 -- from a switch that failed
@@ -170,50 +167,3 @@ pub few_close_calls : (gate : OtherGate) → (close_calls gate ≡ 0) ⊎ (close
 few_close_calls Shut = inl refl
 few_close_calls Loose = inr refl
 few_close_calls (Written size) = inl refl
-
--- ---- the whole of a checkpoint
-
-none_by_tests : (frames version : ℕ) → nat_lt 0 frames || version == 1 ≡ false → (frames ≡ 0) × (version ≡ 1 → ⊥)
-none_by_tests frames version is = (grind (arith, nat_tests), λ old. grind (arith, nat_tests))
-
-compact_by_tests : (frames version : ℕ) → nat_lt 0 frames || version == 1 ≡ true → (0 < frames) ⊎ (version ≡ 1)
-compact_by_tests frames version is = grind (arith, nat_tests)
-
-pub compact_some : {D : Type 0} (j : JournalView D) → has_to_compact j ≡ true → (0 < j.frames) ⊎ (j.version ≡ 1)
-compact_some j is = compact_by_tests j.frames j.version (by_tests (nat_lt 0 j.frames || j.version == 1) j.generation (2 ^ 64 - 1) is).0
-
-checkpoints_both : (t0 t1 : Option Past) (waits ok : Bool) (rows : Rows) → Goes t0 t1 Extends → (waits ≡ false → Goes t0 t1 (Compacts ok rows)) → Goes t0 t1 (Checkpoints ok waits rows)
-checkpoints_both None None waits ok rows extends compacts = tt
-checkpoints_both None (Some q) waits ok rows extends compacts = extends
-checkpoints_both (Some p) None waits ok rows extends compacts = extends
-checkpoints_both (Some p) (Some q) waits ok rows extends compacts = record { extends = extends; compacts = compacts }
-
-module _ {D : Type 0} (told : D → Option Past) (j : JournalView D) (base : Rows) (log : List Item) (marks : List ℕ) (since : ℕ) (stands : StandsOn told base log marks since j) where
-  calmly : is_waiting j.waiting ≡ false → (p : Past) → told j.disk ≡ Some p → Holds base log marks since j.area j.version j.generation j.end j.frames Nothing j.gate p
-  calmly calm p is = subst (λ (w : Waiting). Holds base log marks since j.area j.version j.generation j.end j.frames w j.gate p) (calm_nothing j.waiting calm) (stands p is)
-
-  same_extends : Goes (told j.disk) (told j.disk) Extends
-  same_extends = goes_same (told j.disk) Extends (λ p is. extends_same p)
-
-  -- it is given up before the first call
-  pub checkpoint_starved : Goes (told j.disk) (told j.disk) (Checkpoints false (is_waiting j.waiting) (replay_log base log))
-  checkpoint_starved = checkpoints_both (told j.disk) (told j.disk) (is_waiting j.waiting) false (replay_log base log) same_extends
-      (λ calm. goes_same (told j.disk) (Compacts false (replay_log base log)) (λ p is. compacts_not base log marks since j.area j.version j.generation j.end j.frames j.gate p (calmly calm p is)))
-
-  -- there is nothing to do; no disk that tells its past has the last generation
-  pub checkpoint_idle : has_to_compact j ≡ false → IsValid (replay_log base log) → Goes (told j.disk) (told j.disk) (Checkpoints true (is_waiting j.waiting) (replay_log base log))
-  checkpoint_idle idle valid = goes_same (told j.disk) (Checkpoints true (is_waiting j.waiting) (replay_log base log))
-      (λ p is.
-      let low = low_generation base log marks since j.area j.version j.generation j.end j.frames j.waiting j.gate p (stands p is) valid in
-      let rest = none_by_tests j.frames j.version (not_by_tests (nat_lt 0 j.frames || j.version == 1) j.generation (2 ^ 64 - 1) idle low) in
-      record {
-        extends = extends_same p;
-        compacts = λ calm. compacts_none base log marks since j.area j.version j.generation j.end j.frames j.gate p (calmly calm p is) rest.0 rest.1;
-      })
-
-  -- it was tried
-  pub checkpoint_tried : (later : JournalView D) (ok : Bool) (head : List ℕ) → IsLawful base log → (0 < j.frames) ⊎ (j.version ≡ 1) → FitsHead newest (replay_log base log) → head ≡ head_spelled newest (replay_log base log) → MovesOn told ok head j later
-      → Goes (told j.disk) (told later.disk) (Checkpoints ok (is_waiting j.waiting) (replay_log base log))
-  checkpoint_tried later ok head lawful some fits is moves =
-      let moved = moves base log marks since lawful stands some fits is in
-      checkpoints_both (told j.disk) (told later.disk) (is_waiting j.waiting) ok (replay_log base log) moved.0.extends moved.1

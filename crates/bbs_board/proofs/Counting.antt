@@ -1,5 +1,5 @@
 -- A command puts two rows at most.
-use Rattle.std.proofs.Common.{ℕ, ◌+◌, ◌-◌, ◌≤◌, Bool, true, false, cond, Option, Some, None, List, [], ◌∷◌, length, arith}
+use Rattle.std.proofs.Common.{ℕ, ◌+◌, ◌-◌, ◌*◌, ◌^◌, ◌≤◌, ◌<◌, Bool, true, false, cond, Option, Some, None, List, [], ◌∷◌, length, arith}
 use Rattle.std.specs.FinMap.Entries.{by_order}
 use Rattle.std.specs.declared.cmp.Ordering.{Ordering}
 use Rattle.std.specs.declared.cmp.Ordering.TheVariants.{Less, Equal, Greater}
@@ -17,7 +17,7 @@ use Rattle.bbs_model.specs.declared.command.Command.{Command}
 use Rattle.bbs_model.specs.declared.event.Row.{Row}
 use Rattle.bbs_model.specs.declared.event.Row.TheVariants as row
 use Rattle.bbs_model.specs.declared.rows.Rows.{Rows}
-use Rattle.bbs_board.specs.Room.{row_count, places_left, calls_for}
+use Rattle.bbs_board.specs.Room.{row_count, most_rows, places_left, calls_for}
 
 module _ {K X : Type 0} (R : K → K → Ordering) (key : X → K) where
   few_by : (o : Ordering) (a b c : List X) (n : ℕ) → length a ≤ n → length b ≤ n → length c ≤ n → length (by_order o a b c) ≤ n
@@ -84,9 +84,24 @@ calls_more r i p r' i' p' one two three = omega (arith, one, two, three)
 pub calls_less : (r i p r' i' p' : ℕ) → r ≤ r' + 2 → i ≤ i' + 1 → p ≤ p' + 2 → calls_for r i p ≤ calls_for r' i' p' + 1
 calls_less r i p r' i' p' one two three = omega (arith, one, two, three)
 
+-- room for a call has room for its head
+pub some_places : (r i p : ℕ) → 0 < calls_for r i p → 0 < p
+some_places r i p some = omega (arith, some)
+
 -- what is left for heads after a command
 pub places_kept : (p p' : ℕ) (rows rows' : Rows) → p ≤ p' → row_count rows' ≤ row_count rows + 2 → places_left p rows ≤ places_left p' rows' + 2
-places_kept p p' rows rows' more few = left_more p p' (row_count rows) (row_count rows') more few
+places_kept p p' rows rows' more few = left_more most_rows p p' (row_count rows) (row_count rows') more few
   where
-    left_more : (p p' r r' : ℕ) → p ≤ p' → r' ≤ r + 2 → p - (r + 1) ≤ p' - (r' + 1) + 2
-    left_more p p' r r' more few = omega (arith, more, few)
+    left_more : (top p p' r r' : ℕ) → p ≤ p' → r' ≤ r + 2 → (p - (r + 1)) + 2 ^ 32 * (p - top) ≤ (p' - (r' + 1)) + 2 ^ 32 * (p' - top) + 2
+    left_more top p p' r r' more few = omega (arith, more, few)
+
+-- and where the rows stay
+pub places_more : (p p' : ℕ) (rows : Rows) → p ≤ p' → places_left p rows ≤ places_left p' rows
+places_more p p' rows more = left_more most_rows p p' (row_count rows) more
+  where
+    left_more : (top p p' r : ℕ) → p ≤ p' → (p - (r + 1)) + 2 ^ 32 * (p - top) ≤ (p' - (r + 1)) + 2 ^ 32 * (p' - top)
+    left_more top p p' r more = omega (arith, more)
+
+-- where the rows stay and only the places are more
+pub calls_kept : (r i p p' : ℕ) (rows : Rows) → p ≤ p' → calls_for r i (places_left p rows) ≤ calls_for r i (places_left p' rows)
+calls_kept r i p p' rows more = calls_more r i (places_left p rows) r i (places_left p' rows) (omega arith) (omega arith) (places_more p p' rows more)

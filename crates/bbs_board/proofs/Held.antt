@@ -8,7 +8,6 @@ use Rattle.disk_trait.specs.Steps.{Goes}
 use Rattle.disk_trait.proofs.Public.{goes_back}
 use Rattle.byte_ports.specs.Cause.{HasCause}
 use Rattle.bbs_codec.specs.Command.{spelled, FitsCommand}
-use Rattle.bbs_journal.specs.Header.{newest}
 use Rattle.bbs_journal.specs.View.{JournalView, is_waiting, frame_waits}
 use Rattle.bbs_model.specs.Replay.{replay_log, IsLawful, after_item, command_in}
 use Rattle.bbs_model.specs.Step.{IsLegal}
@@ -22,14 +21,14 @@ use Rattle.bbs_model.specs.declared.verdict.Verdict.TheVariants as verdict
 use Rattle.bbs_model.specs.declared.rows.Rows.{Rows}
 use Rattle.bbs_laws.proofs.Public.{IsLawful-append, IsValid-rows_after, next-rows_after, told_in-one_more}
 use Rattle.bbs_board.specs.Calls.{Passes}
-use Rattle.bbs_board.specs.Checkpoint.{MovedOn}
+use Rattle.bbs_board.specs.Checkpoint.{Checkpoints, HasCompacted, StandsCompacted, has_to_compact}
 use Rattle.bbs_board.specs.Doubts.{doubts_in, RoseForEach}
 use Rattle.bbs_board.specs.KeptIn.{StaysShort, most_after}
 use Rattle.bbs_board.specs.Puts.{item_of}
 use Rattle.bbs_board.specs.Storing.{IsHeadOf, StoresItem, HasStored}
 use Rattle.bbs_board.specs.View.{IsSound, StandsOn, wants_checkpoint}
 use Rattle.bbs_board.proofs.Doubting.{rose_more}
-use Rattle.bbs_board.proofs.Filling.{due_same, short_not_due, not_due, low_generation}
+use Rattle.bbs_board.proofs.Filling.{not_due, low_generation}
 use Rattle.bbs_board.proofs.Logs.{replay_more}
 use Rattle.bbs_board.proofs.Short.{has_at_most}
 use Rattle.bbs_board.proofs.Storing.{passes_both}
@@ -70,30 +69,26 @@ sound_more {D} told fault_count rows base log marks events since faults journal 
         omega (arith, few, frames, ap (λ (r : Rows). r.next) is, next-rows_after rows c legal)
     counts false is frames = let few = sound.counted in omega (arith, few, frames, ap (λ (r : Rows). r.next) is)
 
--- without an item
-pub sound_moved : {D : Type 0} (told : D → Option Past) (fault_count : D → ℕ) (rows base : Rows) (log : List Item) (marks : List ℕ) (events : List (Option Events)) (since faults : ℕ) (journal later : JournalView D) → IsSound told fault_count rows base log marks events since faults journal
-    → (failed ok : Bool) → MovedOn ok journal later → StandsOn told base log marks since later → HasCause failed (fault_count journal.disk) (fault_count later.disk) → IsSound told fault_count rows base log marks events since faults later
-sound_moved told fault_count rows base log marks events since faults journal later sound failed ok moved stands cause = record {
-  opened = sound.opened;
-  valid = sound.valid;
-  lawful = sound.lawful;
-  rows_are = sound.rows_are;
-  events_are = sound.events_are;
-  whole = moved.whole;
-  counted = let few = sound.counted in omega (arith, few, fewer ok moved.frames);
-  crowded = λ is. never_due ok moved.waits moved.frames moved.version moved.generation is;
-  doubted = let rose = sound.doubted in let later = cause.later in omega (arith, rose, later);
-  holds = stands;
-}
-  where
-    fewer : (done : Bool) → later.frames ≡ (if done then 0 else journal.frames) → later.frames ≤ journal.frames
-    fewer true is = omega (arith, is)
-    fewer false is = omega (arith, is)
+-- after a checkpoint, without an item
+module _ {D : Type 0} (told : D → Option Past) (fault_count : D → ℕ) (rows base : Rows) (log : List Item) (marks : List ℕ) (events : List (Option Events)) (since faults : ℕ) (journal later : JournalView D) (sound : IsSound told fault_count rows base log marks events since faults journal)
+    (ok : Bool) (head : List ℕ) (heads : has_to_compact journal ≡ true → IsHeadOf rows head) (stands : StandsCompacted told ok head journal later) where
+  pub stands_compacted : StandsOn told base log marks since later × Goes (told journal.disk) (told later.disk) (Checkpoints ok (is_waiting journal.waiting) (replay_log base log))
+  stands_compacted =
+      stands base log marks since sound.lawful (subst IsValid sound.rows_are sound.valid) sound.holds (λ due. subst (λ (r : Rows). IsHeadOf r head) sound.rows_are (heads due))
 
-    never_due : (done : Bool) → (done ≡ true → is_waiting later.waiting ≡ false) → later.frames ≡ (if done then 0 else journal.frames) → later.version ≡ (if done then newest else journal.version) → (done ≡ false → later.generation ≡ journal.generation) → frame_waits later.waiting ≡ true
-        → wants_checkpoint later ≡ false
-    never_due true calm frames version generation is = short_not_due later (omega (arith, frames)) version
-    never_due false calm frames version generation is = due_same journal later frames version (generation refl) ∙ sound.crowded (moved.frame is)
+  pub sound_compacted : (failed : Bool) → HasCompacted ok journal later → HasCause failed (fault_count journal.disk) (fault_count later.disk) → IsSound told fault_count rows base log marks events since faults later
+  sound_compacted failed has cause = record {
+    opened = sound.opened;
+    valid = sound.valid;
+    lawful = sound.lawful;
+    rows_are = sound.rows_are;
+    events_are = sound.events_are;
+    whole = has.whole;
+    counted = let few = sound.counted in let fewer = has.frames in omega (arith, few, fewer);
+    crowded = has.crowded sound.crowded;
+    doubted = let rose = sound.doubted in let more = cause.later in omega (arith, rose, more);
+    holds = stands_compacted.0;
+  }
 
 -- ---- how long it takes to open
 

@@ -14,6 +14,7 @@ pub mod Doubting
 pub mod Held
 pub mod Moving
 pub mod Compacting
+pub mod Checkpointing
 pub mod Closing
 pub mod Adds
 pub mod Filling

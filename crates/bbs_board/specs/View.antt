@@ -29,7 +29,8 @@ use Rattle.bbs_board.specs.Opening.{board_of}
 
 -- its disk, the rows that it was opened with, the items since then with the disk's clock at the end of
 -- the call of each, the clock and the count of faults at the end of its load, whether a gate has to be
--- mended, the version of its area and how many frames that has, and how many legal calls it has the memory for
+-- mended, the version and the generation of its area and how many frames that has, and how many legal calls it
+-- has the memory for
 pub record View (D : Type 0) : Type 0 where
   pub disk : D
   pub base : Rows
@@ -39,6 +40,7 @@ pub record View (D : Type 0) : Type 0 where
   pub faults : ℕ
   pub waits : Bool
   pub version : ℕ
+  pub generation : ℕ
   pub frames : ℕ
   pub spare : ℕ
 

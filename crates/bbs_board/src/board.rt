@@ -58,6 +58,7 @@ impl<D: Disk> Model for Board<D> {
       faults = b.faults;
       waits = is_waiting b.journal.waiting;
       version = b.journal.version;
+      generation = b.journal.generation;
       frames = b.journal.frames;
       spare = calls_for b.index.spare b.history.room (places_left (places_in b.draft) b.index.rows);
     } };

@@ -19,6 +19,7 @@ impl<D: Disk> Board<D> {
     /// frame more.
     pub fn kept_in(&self) -> KeptIn
         ensures place { self.now.waits ≡ false → ForSome (D.told self.now.disk) (IsKeptIn result) }
+        ensures generation { result.generation ≡ self.now.generation }
         ensures frames { result.frames ≡ self.now.frames }
     {
         KeptIn {

@@ -1,7 +1,7 @@
 //! The memory that calls need, had before their first device call.
-ghost use Rattle.std.specs.Prelude.{◌≡◌, ◌+◌, ◌≤◌, ◌<◌, ◌*◌, ◌^◌, true, OnOk, IsOk};
+ghost use Rattle.std.specs.Prelude.{◌≡◌, ◌+◌, ◌≤◌, ◌<◌, ◌*◌, ◌^◌, min, true, OnOk, IsOk};
 ghost use Rattle.bbs_model.specs.Valid.{IsValid};
-ghost use Rattle.bbs_board.specs.Room.{calls_for, places_in, places_left};
+ghost use Rattle.bbs_board.specs.Room.{calls_for, most_rows, places_in, places_left, row_count};
 ghost use Rattle.bbs_board.specs.Storing.{IsHeadOf};
 
 use crate::draft::{Draft, row_count};
@@ -9,6 +9,10 @@ use crate::history::History;
 use bbs_index::Index;
 use bbs_model::RowStore;
 use diego_names::OutOfMemory;
+
+/// The most rows that a board can have: 5,000 processes, 100,000 actual instances, 50,000 tasks, 1,000 cells
+/// and 1,000 domains.
+const MOST_ROWS: usize = 157_000;
 
 /// Makes room for `n` more calls: for an item of each, and for the two rows that each may put. More
 /// rows than a u32 can say count as want of memory.
@@ -27,7 +31,16 @@ fn make_item_room(index: &mut Index, history: &mut History, n: u32) -> Result<()
     Ok(())
 }
 
-/// Makes room for `n` more calls, and for the heads that they may write.
+/// How many rows the heads of `n` more calls may have, each of which puts two rows at most.
+fn rows_ahead(index: &Index, n: u32) -> usize
+    requires { IsValid index.now.rows }
+    ensures { result ≡ min (row_count index.now.rows + 2 * n) most_rows }
+{
+    (row_count(index) + 2 * n as usize).min(MOST_ROWS)
+}
+
+/// Makes room for `n` more calls, and for the heads that they may write, which have no more rows than a
+/// board can have.
 pub fn make_room(
     index: &mut Index,
     history: &mut History,
@@ -43,7 +56,22 @@ pub fn make_room(
         × (places_in draft.old ≤ places_in draft.new) }
 {
     make_item_room(index, history, n)?;
-    draft.reserve(row_count(index) + 2 * n as usize)?;
+    draft.reserve(rows_ahead(index, n))?;
+    Ok(())
+}
+
+/// Where it is due, has the head of the rows written, with the memory of it.
+pub fn prepare_head(index: &Index, draft: &mut Draft, due: bool) -> Result<(), OutOfMemory>
+    requires valid { IsValid index.now.rows }
+    ensures succeeds { 0 < places_left (places_in draft.old) index.entry.now.rows → IsOk result }
+    ensures kept { places_in draft.old ≤ places_in draft.new }
+    ensures head { OnOk result (due ≡ true → IsHeadOf index.entry.now.rows draft.new.bytes.items) }
+{
+    if !due {
+        return Ok(());
+    }
+    draft.reserve(row_count(index))?;
+    draft.write(index);
     Ok(())
 }
 
@@ -65,10 +93,5 @@ pub fn prepare_call(
     ensures head { OnOk result (due ≡ true → IsHeadOf index.old.rows draft.new.bytes.items) }
 {
     make_item_room(index, history, 1)?;
-    if !due {
-        return Ok(());
-    }
-    draft.reserve(row_count(index))?;
-    draft.write(index);
-    Ok(())
+    prepare_head(index, draft, due)
 }

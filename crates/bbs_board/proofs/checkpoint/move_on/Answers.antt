@@ -23,7 +23,7 @@ returns-in-Ok-clause-moves g c =
     (moves_switched g.D.Disk.told c.mend.new.self c.switch.new.journal _ c.args.head.now e.settles.waiting c.requires.few made.goes_on made.does)
 
 pub returns-in-Ok-clause-knows : goal.returns-in-Ok-clause-knows
-returns-in-Ok-clause-knows g c = moved_made c.args.journal.now c.mend.new.self c.switch.new.journal c.requires.whole _ c.in-Ok.ensures.goes_on
+returns-in-Ok-clause-knows g c = moved_made c.args.journal.now c.mend.new.self c.switch.new.journal c.requires.whole _ c.in_ok-mend.ensures.settles c.in-Ok.ensures.goes_on
 
 pub returns-in-Err-clause-moves : goal.returns-in-Err-clause-moves
 returns-in-Err-clause-moves g c =
