@@ -35,12 +35,7 @@ pub fn sink_of(alloc: Global, failing: &[u64]) -> Result<MemorySink, AllocError>
 
 /// What the words leave of these ports, where the gate holds up whoever passes it. If there is no memory for the
 /// words, nothing is done.
-pub fn left_on<
-    R: Threads + Wait + Sync,
-    S: Source + Drop,
-    K: Sink + Drop,
-    G: Gate + Sync,
->(
+pub fn left_on<R: Threads + Wait + Sync, S: Source + Drop, K: Sink + Drop, G: Gate + Sync>(
     rt: &R,
     alloc: Global,
     texts: &[&str],
@@ -50,9 +45,7 @@ pub fn left_on<
     gate: &G,
 ) -> Result<Left<K>, AllocError> {
     match words_of(alloc, texts) {
-        Ok(words) => Ok(left_of(diego_top_in_memory(
-            rt, alloc, &words, source, sink, disk, gate,
-        ))),
+        Ok(words) => Ok(left_of(diego_top_in_memory(rt, alloc, &words, source, sink, disk, gate))),
         Err(why) => Err(why),
     }
 }
