@@ -6,6 +6,7 @@ mod last;
 mod life;
 mod old;
 mod stops;
+mod waiting;
 
 use crate::asserts::{are_bytes, is_outcome};
 use crate::making::{disk_in, names_of};

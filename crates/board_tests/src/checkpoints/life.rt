@@ -107,3 +107,24 @@ fn a_board_whose_area_is_full_goes_on_in_the_other_one(rt: HostRuntime) -> Resul
     let disk = lived(&rt, alloc, &EMPTY, &stations)?;
     are_found(&rt, alloc, disk.bytes(Area::A), disk.bytes(Area::B))
 }
+
+// Ten transitions for which room was made. The seventh finds 4,096 frames, and makes a checkpoint.
+fn has_room<D: Disk + Drop>(rt: &impl Abort, mut board: Board<D>, life: &Life) -> D {
+    holds(rt, board.reserve(10).is_ok());
+    live(rt, &mut board, life, 4100);
+    is_kept(rt, board.kept_in(), kept(Area::B, 2, 4));
+    disk_in(board)
+}
+
+#[test]
+fn ten_calls_find_their_room_also_where_one_makes_a_checkpoint(
+    rt: HostRuntime,
+) -> Result<(), Fail> {
+    let alloc = rt.alloc();
+    let life = make_life()?;
+    let area = area_with(&rt, alloc, 4090)?;
+    let board = loaded(alloc, disk_of(alloc, &area, b"", &[])?)?;
+    let disk = has_room(&rt, board, &life);
+    is_number(&rt, disk.clock(), FULL_CALLS + 10 * 4 + 8);
+    Ok(())
+}
