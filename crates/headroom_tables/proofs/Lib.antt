@@ -1,0 +1,4 @@
+pub mod Joined
+pub mod LastRun
+pub mod Sides
+pub mod Told

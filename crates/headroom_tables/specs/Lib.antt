@@ -1,0 +1,15 @@
+pub mod DrainTables
+pub mod DumpLines
+pub mod EachTable
+pub mod Entries
+pub mod FitTables
+pub mod Layout
+pub mod LoseTables
+pub mod NoRoom
+pub mod Runs
+pub mod ShowTables
+pub mod TagTable
+pub mod Text
+pub mod TurnTables
+pub mod Written
+pub mod ZoneTables
