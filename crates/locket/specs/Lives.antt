@@ -1,9 +1,9 @@
 -- The life of a locket: the commands that changed its state, one after another.
-use Rattle.std.specs.Prelude.{◌≡◌, ℕ, Bool, true, false, Option, None, List, [], ◌∷◌, ◌++◌}
+use Rattle.std.specs.Prelude.{◌≡◌, ℕ, ◌≤◌, Bool, true, false, Option, None, List, [], ◌∷◌, ◌++◌}
 use Rattle.payload_log.specs.Entries.{done_in}
 use Rattle.payload_log.specs.declared.entry.Entry.{Entry}
 use Rattle.payload_log.specs.declared.entry.Entry.TheVariants.{Done, Doubt}
-use Rattle.locket.specs.Steps.{lock_step}
+use Rattle.locket.specs.Steps.{lock_step, most_changes}
 use Rattle.locket.specs.declared.command.LockCommand.{LockCommand}
 use Rattle.locket.specs.declared.state.LockState.{LockState}
 use Rattle.locket.specs.declared.verdict.LockVerdict.{LockVerdict}
@@ -16,6 +16,11 @@ LockLog = List (Entry LockCommand)
 -- the state before the first command
 abbrev pub unused : LockState
 unused = record { last = 0; seen = record { 0 = 0 }; held = None; count = 0 }
+
+-- no more fences were given than changes were made, and no more of these than a locket makes
+pub record IsCounted (s : LockState) : Type 0 where
+  pub fences : s.last ≤ s.count
+  pub changes : s.count ≤ most_changes
 
 -- the state changes
 abbrev pub is_change : LockVerdict → Bool

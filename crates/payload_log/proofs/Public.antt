@@ -1,0 +1,2 @@
+-- The lemmas that other crates may cite.
+pub use Rattle.payload_log.proofs.Logs.{get_more, get_last, get_split, get_within, take_front, take_whole, done-append, stored-done, stored-doubt}
