@@ -45,13 +45,19 @@ acquire_at bytes at = do
   ttl ← number_at w32 bytes owner.1
   Ok (Acquire owner.0 ttl.0, ttl.1)
 
+-- a fence and a time to live
+abbrev pub term_at : List ℕ → ℕ → Result ((ℕ × ℕ) × ℕ) FieldFault
+term_at bytes at = do
+  fence ← number_at w64 bytes at
+  ttl ← number_at w32 bytes fence.1
+  Ok ((fence.0, ttl.0), ttl.1)
+
 -- an owner, a fence and a time to live
 abbrev pub renew_at : List ℕ → ℕ → Result (LockOp × ℕ) FieldFault
 renew_at bytes at = do
   owner ← name_at bytes at
-  fence ← number_at w64 bytes owner.1
-  ttl ← number_at w32 bytes fence.1
-  Ok (Renew owner.0 fence.0 ttl.0, ttl.1)
+  term ← term_at bytes owner.1
+  Ok (Renew owner.0 term.0.0 term.0.1, term.1)
 
 -- an owner and a fence
 abbrev pub release_at : List ℕ → ℕ → Result (LockOp × ℕ) FieldFault

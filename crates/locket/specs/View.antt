@@ -1,5 +1,5 @@
 -- A locket as its callers see it, and what it rests on.
-use Rattle.std.specs.Prelude.{◌≡◌, ℕ, Bool, false, None, List, [], Ok, All}
+use Rattle.std.specs.Prelude.{◌≡◌, ℕ, Bool, false, None, List, [], ◌∷◌, Ok}
 use Rattle.payload_log.specs.View.{LogView}
 use Rattle.payload_log.specs.declared.entry.Entry.{Entry}
 use Rattle.payload_log.specs.declared.entry.Entry.TheVariants.{Done, Doubt}
@@ -34,10 +34,11 @@ pub record IsLocketFrom {D : Type 0} (moment fault_count : D → ℕ) (disk : D)
   pub faults : v.faults ≡ fault_count v.disk
   pub stood : fault_count v.disk ≡ fault_count disk
 
--- the command of an item
-abbrev pub command_of : Entry LockCommand → LockCommand
-command_of (Done c) = c
-command_of (Doubt c) = c
+-- each command of a log has a spelling
+abbrev pub AreSpelled : LockLog → Type 0
+AreSpelled [] = Unit {0}
+AreSpelled (Done c ∷ log) = FitsLock c × AreSpelled log
+AreSpelled (Doubt c ∷ log) = FitsLock c × AreSpelled log
 
 -- so stands each locket: its log began with a lock journal, is lawful and leads to its state, and each of its commands
 -- has a spelling
@@ -45,5 +46,5 @@ pub record IsSoundLocket {D : Type 0} (v : LogView D LockCommand) (state : LockS
   pub opened : locks_of v.start.version v.start.area v.start.head v.start.payloads None
       ≡ Ok (state_of (commands_in v.start.payloads))
   pub lawful : IsLawful (state_of (commands_in v.start.payloads)) v.log
-  pub fits : All (λ (item : Entry LockCommand). FitsLock (command_of item)) v.log
+  pub fits : AreSpelled v.log
   pub state_is : state ≡ state_of (lived (commands_in v.start.payloads) v.log)

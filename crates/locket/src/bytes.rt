@@ -1,7 +1,7 @@
 //! A lock command in bytes: the number of its kind, its moment, and its fields.
 ghost use Rattle.std.specs.Prelude.{◌≡◌, ◌+◌, ◌≤◌, length, take, IfOk};
 ghost use Rattle.wire_fields.specs.Field.{PutsText};
-ghost use Rattle.locket.specs.Bytes.{lock_spelled, lock_reading, kind_of, fields_of, acquire_at, renew_at, release_at, op_at, command_at, FitsOp, FitsLock};
+ghost use Rattle.locket.specs.Bytes.{lock_spelled, lock_reading, kind_of, fields_of, acquire_at, term_at, renew_at, release_at, op_at, command_at, FitsOp, FitsLock};
 
 use crate::command::{LockCommand, LockOp};
 use crash_backoff::Moment;
@@ -103,14 +103,23 @@ fn read_acquire(bytes: &[u8], at: usize) -> Result<(LockOp, usize), FieldFault>
     Ok((LockOp::Acquire { owner, ttl }, at))
 }
 
+fn read_term(bytes: &[u8], at: usize) -> Result<((u64, u32), usize), FieldFault>
+    requires { at ≤ length bytes.now }
+    ensures value { result ≡ term_at bytes.now at }
+    ensures within { IfOk result (λ read. read.1 ≤ length bytes.now) }
+{
+    let (fence, at) = read_u64(bytes, at)?;
+    let (ttl, at) = read_u32(bytes, at)?;
+    Ok(((fence, ttl), at))
+}
+
 fn read_renew(bytes: &[u8], at: usize) -> Result<(LockOp, usize), FieldFault>
     requires { at ≤ length bytes.now }
     ensures value { result ≡ renew_at bytes.now at }
     ensures within { IfOk result (λ read. read.1 ≤ length bytes.now) }
 {
     let (owner, at) = read_name(bytes, at)?;
-    let (fence, at) = read_u64(bytes, at)?;
-    let (ttl, at) = read_u32(bytes, at)?;
+    let ((fence, ttl), at) = read_term(bytes, at)?;
     Ok((LockOp::Renew { owner, fence, ttl }, at))
 }
 
