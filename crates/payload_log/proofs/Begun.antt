@@ -1,5 +1,5 @@
 -- What was loaded is a log that stands.
-use Rattle.std.proofs.Common.{◌≡◌, ℕ, ◌+◌, ◌≤◌, false, List, [], ◌∷◌, ◌++◌, length, Option, Some, None, refl, sym, ap, subst, ◌∙◌, arith, append-nil}
+use Rattle.std.proofs.Common.{◌≡◌, ℕ, ◌+◌, ◌≤◌, false, List, [], ◌∷◌, ◌++◌, length, Option, Some, None, refl, sym, ap, subst, ◌∙◌, arith, append-nil, length-append}
 use Rattle.std.specs.Option.{ForSome}
 use Rattle.std.proofs.lemmas.List.{length-map}
 use Rattle.disk_trait.specs.Held.{Has, Leaves}
@@ -10,11 +10,16 @@ use Rattle.bbs_journal.specs.Areas.{Ready}
 use Rattle.bbs_journal.specs.Grammar.{heading}
 use Rattle.bbs_journal.specs.Other.{Yields}
 use Rattle.bbs_journal.specs.Reading.{bytes_of}
+use Rattle.bbs_journal.specs.View.{is_waiting}
+use Rattle.bbs_journal.specs.declared.loading.Loaded.{Loaded}
+use Rattle.bbs_journal.specs.declared.waiting.Waiting.{Waiting}
 use Rattle.bbs_journal.proofs.Public.{area_opens, length-heading, recovered, ready}
 use Rattle.payload_log.specs.Entries.{stored_in}
 use Rattle.payload_log.specs.Kept.{IsListed, KeptList}
-use Rattle.payload_log.specs.Opened.{Opened, OpensBehind}
-use Rattle.payload_log.specs.View.{Holds}
+use Rattle.payload_log.specs.Opened.{Opened, OpensBehind, opened_by}
+use Rattle.payload_log.specs.Doubts.{RoseBy}
+use Rattle.payload_log.specs.Puts.{OnlyFrameWaits}
+use Rattle.payload_log.specs.View.{Holds, CanBegin, IsSound}
 use Rattle.payload_log.specs.declared.entry.Entry.{Entry}
 use Rattle.payload_log.proofs.Logs.{listed_end}
 
@@ -63,3 +68,15 @@ begun_holds {X} spelling told start end since settled shows place timed q is =
           (beside.leaves (image (other start.area)) (leaves (other start.area)))
           (record { frames = stands.frames; whole = stands.whole; begins = stands.has.leaves (image start.area) (leaves start.area) }));
     }
+
+-- and so stands the log that begins with it
+pub begun_sound : {D X : Type 0} (spelling : X → List ℕ) (told : D → Option Past) (fault_count : D → ℕ) (loaded : Loaded D) (since faults : ℕ) → CanBegin told loaded → faults ≡ fault_count loaded.journal.disk
+    → ((q : Past) → told loaded.journal.disk ≡ Some q → q.clock ≡ since) → IsSound {X = X} spelling told fault_count (opened_by loaded) [] [] since faults loaded.journal
+begun_sound {D} {X} spelling told fault_count loaded since faults can faults_are timed = record {
+  whole = can.calm.whole;
+  own = subst OnlyFrameWaits (sym can.calm.mended) refl;
+  counted = let count = can.count in omega (arith, count, length-append (opened_by loaded).payloads [], length-map loaded.frames.items (λ v. v.items));
+  doubted = omega (arith, faults_are);
+  holds = subst (λ (w : Waiting). ForSome (told loaded.journal.disk) (Holds {X = X} spelling (opened_by loaded) [] [] since loaded.journal.end (is_waiting w))) (sym can.calm.mended)
+      (begun_holds spelling (told loaded.journal.disk) (opened_by loaded) loaded.journal.end since can.settled can.shows can.end timed);
+}

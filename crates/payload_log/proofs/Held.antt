@@ -1,5 +1,5 @@
 -- How a log stands after an entry was added.
-use Rattle.std.proofs.Common.{◌≡◌, inl, inr, ⊎_elim, ℕ, ◌+◌, ◌<◌, ◌≤◌, Bool, true, false, List, [], ◌∷◌, ◌++◌, length, take, slice_get, Option, Some, None, refl, sym, ap, subst, ◌∙◌, arith, length-append, append_assoc, if◌then◌else◌}
+use Rattle.std.proofs.Common.{◌≡◌, inl, inr, ⊎_elim, ℕ, ◌+◌, ◌<◌, ◌≤◌, Bool, true, false, List, [], ◌∷◌, ◌++◌, length, take, slice_get, Option, Some, None, Result, Ok, Err, is_ok, is_err, refl, sym, ap, subst, ◌∙◌, arith, length-append, append_assoc, if◌then◌else◌}
 use Rattle.std.specs.Option.{ForSome}
 use Rattle.std.specs.Prelude.{not}
 use Rattle.byte_ports.specs.Cause.{HasCause}
@@ -120,6 +120,11 @@ module _ {X : Type 0} (spelling : X → List ℕ) (t0 t1 : Option Past) (start :
       (puts (h.gate ∷ heading start.version start.generation start.head) (start.payloads ++ stored_in spelling log) h.in_doubt h.waits_is h.stands).runs.extends) goes
 
 -- ---- and of the whole log
+
+-- a result is no success where it is an error
+pub err_is : {A E : Type 0} (r : Result A E) → is_err r ≡ not (is_ok r)
+err_is (Ok x) = refl
+err_is (Err e) = refl
 
 counts_more : {X : Type 0} (spelling : X → List ℕ) (payloads : List (List ℕ)) (log : List (Entry X)) (x : X) (ok : Bool) (frames : ℕ) → frames ≡ length (payloads ++ stored_in spelling log)
     → frames_of ok frames ≡ length (payloads ++ stored_in spelling (log ++ entry_of ok x ∷ []))
