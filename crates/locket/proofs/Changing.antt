@@ -14,17 +14,31 @@ use Rattle.payload_log.proofs.Public.{done-append}
 use Rattle.locket.specs.Bytes.{FitsLock, lock_spelled}
 use Rattle.locket.specs.Calls.{LivesOn, PassesLock}
 use Rattle.locket.specs.Lives.{LockLog, IsCounted, unused, state_after, state_from, state_of, IsChange, AreChanges, IsLife, IsLawful, lived}
-use Rattle.locket.specs.Opening.{commands_in, IsLocket}
+use Rattle.locket.specs.Opening.{locks_of, commands_in, IsLocket}
 use Rattle.locket.specs.Steps.{most_changes, lock_step}
 use Rattle.locket.specs.View.{AreSpelled, IsSoundLocket}
 use Rattle.locket.specs.declared.command.LockCommand.{LockCommand}
 use Rattle.locket.specs.declared.state.LockState.{LockState}
 use Rattle.locket.specs.declared.reply.LockReply.{LockReply}
 use Rattle.locket.specs.declared.verdict.LockVerdict.TheVariants.{Changes}
-use Rattle.locket.proofs.Following.{locks_lived}
+use Rattle.locket.proofs.Payloads.{locks_lived}
 use Rattle.locket.proofs.Keeping.{BeganAsLocks, behind_more, behind_log}
 use Rattle.locket.proofs.Living.{from-append, changes-append, changes-back, counted_from, counted_unused, count_from, lawful_changes, lawful_more, spelled_more}
 use Rattle.locket.proofs.Stepping.{is_changed, after_is}
+
+-- a log that began with a lock journal is one of a locket
+pub loaded_sound : {D : Type 0} (v : LogView D LockCommand) (start : Opened) (s : LockState) → v.start ≡ start → v.log ≡ [] → locks_of start.version start.area start.head start.payloads None ≡ Ok s → IsSoundLocket v s
+loaded_sound {D} v start s start_is log_is is =
+    let life : List LockCommand = commands_in start.payloads in
+    let l = locks_lived start.version start.area start.head start.payloads s is in
+    let opened : BeganAsLocks start = is ∙ ap Ok l.state_is in
+    record {
+      opened = subst BeganAsLocks (sym start_is) opened;
+      lawful = subst (IsLawful (state_of (commands_in v.start.payloads))) (sym log_is) tt;
+      fits = subst AreSpelled (sym log_is) tt;
+      state_is = l.state_is ∙ ap state_of (sym (append-nil life)) ∙ ap (λ (l : LockLog). state_of (lived life l)) (sym log_is)
+          ∙ ap (λ (o : Opened). state_of (lived (commands_in o.payloads) v.log)) (sym start_is);
+    }
 
 -- one command more, done or in doubt
 pub lived-done : (base : List LockCommand) (log : LockLog) (c : LockCommand) → lived base (log ++ Done c ∷ []) ≡ lived base log ++ c ∷ []

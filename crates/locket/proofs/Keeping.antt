@@ -14,7 +14,7 @@ use Rattle.locket.specs.Lives.{LockLog, state_from, state_of, IsChange, AreChang
 use Rattle.locket.specs.Opening.{locks_of, commands_in, IsLocket}
 use Rattle.locket.specs.View.{AreSpelled}
 use Rattle.locket.specs.declared.command.LockCommand.{LockCommand}
-use Rattle.locket.proofs.Following.{more_is_locket}
+use Rattle.locket.proofs.Payloads.{more_is_locket}
 use Rattle.locket.proofs.Living.{AllFit, done_fit, fit-append, spelled_take, spelled_doubt, lawful_changes, lawful_take, lawful_doubt, changes-append}
 
 -- a log that began with a lock journal

@@ -1,7 +1,8 @@
 pub mod Stepping
 pub mod Living
 pub mod Reading
-pub mod Following
+pub mod Writing
+pub mod Payloads
 pub mod Keeping
 pub mod Changing
 pub mod Outcomes

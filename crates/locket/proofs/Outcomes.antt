@@ -11,7 +11,7 @@ use Rattle.locket.specs.Lives.{state_of}
 use Rattle.locket.specs.Opening.{locks_of, commands_in, IsLocket, IsDamagedLocket}
 use Rattle.locket.specs.declared.command.LockCommand.{LockCommand}
 use Rattle.locket.specs.declared.state.LockState.{LockState}
-use Rattle.locket.proofs.Following.{locks_unbroken, locks_lived, locket_life}
+use Rattle.locket.proofs.Payloads.{locks_unbroken, locks_lived, locket_life}
 
 same_fault : {X : Type 0} (a b : LoadFault) (r : Result X LoadFault) → r ≡ Err a → r ≡ Err b → a ≡ b
 same_fault a b r first second = cc

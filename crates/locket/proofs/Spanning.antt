@@ -289,25 +289,30 @@ held_is_last life is lease held =
 
 -- ---- leases stay
 
-pub stays_behind : (last : ℕ) (cs more : List LockCommand) (place : ℕ) (span : Span) → slice_get (spans_behind last cs) place ≡ Some span
-    → (later : Span) × (slice_get (spans_behind last (cs ++ more)) place ≡ Some later) × IsSameLease span later
+-- a lease at a place of one list is at that place of another
+abbrev Stays : List Span → List Span → Span → ℕ → Type 0
+Stays xs ys span place = slice_get xs place ≡ Some span → (later : Span) × (slice_get ys place ≡ Some later) × IsSameLease span later
+
+-- a lease in front, which ends otherwise, and those behind it
+first_stays : (last : ℕ) (now : Moment) (owner : List ℕ) (to to' : ℕ) (xs ys : List Span) (span : Span) (place : ℕ) → ((p : ℕ) → Stays xs ys span p)
+    → Stays (record { fence = last; owner = owner; from = now.0; to = to } ∷ xs) (record { fence = last; owner = owner; from = now.0; to = to' } ∷ ys) span place
+first_stays last now owner to to' xs ys span zero rest is =
+    let first : Span = record { fence = last; owner = owner; from = now.0; to = to } in
+    let later : Span = record { fence = last; owner = owner; from = now.0; to = to' } in
+    let same : first ≡ span = cc in
+    (later, refl, subst (λ (s : Span). IsSameLease s later) same (record { fence = refl; owner = refl; from = refl }))
+first_stays last now owner to to' xs ys span (suc place) rest is = rest place is
+
+stays_op : (last : ℕ) (now : Moment) (cs more : List LockCommand) (span : Span) (place : ℕ) → ((l p : ℕ) → Stays (spans_behind l cs) (spans_behind l (cs ++ more)) span p) → (op : LockOp)
+    → Stays (op_spans last now cs op) (op_spans last now (cs ++ more) op) span place
+stays_op last now cs more span place rest (Acquire owner ttl) =
+    first_stays (last + 1) now owner (end_behind (now.0 + ttl) cs) (end_behind (now.0 + ttl) (cs ++ more)) (spans_behind (last + 1) cs) (spans_behind (last + 1) (cs ++ more)) span place (λ p. rest (last + 1) p)
+stays_op last now cs more span place rest (Renew owner fence ttl) = rest last place
+stays_op last now cs more span place rest (Release owner fence) = rest last place
+
+stays_behind : (last : ℕ) (cs more : List LockCommand) (place : ℕ) (span : Span) → Stays (spans_behind last cs) (spans_behind last (cs ++ more)) span place
 stays_behind last [] more place span is = absurd cc
-stays_behind last (c ∷ cs) more place span is = by_op c.op is
-  where
-    first : List ℕ → ℕ → List LockCommand → Span
-    first owner ttl behind = record { fence = last + 1; owner = owner; from = c.now.0; to = end_behind (c.now.0 + ttl) behind }
-
-    by_place : (owner : List ℕ) (ttl place : ℕ) → slice_get (first owner ttl cs ∷ spans_behind (last + 1) cs) place ≡ Some span
-        → (later : Span) × (slice_get (first owner ttl (cs ++ more) ∷ spans_behind (last + 1) (cs ++ more)) place ≡ Some later) × IsSameLease span later
-    by_place owner ttl zero is =
-        let same : first owner ttl cs ≡ span = cc in
-        (first owner ttl (cs ++ more), refl, subst (λ (s : Span). IsSameLease s (first owner ttl (cs ++ more))) same (record { fence = refl; owner = refl; from = refl }))
-    by_place owner ttl (suc place) is = stays_behind (last + 1) cs more place span is
-
-    by_op : (op : LockOp) → slice_get (op_spans last c.now cs op) place ≡ Some span → (later : Span) × (slice_get (op_spans last c.now (cs ++ more) op) place ≡ Some later) × IsSameLease span later
-    by_op (Acquire owner ttl) is = by_place owner ttl place is
-    by_op (Renew owner fence ttl) is = stays_behind last cs more place span is
-    by_op (Release owner fence) is = stays_behind last cs more place span is
+stays_behind last (c ∷ cs) more place span is = stays_op last c.now cs more span place (λ l p. stays_behind l cs more p span) c.op is
 
 pub leases_stay : LeasesStay
 leases_stay life more place span is = let s = stays_behind 0 life more place span is in record { later = s.0; there = s.1; same = s.2 }

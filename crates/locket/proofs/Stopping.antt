@@ -1,5 +1,5 @@
 -- The lives that stops leave go on from what was acknowledged.
-use Rattle.std.proofs.Common.{◌≡◌, ◌⊎◌, inl, inr, ℕ, zero, suc, ◌+◌, ◌-◌, ◌<◌, ◌≤◌, List, [], ◌∷◌, ◌++◌, length, take, drop, slice_get, Some, refl, sym, ap, subst, ◌∙◌, arith, append_assoc}
+use Rattle.std.proofs.Common.{◌≡◌, ◌⊎◌, inl, inr, ℕ, zero, suc, ◌+◌, ◌-◌, ◌<◌, ◌≤◌, List, [], ◌∷◌, ◌++◌, length, take, drop, slice_get, Some, refl, sym, ap, subst, ◌∙◌, arith, append_assoc, add-one}
 use Rattle.disk_trait.specs.Past.{Past, Image, ImagesSince}
 use Rattle.payload_log.specs.Entries.{done_in}
 use Rattle.payload_log.specs.declared.entry.Entry.{Entry}
@@ -12,7 +12,7 @@ use Rattle.locket.specs.Opening.{IsLocket}
 use Rattle.locket.specs.Spans.{Span, span_of, spans}
 use Rattle.locket.specs.declared.command.LockCommand.{LockCommand}
 use Rattle.locket.specs.declared.state.Lease.{Lease}
-use Rattle.locket.proofs.Following.{locket_life}
+use Rattle.locket.proofs.Payloads.{locket_life}
 use Rattle.locket.proofs.Living.{changes-front}
 use Rattle.locket.proofs.Outcomes.{one_life}
 use Rattle.locket.proofs.Spanning.{answers_leases, leases_stay}
@@ -27,12 +27,15 @@ done_on (Done c ∷ log) (suc n) (suc m) le = let rest = done_on log n m (omega 
 done_on (Doubt c ∷ log) (suc n) (suc m) le = done_on log n m (omega (arith, le))
 
 -- and one place on, behind what is done there
+done_suc : (log : LockLog) (place : ℕ) (c : LockCommand) → slice_get log place ≡ Some (Done c) → done_in (take (suc place) log) ≡ done_in (take place log) ++ c ∷ []
+done_suc [] place c is = absurd cc
+done_suc (Done d ∷ log) zero c is = let same : d ≡ c = cc in ap (λ (x : LockCommand). x ∷ []) same
+done_suc (Doubt d ∷ log) zero c is = absurd cc
+done_suc (Done d ∷ log) (suc place) c is = ap (λ (l : List LockCommand). d ∷ l) (done_suc log place c is)
+done_suc (Doubt d ∷ log) (suc place) c is = done_suc log place c is
+
 done_next : (log : LockLog) (place : ℕ) (c : LockCommand) → slice_get log place ≡ Some (Done c) → done_in (take (place + 1) log) ≡ done_in (take place log) ++ c ∷ []
-done_next [] place c is = absurd cc
-done_next (Done d ∷ log) zero c is = let same : d ≡ c = cc in ap (λ (x : LockCommand). x ∷ []) same
-done_next (Doubt d ∷ log) zero c is = absurd cc
-done_next (Done d ∷ log) (suc place) c is = ap (λ (l : List LockCommand). d ∷ l) (done_next log place c is)
-done_next (Doubt d ∷ log) (suc place) c is = done_next log place c is
+done_next log place c is = ap (λ (n : ℕ). done_in (take n log)) (add-one place) ∙ done_suc log place c is
 
 -- a life that the log leads to goes on from each place before
 led_on : (base : List LockCommand) (log : LockLog) (from : ℕ) (life : List LockCommand) → IsLedTo base log from life → GoesOnFrom (lived base (take from log)) life

@@ -30,18 +30,17 @@ fn fits_op(op: &LockOp)
     ensures { FitsOp op.entry.now }
 {
     match op {
-        LockOp::Acquire { owner, ttl: _ } => {
+        LockOp::Acquire { owner, ttl } => {
             let _owner = owner.bytes();
+            let _ttl = *ttl;
         }
-        LockOp::Renew {
-            owner,
-            fence: _,
-            ttl: _,
-        } => {
+        LockOp::Renew { owner, fence, ttl } => {
             let _owner = owner.bytes();
+            let (_fence, _ttl) = (*fence, *ttl);
         }
-        LockOp::Release { owner, fence: _ } => {
+        LockOp::Release { owner, fence } => {
             let _owner = owner.bytes();
+            let _fence = *fence;
         }
     }
 }
@@ -50,14 +49,16 @@ fn fits_op(op: &LockOp)
 pub(crate) fn fits(command: &LockCommand)
     ensures { FitsLock command.entry.now }
 {
-    let _now = command.now;
+    let _now = command.now.0;
     fits_op(&command.op);
 }
 
+#[tactic(auto, using(wire_fields::proofs::Rules::lengths))]
 fn put_op(out: &mut [u8], at: usize, op: &LockOp) -> usize
     requires { at + 93 ≤ length out.old }
     ensures { PutsText out.old at (fields_of op.entry.now) out.new result }
 {
+    fits_op(op);
     match op {
         LockOp::Acquire { owner, ttl } => {
             let at = put_name(out, at, *owner);
@@ -75,6 +76,7 @@ fn put_op(out: &mut [u8], at: usize, op: &LockOp) -> usize
     }
 }
 
+#[tactic(auto, using(wire_fields::proofs::Rules::lengths))]
 fn put_command(out: &mut [u8], command: &LockCommand) -> usize
     requires { length out.old ≡ 512 }
     ensures { PutsText out.old 0 (lock_spelled command.entry.now) out.new result }
@@ -90,6 +92,7 @@ pub fn put_lock_command(out: &mut [u8; 512], command: &LockCommand) -> usize
     ensures least { 11 ≤ result }
     ensures most { result ≤ 98 }
 {
+    fits(command);
     put_command(out, command)
 }
 

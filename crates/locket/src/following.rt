@@ -1,12 +1,14 @@
 //! The state that the frames of a lock journal leave, one command after another.
-ghost use Rattle.std.specs.Prelude.{◌≡◌, ◌⊎◌, ◌+◌, ◌<◌, ◌^◌, length, IfOk, IfSome};
+ghost use Rattle.std.specs.Prelude.{◌≡◌, ◌==◌, ◌+◌, ◌<◌, ◌^◌, false, length, IfOk, IfErr, IfSome};
+ghost use Rattle.std.specs.List.{list_all};
+ghost use Rattle.bbs_journal.specs.LoadFaults.{is_load_disk_fault};
 ghost use Rattle.bbs_journal.specs.Reading.{payloads_of, bytes_of};
 ghost use Rattle.locket.specs.Lives.{unused, IsCounted};
 ghost use Rattle.locket.specs.Opening.{prepared_size, is_prepared, next_of, after_payload, followed, locks_of};
 
 use crate::bytes::read_lock_command;
 use crate::state::LockState;
-use crate::step::step;
+use crate::deciding::step;
 use crate::verdict::LockVerdict;
 use bbs_journal::LoadFault;
 use disk_trait::Area;
@@ -21,11 +23,20 @@ fn prepared_size(version: u16) -> usize
     if version == 1 { 24 } else { 28 }
 }
 
+fn is_zero(bytes: &[u8]) -> bool
+    ensures { result ≡ list_all (λ b. b == 0) bytes.now }
+{
+    bytes.iter().all(|byte| *byte == 0)
+}
+
 /// Whether a head is that of a prepared area, which is all zero.
 fn is_prepared(version: u16, head: &[u8]) -> bool
     ensures { result ≡ is_prepared version head.now }
 {
-    head.len() == prepared_size(version) && head.iter().all(|byte| *byte == 0)
+    if head.len() != prepared_size(version) {
+        return false;
+    }
+    is_zero(head)
 }
 
 fn next_of(verdict: LockVerdict) -> Option<LockState>
@@ -60,6 +71,7 @@ fn follow(
     requires { start + bytes_of (payloads_of frames.now) < 2 ^ 64 }
     ensures value { result ≡ followed area broken unused start (payloads_of frames.entry.now) }
     ensures counted { IfOk result IsCounted }
+    ensures told { IfErr result (λ e. is_load_disk_fault e ≡ false) }
 {
     let mut state = LockState::unused();
     let mut at = start;
@@ -86,7 +98,8 @@ pub(crate) fn locks_of(
     broken: Option<u64>,
 ) -> Result<LockState, LoadFault>
     requires { 23 + length head.now + bytes_of (payloads_of frames.now) < 2 ^ 64 }
-    ensures { result ≡ locks_of version area head.now (payloads_of frames.entry.now) broken }
+    ensures value { result ≡ locks_of version area head.now (payloads_of frames.entry.now) broken }
+    ensures told { IfErr result (λ e. is_load_disk_fault e ≡ false) }
 {
     if !is_prepared(version, head) {
         return Err(LoadFault::Damaged { area, at: HEAD });

@@ -4,6 +4,7 @@
 
 mod bytes;
 mod command;
+mod deciding;
 mod following;
 mod item;
 mod laws;
@@ -13,12 +14,12 @@ mod memory_loading;
 mod parts;
 mod reply;
 mod state;
-mod step;
 mod telling;
 mod verdict;
 
 pub use bytes::{put_lock_command, read_lock_command};
 pub use command::{LockCommand, LockOp};
+pub use deciding::step;
 pub use item::LockItem;
 pub use loading::load;
 pub use locket::Locket;
@@ -26,5 +27,4 @@ pub use memory_loading::load_from_memory;
 pub use parts::LocketParts;
 pub use reply::{LockFault, LockRefusal, LockReply};
 pub use state::{Lease, LockState};
-pub use step::step;
 pub use verdict::LockVerdict;

@@ -11,7 +11,7 @@ use crate::bytes::fits;
 use crate::command::LockCommand;
 use crate::reply::{LockFault, LockReply};
 use crate::state::LockState;
-use crate::step::step;
+use crate::deciding::step;
 use crate::verdict::LockVerdict;
 use disk_trait::Disk;
 use payload_log::PayloadLog;

@@ -1,15 +1,20 @@
 -- What was loaded is a log that stands.
 use Rattle.std.proofs.Common.{◌≡◌, ℕ, ◌+◌, ◌≤◌, false, List, [], ◌∷◌, ◌++◌, length, Option, Some, None, refl, sym, ap, subst, ◌∙◌, arith, append-nil, length-append}
 use Rattle.std.specs.Option.{ForSome}
+use Rattle.std.specs.Prelude.{is_some}
 use Rattle.std.proofs.lemmas.List.{length-map}
 use Rattle.disk_trait.specs.Held.{Has, Leaves}
 use Rattle.disk_trait.specs.Past.{Past, Image, Images, ImagesSince, now, other, content, IsSettled}
-use Rattle.disk_trait.specs.Shows.{Shows}
-use Rattle.disk_trait.proofs.Public.{settled_has}
+use Rattle.disk_trait.specs.Shows.{Shows, Secures}
+use Rattle.disk_trait.specs.Steps.{Goes}
+use Rattle.disk_trait.proofs.Public.{settled_has, goes_back}
 use Rattle.bbs_journal.specs.Areas.{Ready}
 use Rattle.bbs_journal.specs.Grammar.{heading}
 use Rattle.bbs_journal.specs.Other.{Yields}
-use Rattle.bbs_journal.specs.Reading.{bytes_of}
+use Rattle.bbs_journal.specs.Found.{IsJustLoaded}
+use Rattle.bbs_journal.specs.Opening.{IsOpening}
+use Rattle.bbs_journal.specs.Reading.{bytes_of, payloads_of}
+use Rattle.bbs_journal.specs.Stops.{OpensAs}
 use Rattle.bbs_journal.specs.View.{is_waiting}
 use Rattle.bbs_journal.specs.declared.loading.Loaded.{Loaded}
 use Rattle.bbs_journal.specs.declared.waiting.Waiting.{Waiting}
@@ -79,4 +84,22 @@ begun_sound {D} {X} spelling told fault_count loaded since faults can faults_are
   doubted = omega (arith, faults_are);
   holds = subst (λ (w : Waiting). ForSome (told loaded.journal.disk) (Holds {X = X} spelling (opened_by loaded) [] [] since loaded.journal.end (is_waiting w))) (sym can.calm.mended)
       (begun_holds spelling (told loaded.journal.disk) (opened_by loaded) loaded.journal.end since can.settled can.shows can.end timed);
+}
+
+-- what was loaded without a defect can be begun with
+pub can_begin : {D : Type 0} (told : D → Option Past) (fault_count : D → ℕ) (disk : D) (loaded : Loaded D) → IsJustLoaded told fault_count disk loaded → loaded.broken ≡ None
+    → ((c : Image) → Shows (told loaded.journal.disk) c
+    → IsOpening c loaded.journal.area loaded.journal.version loaded.journal.generation loaded.head.items (payloads_of loaded.frames.items) loaded.broken loaded.journal.end)
+    → Goes (told disk) (told loaded.journal.disk) Secures → CanBegin told loaded
+can_begin told fault_count disk loaded fresh none found goes = record {
+  calm = record { whole = fresh.broken ∙ ap is_some none; mended = fresh.mended };
+  count = fresh.count;
+  end = fresh.end;
+  shows = λ image shown.
+      let payloads : List (List ℕ) = payloads_of loaded.frames.items in
+      let same : payloads ≡ payloads ++ [] = sym (append-nil payloads) in
+      subst (λ (l : List (List ℕ)). OpensAs image loaded.journal.area loaded.journal.version loaded.journal.generation loaded.head.items l) same
+      (subst (λ (n : ℕ). IsOpening image loaded.journal.area loaded.journal.version loaded.journal.generation loaded.head.items payloads None n) fresh.end
+      (subst (λ (b : Option ℕ). IsOpening image loaded.journal.area loaded.journal.version loaded.journal.generation loaded.head.items payloads b loaded.journal.end) none (found image shown)));
+  settled = λ q is. let back = goes_back (told disk) (told loaded.journal.disk) Secures goes q is in back.2.settled;
 }

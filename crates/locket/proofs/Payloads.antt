@@ -1,5 +1,5 @@
 -- The payloads of a lock journal, followed one after another.
-use Rattle.std.proofs.Common.{◌≡◌, ℕ, ◌+◌, ◌<◌, ◌≤◌, Bool, true, false, List, [], ◌∷◌, ◌++◌, map, length, Option, Some, None, Result, Ok, Err, refl, sym, ap, subst, ◌∙◌, arith, if◌then◌else◌, append_assoc}
+use Rattle.std.proofs.Common.{◌≡◌, ℕ, ◌+◌, ◌<◌, ◌≤◌, Bool, true, false, List, [], ◌∷◌, ◌++◌, map, length, Option, Some, None, Result, Ok, Err, IfSome, refl, sym, ap, subst, ◌∙◌, arith, if◌then◌else◌, append_assoc}
 use Rattle.std.proofs.lemmas.List.{map-append}
 use Rattle.disk_trait.specs.Past.{Image}
 use Rattle.disk_trait.specs.declared.area.Area.{Area}
@@ -40,8 +40,10 @@ payload_followed s payload next e = by_reading (lock_reading payload) refl e
     by_reading None is f = absurd cc
     by_reading (Some c) is f = let v = by_verdict s c (lock_step s c) next refl f in record { command = c; read = is; change = v.0; after = v.1 }
 
-pub counted_payload : (s : LockState) (payload : List ℕ) (next : LockState) → IsCounted s → after_payload s payload ≡ Some next → IsCounted next
-counted_payload s payload next counted e = let f = payload_followed s payload next e in subst IsCounted f.after (counted_after s f.command counted f.change)
+-- the state that a command changes to counts as a locket's
+pub counted_next : (s : LockState) (c : LockCommand) (r : Option LockState) → IsCounted s → r ≡ next_of (lock_step s c) → IfSome r IsCounted
+counted_next s c None counted is = tt
+counted_next s c (Some next) counted is = let v = by_verdict s c (lock_step s c) next refl (sym is) in subst IsCounted v.1 (counted_after s c counted v.0)
 
 -- these commands change a state to this one, and are so many
 pub record IsLived (s : LockState) (cs : List LockCommand) (t : LockState) (count : ℕ) : Type 0 where
@@ -99,13 +101,13 @@ broken_followed area place s t at (payload ∷ payloads) e =
 
 -- ---- the commands among payloads
 
+cons-append : (r : Option LockCommand) (all xs ys : List LockCommand) → all ≡ xs ++ ys → cons_read r all ≡ cons_read r xs ++ ys
+cons-append None all xs ys is = is
+cons-append (Some c) all xs ys is = ap (λ (l : List LockCommand). c ∷ l) is
+
 commands-append : (xs ys : List (List ℕ)) → commands_in (xs ++ ys) ≡ commands_in xs ++ commands_in ys
 commands-append [] ys = refl
-commands-append (x ∷ xs) ys = by_reading (lock_reading x)
-  where
-    by_reading : (r : Option LockCommand) → cons_read r (commands_in (xs ++ ys)) ≡ cons_read r (commands_in xs) ++ commands_in ys
-    by_reading None = commands-append xs ys
-    by_reading (Some c) = ap (λ (l : List LockCommand). c ∷ l) (commands-append xs ys)
+commands-append (x ∷ xs) ys = cons-append (lock_reading x) (commands_in (xs ++ ys)) (commands_in xs) (commands_in ys) (commands-append xs ys)
 
 commands-spelled : (cs : List LockCommand) → AllFit cs → commands_in (map lock_spelled cs) ≡ cs
 commands-spelled [] fit = refl
