@@ -103,9 +103,12 @@ renewed_so (Some lease) s now ttl next answer e = by_end (nat_le lease.until now
         → (found : Lease) × (Some lease ≡ Some found) × (now.0 < found.until)
         × IsMade s (changed s now s.last (Some (ending found (now.0 + ttl)))) (reply.Ok (ending found (now.0 + ttl))) next answer
     by_end true is f = absurd cc
-    by_end false is f =
-        (lease, refl, leb-false lease.until now.0 is,
-        made s (changed s now s.last (Some (ending lease (now.0 + ttl)))) (reply.Ok (ending lease (now.0 + ttl))) next answer (by_same (lease.until == now.0 + ttl) f))
+    by_end false is f = (
+      lease,
+      refl,
+      leb-false lease.until now.0 is,
+      made s (changed s now s.last (Some (ending lease (now.0 + ttl)))) (reply.Ok (ending lease (now.0 + ttl))) next answer (by_same (lease.until == now.0 + ttl) f),
+    )
 
 released_so : (own : Option Lease) (s : LockState) (now : Moment) (next : LockState) (answer : LockReply) → released own s now ≡ Changes next answer
     → (lease : Lease) × (own ≡ Some lease) × IsMade s (changed s now s.last None) (reply.Released lease.fence) next answer

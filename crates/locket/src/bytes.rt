@@ -12,7 +12,9 @@ use wire_fields::{
 
 /// The number of a kind of command.
 const ACQUIRE: u8 = 32;
+
 const RENEW: u8 = 33;
+
 const RELEASE: u8 = 34;
 
 fn kind_of(op: &LockOp) -> u8

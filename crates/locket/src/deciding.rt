@@ -155,13 +155,7 @@ fn release(state: &LockState, lease: &Lease, now: Moment) -> LockVerdict
     LockVerdict::Changes(changed(state, now, state.last, None), answer)
 }
 
-fn renew_own(
-    state: &LockState,
-    now: Moment,
-    owner: &Name,
-    fence: u64,
-    ttl: u32,
-) -> LockVerdict
+fn renew_own(state: &LockState, now: Moment, owner: &Name, fence: u64, ttl: u32) -> LockVerdict
     requires { IsCounted state.now }
     ensures { result ≡ plain.renewed (plain.own_lease state.entry.now.held owner.entry.now fence)
         state.entry.now now ttl }

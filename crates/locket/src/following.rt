@@ -7,8 +7,8 @@ ghost use Rattle.locket.specs.Lives.{unused, IsCounted};
 ghost use Rattle.locket.specs.Opening.{prepared_size, is_prepared, next_of, after_payload, followed, locks_of};
 
 use crate::bytes::read_lock_command;
-use crate::state::LockState;
 use crate::deciding::step;
+use crate::state::LockState;
 use crate::verdict::LockVerdict;
 use bbs_journal::LoadFault;
 use disk_trait::Area;

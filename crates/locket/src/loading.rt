@@ -32,7 +32,13 @@ pub fn load<D: Disk>(alloc: Global, disk: D) -> Result<Locket<D>, (D, LoadFault)
         Err(refused) => return Err(refused),
     };
     let area = loaded.journal.area();
-    match locks_of(loaded.version, area, &loaded.head, &loaded.frames, loaded.broken) {
+    match locks_of(
+        loaded.version,
+        area,
+        &loaded.head,
+        &loaded.frames,
+        loaded.broken,
+    ) {
         Ok(state) => Ok(Locket {
             log: PayloadLog::begin(alloc, loaded, faults),
             state,

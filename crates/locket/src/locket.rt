@@ -9,9 +9,9 @@ ghost use Rattle.locket.specs.declared.verdict.LockVerdict.TheVariants.{Changes}
 
 use crate::bytes::fits;
 use crate::command::LockCommand;
+use crate::deciding::step;
 use crate::reply::{LockFault, LockReply};
 use crate::state::LockState;
-use crate::deciding::step;
 use crate::verdict::LockVerdict;
 use disk_trait::Disk;
 use payload_log::PayloadLog;

@@ -148,15 +148,20 @@ fn has_lived(rt: &impl Abort, state: &LockState) {
     assert_eq!(rt; *state, want);
 }
 
+fn has_lived_in(rt: &impl Abort, alloc: Global, a: &[u8], b: &[u8]) -> Result<(), Fail> {
+    let state = state_in(alloc, a, b)?;
+    has_lived(rt, &state);
+    Ok(())
+}
+
 #[test]
 fn both_versions_are_loaded_with_their_state(rt: HostRuntime) -> Result<(), Fail> {
     let alloc = rt.alloc();
     let old = joined(alloc, OLD_FRONT, &LIVED[51..])?;
-    has_lived(&rt, &state_in(alloc, &LIVED, b"")?);
-    has_lived(&rt, &state_in(alloc, &old, b"")?);
+    has_lived_in(&rt, alloc, &LIVED, b"")?;
+    has_lived_in(&rt, alloc, &old, b"")?;
     // The other area is read too, and a closed one is passed over.
-    has_lived(&rt, &state_in(alloc, b"\0", &LIVED)?);
-    Ok(())
+    has_lived_in(&rt, alloc, b"\0", &LIVED)
 }
 
 // What a life adds goes behind an old head too.

@@ -142,12 +142,32 @@ fn a_changed_header_or_head_is_told_at_its_place(rt: HostRuntime) -> Result<(), 
         (0, 0, [Told::NoBoard, OPENED, OPENED, OPENED, OPENED]),
         (1, 9, none),
         // Version 1 has another head.
-        (10, 10, [Told::NoBoard, Told::Damaged(23), Told::NoBoard, Told::NoBoard, Told::NoBoard]),
+        (
+            10,
+            10,
+            [
+                Told::NoBoard,
+                Told::Damaged(23),
+                Told::NoBoard,
+                Told::NoBoard,
+                Told::NoBoard,
+            ],
+        ),
         (11, 17, eleven),
         (18, 18, eleven),
         // A head that is longer than the area, and one that is too short.
         (19, 21, [Told::AtEnd; 5]),
-        (22, 22, [Told::Damaged(23), Told::Damaged(23), Told::Damaged(23), Told::AtEnd, Told::AtEnd]),
+        (
+            22,
+            22,
+            [
+                Told::Damaged(23),
+                Told::Damaged(23),
+                Told::Damaged(23),
+                Told::AtEnd,
+                Told::AtEnd,
+            ],
+        ),
         (23, 49, head),
         (50, 50, head),
     ];

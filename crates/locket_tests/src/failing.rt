@@ -60,10 +60,11 @@ fn has_gate(
 }
 
 fn gate_fails(rt: &impl Abort, alloc: Global, row: (&[u64], u64, u8)) -> Result<(), Fail> {
-    let step = failed()?;
+    let steps = [failed()?];
+    let items = [LockItem::Doubt(acquire(0, b"bbs-1", 15)?)];
     let disk = disk_of(alloc, &EMPTY, b"", row.0)?;
-    let (disk, log, marks) = play(rt, alloc, disk, &[step])?;
-    are_items(rt, &log, &[LockItem::Doubt(step.command)]);
+    let (disk, log, marks) = play(rt, alloc, disk, &steps)?;
+    are_items(rt, &log, &items);
     are_numbers(rt, &marks, &[row.1]);
     has_gate(rt, alloc, &disk, row)
 }

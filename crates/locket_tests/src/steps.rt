@@ -114,9 +114,15 @@ fn a_lease_that_is_held_is_judged_on_both_sides_of_its_end(rt: HostRuntime) -> R
         // Up to its end another owner is refused, and its own has it already.
         (acquire(10, b"bbs-2", 5)?, held),
         (acquire(19, b"bbs-2", 5)?, held),
-        (acquire(20, b"bbs-2", 5)?, gives(20, 4, &lease_of(b"bbs-2", 4, 25)?, 8)),
+        (
+            acquire(20, b"bbs-2", 5)?,
+            gives(20, 4, &lease_of(b"bbs-2", 4, 25)?, 8),
+        ),
         (acquire(19, b"bbs-1", 5)?, same(lease)),
-        (acquire(20, b"bbs-1", 5)?, gives(20, 4, &lease_of(b"bbs-1", 4, 25)?, 8)),
+        (
+            acquire(20, b"bbs-1", 5)?,
+            gives(20, 4, &lease_of(b"bbs-1", 4, 25)?, 8),
+        ),
         // Another owner, and another fence.
         (renew(19, b"bbs-2", 3, 5)?, not_holder),
         (renew(19, b"bbs-1", 2, 5)?, not_holder),
@@ -124,8 +130,14 @@ fn a_lease_that_is_held_is_judged_on_both_sides_of_its_end(rt: HostRuntime) -> R
         (release(19, b"bbs-1", 4)?, not_holder),
         // Its end stays, moves either way, and can't be moved once it has come.
         (renew(19, b"bbs-1", 3, 1)?, same(lease)),
-        (renew(19, b"bbs-1", 3, 2)?, gives(19, 3, &lease_of(b"bbs-1", 3, 21)?, 8)),
-        (renew(19, b"bbs-1", 3, 0)?, gives(19, 3, &lease_of(b"bbs-1", 3, 19)?, 8)),
+        (
+            renew(19, b"bbs-1", 3, 2)?,
+            gives(19, 3, &lease_of(b"bbs-1", 3, 21)?, 8),
+        ),
+        (
+            renew(19, b"bbs-1", 3, 0)?,
+            gives(19, 3, &lease_of(b"bbs-1", 3, 19)?, 8),
+        ),
         (renew(20, b"bbs-1", 3, 5)?, expired),
         // It may be released behind its end.
         (release(21, b"bbs-1", 3)?, releases(21, 8)),
@@ -141,9 +153,15 @@ fn a_lease_that_was_released_leaves_its_fence(rt: HostRuntime) -> Result<(), Fai
     let cases: [(LockCommand, LockVerdict); 5] = [
         (renew(11, b"bbs-1", 3, 5)?, not_holder),
         (release(11, b"bbs-1", 3)?, not_holder),
-        (acquire(10, b"bbs-1", 5)?, gives(10, 4, &lease_of(b"bbs-1", 4, 15)?, 8)),
+        (
+            acquire(10, b"bbs-1", 5)?,
+            gives(10, 4, &lease_of(b"bbs-1", 4, 15)?, 8),
+        ),
         // A lease may end as it begins, and the longest ends beyond the last moment.
-        (acquire(11, b"bbs-1", 0)?, gives(11, 4, &lease_of(b"bbs-1", 4, 11)?, 8)),
+        (
+            acquire(11, b"bbs-1", 0)?,
+            gives(11, 4, &lease_of(b"bbs-1", 4, 11)?, 8),
+        ),
         (
             acquire(4_294_967_295, b"bbs-1", 4_294_967_295)?,
             gives(4_294_967_295, 4, &lease_of(b"bbs-1", 4, 8_589_934_590)?, 8),
@@ -157,7 +175,10 @@ fn a_lease_that_was_released_leaves_its_fence(rt: HostRuntime) -> Result<(), Fai
 fn a_locket_is_full_after_a_million_changes(rt: HostRuntime) -> Result<(), Fail> {
     let full = refused(LockRefusal::LockFull);
     let lease = lease_of(b"bbs-1", 3, 20)?;
-    let last: [(LockCommand, LockVerdict); 1] = [(release(12, b"bbs-1", 3)?, releases(12, 1_000_000))];
+    let last: [(LockCommand, LockVerdict); 1] = [(
+        release(12, b"bbs-1", 3)?,
+        releases(12, 1_000_000),
+    )];
     are_verdicts(&rt, &held_after(999_999)?, &last);
     let cases: [(LockCommand, LockVerdict); 6] = [
         (acquire(20, b"bbs-2", 5)?, full),
@@ -166,7 +187,10 @@ fn a_locket_is_full_after_a_million_changes(rt: HostRuntime) -> Result<(), Fail>
         // Other answers come first.
         (acquire(12, b"bbs-1", 5)?, same(lease)),
         (renew(12, b"bbs-1", 3, 8)?, same(lease)),
-        (release(12, b"bbs-2", 3)?, refused(LockRefusal::NotHolder { last: 3 })),
+        (
+            release(12, b"bbs-2", 3)?,
+            refused(LockRefusal::NotHolder { last: 3 }),
+        ),
     ];
     are_verdicts(&rt, &held_after(1_000_000)?, &cases);
     Ok(())

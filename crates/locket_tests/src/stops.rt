@@ -71,7 +71,11 @@ fn a_stop_in_a_call_leaves_the_locket_before_or_after(rt: HostRuntime) -> Result
     leaves_before_or_after(&rt, alloc, &disk)
 }
 
-fn leaves_what_was_given(rt: &impl Abort, alloc: Global, disk: &mut MemoryDisk) -> Result<(), Fail> {
+fn leaves_what_was_given(
+    rt: &impl Abort,
+    alloc: Global,
+    disk: &mut MemoryDisk,
+) -> Result<(), Fail> {
     is_number(rt, disk.clock(), CALLS + 4);
     // A stop within the next call is one after the last.
     holds(rt, disk.sync(Area::B).is_ok());

@@ -129,8 +129,14 @@ err_is (Err e) = refl
 counts_more : {X : Type 0} (spelling : X → List ℕ) (payloads : List (List ℕ)) (log : List (Entry X)) (x : X) (ok : Bool) (frames : ℕ) → frames ≡ length (payloads ++ stored_in spelling log)
     → frames_of ok frames ≡ length (payloads ++ stored_in spelling (log ++ entry_of ok x ∷ []))
 counts_more spelling payloads log x true frames is =
-    omega (arith, is, length-append payloads (stored_in spelling log), length-append payloads (stored_in spelling (log ++ Done x ∷ [])),
-    ap length (stored-done spelling log x), length-append (stored_in spelling log) (spelling x ∷ []))
+    omega (
+      arith,
+      is,
+      length-append payloads (stored_in spelling log),
+      length-append payloads (stored_in spelling (log ++ Done x ∷ [])),
+      ap length (stored-done spelling log x),
+      length-append (stored_in spelling log) (spelling x ∷ []),
+    )
 counts_more spelling payloads log x false frames is = is ∙ ap (λ (l : List (List ℕ)). length (payloads ++ l)) (sym (stored-doubt spelling log x))
 
 pub sound_more : {D X : Type 0} (spelling : X → List ℕ) (told : D → Option Past) (fault_count : D → ℕ) (head : List ℕ) (payloads : List (List ℕ)) (log : List (Entry X)) (marks : List ℕ) (since faults : ℕ)

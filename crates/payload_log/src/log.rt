@@ -50,7 +50,7 @@ impl<D: Disk, X: Payload> Model for PayloadLog<D, X> {
       room = min (vec_capacity l.log - vec_len l.log) (vec_capacity l.marks - vec_len l.marks);
     } };
 
-    ghost invariant = { λ l. IsSound X.spelling D.told D.fault_count 
+    ghost invariant = { λ l. IsSound X.spelling D.told D.fault_count
         (opened_in l.journal l.head.value.items (payloads_of l.frames.value.items))
         l.log.items l.marks.items l.since l.faults l.journal };
 }
