@@ -1,0 +1,11 @@
+pub mod Stepping
+pub mod Living
+pub mod Reading
+pub mod Writing
+pub mod Payloads
+pub mod Keeping
+pub mod Changing
+pub mod Outcomes
+pub mod Spanning
+pub mod Stopping
+pub mod Public

@@ -1,0 +1,9 @@
+pub mod Steps
+pub mod Lives
+pub mod Bytes
+pub mod Opening
+pub mod Kept
+pub mod View
+pub mod Calls
+pub mod Spans
+pub mod Laws
