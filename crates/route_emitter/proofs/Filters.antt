@@ -38,7 +38,7 @@ module _ {K X : Type 0} (R : K → K → Ordering) (key : X → K) where
 
 module _ {K X : Type 0} (R : K → K → Ordering) (key : X → K) (o : IsKeyOrder R) where
   -- behind the row of a key none has that key
-  none_behind : (q : K) (y : X) (ys : List X) → IsRising R key (y ∷ ys) → eq_by_cmp R q (key y) ≡ true → find_row R key q ys ≡ None
+  pub none_behind : (q : K) (y : X) (ys : List X) → IsRising R key (y ∷ ys) → eq_by_cmp R q (key y) ≡ true → find_row R key q ys ≡ None
   none_behind q y ys h tie =
       elim (find_row R key q ys) as (λ (s : Option X). find_row R key q ys ≡ s → s ≡ None) [
         | None ↦ λ e. refl

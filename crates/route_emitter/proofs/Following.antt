@@ -156,20 +156,30 @@ same-entry ds a h =
     ap (λ o. entry_for o a) (find_row-filter name_order process_of IsKeyOrder-name_order has_route a.key.process ds h)
     ∙ routed-entry (find_row name_order process_of a.key.process ds) a
 
-same-ways : (ds : List Desired) (as' : List Actual) → IsRising name_order process_of ds
-    → filter_map (entry_among (filter has_route ds)) (filter is_running as') ≡ filter_map (entry_among ds) as'
-same-ways ds [] h = refl
-same-ways ds (a ∷ as') h =
-    let rest = same-ways ds as' h in
+-- rows that aren't RUNNING add nothing
+running-ways : (ds : List Desired) (as' : List Actual) → filter_map (entry_among ds) (filter is_running as') ≡ filter_map (entry_among ds) as'
+running-ways ds [] = refl
+running-ways ds (a ∷ as') =
+    let rest = running-ways ds as' in
     let kept = filter is_running as' in
-    elim (is_running a) as (λ b. is_running a ≡ b → filter_map (entry_among (filter has_route ds)) (cond b (a ∷ kept) kept) ≡ filter_map (entry_among ds) (a ∷ as')) [
-      | true ↦ λ is. (λ i. cons_option (same-entry ds a h i) (rest i))
+    elim (is_running a) as (λ b. is_running a ≡ b → filter_map (entry_among ds) (cond b (a ∷ kept) kept) ≡ filter_map (entry_among ds) (a ∷ as')) [
+      | true ↦ λ is. ap (cons_option (entry_among ds a)) rest
       | false ↦ λ is. rest ∙ ap (λ o. cons_option o (filter_map (entry_among ds) as')) (sym (resting-entry (find_row name_order process_of a.key.process ds) a is))
     ] refl
 
+pub routes-running : (ds : List Desired) (as' : List Actual) → routes_in ds (filter is_running as') ≡ routes_in ds as'
+routes-running ds as' = ap (table route_order itself) (running-ways ds as')
+
+-- nor do processes without a route
+routed-ways : (ds : List Desired) (as' : List Actual) → IsRising name_order process_of ds → filter_map (entry_among (filter has_route ds)) as' ≡ filter_map (entry_among ds) as'
+routed-ways ds [] h = refl
+routed-ways ds (a ∷ as') h =
+    let rest = routed-ways ds as' h in
+    (λ i. cons_option (same-entry ds a h i) (rest i))
+
 -- the routes of what is kept are those of the rows
 pub routes-kept : (rows : Rows) → IsRising name_order process_of rows.desired → routes_in (filter has_route rows.desired) (filter is_running rows.actual) ≡ routes rows
-routes-kept rows h = ap (table route_order itself) (same-ways rows.desired rows.actual h)
+routes-kept rows h = ap (table route_order itself) (running-ways (filter has_route rows.desired) rows.actual ∙ routed-ways rows.desired rows.actual h)
 
 -- an emitter of rows that keeps what there is to keep
 pub is-routing : (rows : Rows) (e : Routing) → IsRising name_order process_of rows.desired → IsRising place_order place_of rows.actual

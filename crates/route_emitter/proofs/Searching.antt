@@ -38,9 +38,12 @@ split_at xs e i split (k, lt, at) =
       | (inr high) ↦ let more : route_order (get_or xs k e) e ≡ Greater = split.1 k e high lt in cc
     ]
 
+-- where it finds none it finds a place for one
+pub split_where : (xs : List RouteEntry) (e : RouteEntry) (i : ℕ) → IsRising route_order itself xs → IsBinarySearchResult (λ y. route_order y e) xs (Err i)
+    → IsPartitionPoint (λ y. route_order y e ≡ Less) (λ y. route_order y e ≡ Greater) xs i
+split_where xs e i h searched = searched (searchable_from_sorted IsKeyOrder-route_order.total itself xs e (IsSortedBy-from_rising xs h))
+
 pub found_is_has : (xs : List RouteEntry) (e : RouteEntry) (r : Result ℕ ℕ) → IsRising route_order itself xs → IsSearchInRange r (length xs)
     → IsBinarySearchResult (λ y. route_order y e) xs r → is_ok r ≡ has xs e
 found_is_has xs e (Ok i) h range searched = sym (has-Contains xs e (found_at xs e i range searched))
-found_is_has xs e (Err i) h range searched =
-    let ranks = searchable_from_sorted IsKeyOrder-route_order.total itself xs e (IsSortedBy-from_rising xs h) in
-    sym (lacks xs e (split_at xs e i (searched ranks)))
+found_is_has xs e (Err i) h range searched = sym (lacks xs e (split_at xs e i (split_where xs e i h searched)))

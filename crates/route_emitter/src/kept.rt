@@ -1,20 +1,21 @@
 //! What an emitter keeps of a board's rows: the desired rows with a route, and the RUNNING rows.
-ghost use Rattle.std.specs.Prelude.{◌≡◌, ◌+◌, ◌≤◌, ◌<◌, ◌^◌, ◌++◌, [], length, option_to_list, filter, slice_get, vec_capacity, vec_len, Some, IfOk, OnOk};
-ghost use Rattle.std.specs.List.{filter_map};
+ghost use Rattle.std.specs.Prelude.{◌≡◌, ◌+◌, ◌*◌, ◌≤◌, ◌<◌, ◌++◌, [], length, option_to_list, filter, vec_capacity, vec_len, IfOk, OnOk};
+ghost use Rattle.std.specs.List.{filter_map, flat_map};
 ghost use Rattle.diego_names.specs.Order.{name_order};
 ghost use Rattle.lrp_records.specs.Place.{place_of, place_order};
-ghost use Rattle.lrp_records.specs.declared.actual.Actual.{Actual as AnActual};
 ghost use Rattle.row_tables.specs.Table.{IsRising};
-ghost use Rattle.bbs_index.specs.Shelf.{AreNumbered};
 ghost use Rattle.bbs_model.specs.Tables.{process_of};
 ghost use Rattle.route_emitter.specs.Keeping.{desired_after, desired_by, running_after, running_by, stands, with_desired, with_running};
-ghost use Rattle.route_emitter.specs.Routes.{entry_among, has_route, is_running};
+ghost use Rattle.route_emitter.specs.Near.{entries_at, entries_of, entry_at, has_row, has_rows};
+ghost use Rattle.route_emitter.specs.Routes.{entry_among, has_route, is_running, routes_in};
 
 use crate::entry::RouteEntry;
+use crate::sorted::put_in_order;
 use crate::way::entry_for;
-use bbs_index::{Order, Shelf};
+use bbs_index::Shelf;
 use bbs_model::{Change, Event, Row};
-use lrp_records::{Actual, Desired, LrpState};
+use diego_names::Key;
+use lrp_records::{Actual, Desired, LrpState, Presence};
 use std::alloc::{AllocError, Global};
 use std::marker::Model;
 
@@ -37,7 +38,7 @@ impl Model for Kept {
     } };
 }
 
-fn is_running(row: &Actual) -> bool
+pub(crate) fn is_running(row: &Actual) -> bool
     ensures { result ≡ is_running row.now }
 {
     match row.state {
@@ -52,7 +53,7 @@ fn has_route(row: &Desired) -> bool
     row.route.is_some()
 }
 
-fn stands(change: Change) -> bool
+pub(crate) fn stands(change: Change) -> bool
     ensures { result ≡ stands change }
 {
     match change {
@@ -85,15 +86,6 @@ fn that_run(alloc: Global, rows: &[Actual]) -> Result<Vec<Actual>, AllocError>
     Ok(kept)
 }
 
-fn entry_at(desired: &Shelf<Desired>, running: &Shelf<Actual>, number: usize) -> Option<RouteEntry>
-    requires { number < length running.now.numbered }
-    ensures { (row : AnActual) → slice_get running.now.numbered number ≡ Some row →
-        result ≡ entry_among desired.now.rows row }
-{
-    let row = running.at(number);
-    entry_for(desired.look(&row.key.process), row)
-}
-
 fn add(entries: &mut Vec<RouteEntry>, entry: Option<RouteEntry>)
     requires { vec_len entries.old < vec_capacity entries.old }
     ensures items { entries.new.items ≡ entries.old.items ++ option_to_list entry }
@@ -105,23 +97,22 @@ fn add(entries: &mut Vec<RouteEntry>, entry: Option<RouteEntry>)
     }
 }
 
-// The entries of the rows of these numbers, which are all rows in their order.
-fn list_each(
+// The entries of these rows, in their order.
+fn list_rows(
+    alloc: Global,
     desired: &Shelf<Desired>,
-    running: &Shelf<Actual>,
-    numbers: &[u32],
-    entries: &mut Vec<RouteEntry>,
-)
-    requires rows { AreNumbered running.now.numbered numbers.now running.now.rows }
-    requires space { length running.now.rows ≤ vec_capacity entries.old }
-    requires empty { entries.old.items ≡ [] }
-    ensures items { entries.new.items ≡ filter_map (entry_among desired.now.rows) running.now.rows }
-    ensures len { vec_len entries.new ≤ length running.now.rows }
-    ensures capacity { vec_capacity entries.new ≡ vec_capacity entries.old }
+    rows: &[Actual],
+) -> Result<Vec<RouteEntry>, AllocError>
+    ensures { IfOk result (λ entries. entries.items
+        ≡ filter_map (entry_among desired.now.rows) rows.now) }
 {
-    for number in numbers {
-        add(entries, entry_at(desired, running, *number as usize));
+    let mut entries = Vec::new(alloc);
+    for row in rows {
+        if let Some(entry) = entry_for(desired.look(&row.key.process), row) {
+            entries.push(entry)?;
+        }
     }
+    Ok(entries)
 }
 
 impl Kept {
@@ -144,9 +135,10 @@ impl Kept {
         })
     }
 
-    // How many rows run.
+    // How many rows run. Their places rise.
     pub(crate) fn count(&self) -> usize
-        ensures { result ≡ length self.now.running }
+        ensures count { result ≡ length self.now.running }
+        ensures rising { IsRising place_order place_of self.now.running }
     {
         self.running.len()
     }
@@ -179,7 +171,6 @@ impl Kept {
         ensures desired { self.new.desired ≡ self.old.desired }
         ensures running { self.new.running ≡ with_running change row.now self.old.running }
         ensures spare { self.old.spare ≤ self.new.spare + 1 }
-        ensures count { length self.new.running ≤ length self.old.running + 1 }
     {
         if stands(change) && is_running(row) {
             self.running.put(*row);
@@ -193,7 +184,6 @@ impl Kept {
         ensures desired { self.new.desired ≡ desired_by event.now.change event.now.row self.old.desired }
         ensures running { self.new.running ≡ running_by event.now.change event.now.row self.old.running }
         ensures spare { self.old.spare ≤ self.new.spare + 1 }
-        ensures count { length self.new.running ≤ length self.old.running + 1 }
     {
         match &event.row {
             Row::Desired(row) => self.take_desired(event.change, row),
@@ -207,24 +197,82 @@ impl Kept {
         requires { length events.now ≤ self.old.spare }
         ensures desired { self.new.desired ≡ desired_after events.now self.old.desired }
         ensures running { self.new.running ≡ running_after events.now self.old.running }
-        ensures count { length self.new.running ≤ length self.old.running + length events.now }
     {
         for event in events {
             self.take_one(event);
         }
     }
 
-    // The entries of the rows that run, in the order of these rows. It has memory for as many as run.
-    pub(crate) fn list(&self, order: &mut Order, entries: &mut Vec<RouteEntry>)
-        requires few { length self.now.running < 2 ^ 32 }
-        requires room { length self.now.running ≤ order.old.room }
-        requires space { length self.now.running ≤ vec_capacity entries.old }
-        requires empty { entries.old.items ≡ [] }
-        ensures items { entries.new.items ≡ filter_map (entry_among self.now.desired) self.now.running }
-        ensures len { vec_len entries.new ≤ length self.now.running }
+    // The table of routes, if these are all rows.
+    pub(crate) fn table(&self, alloc: Global, rows: &[Actual]) -> Result<Vec<RouteEntry>, AllocError>
+        ensures { IfOk result (λ entries. entries.items ≡ routes_in self.now.desired rows.now) }
+    {
+        let mut entries = list_rows(alloc, &self.desired, rows)?;
+        put_in_order(&mut entries);
+        Ok(entries)
+    }
+
+    fn has_row(&self, key: &Key, presence: Presence) -> bool
+        ensures { result ≡ has_row self.now.running key.now presence }
+    {
+        self.running.look(&(*key, presence)).is_some()
+    }
+
+    // Whether the instance runs, by a row of any presence.
+    pub(crate) fn runs(&self, key: &Key) -> bool
+        ensures { result ≡ has_rows self.now.running key.now }
+    {
+        self.has_row(key, Presence::Ordinary)
+            || self.has_row(key, Presence::Evacuating)
+            || self.has_row(key, Presence::Suspect)
+    }
+
+    // The entry of the instance by its row of that presence.
+    fn entry_at(&self, key: &Key, presence: Presence) -> Option<RouteEntry>
+        ensures { result ≡ entry_at self.now.desired self.now.running key.now presence }
+    {
+        match self.running.look(&(*key, presence)) {
+            None => None,
+            Some(row) => entry_for(self.desired.look(&row.key.process), row),
+        }
+    }
+
+    // Adds the entries of the instance.
+    fn list_one(&self, key: &Key, entries: &mut Vec<RouteEntry>)
+        requires { vec_len entries.old + 3 ≤ vec_capacity entries.old }
+        ensures items { entries.new.items
+            ≡ entries.old.items ++ entries_at self.now.desired self.now.running key.now }
+        ensures len { vec_len entries.new ≤ vec_len entries.old + 3 }
         ensures capacity { vec_capacity entries.new ≡ vec_capacity entries.old }
     {
-        self.running.order_into(order);
-        list_each(&self.desired, &self.running, order.numbers(), entries);
+        add(entries, self.entry_at(key, Presence::Ordinary));
+        add(entries, self.entry_at(key, Presence::Evacuating));
+        add(entries, self.entry_at(key, Presence::Suspect));
+    }
+
+    // Fills in the entries of these instances, in their order. There is memory for three of each.
+    fn list(&self, keys: &[Key], entries: &mut Vec<RouteEntry>)
+        requires empty { entries.old.items ≡ [] }
+        requires room { 3 * length keys.now ≤ vec_capacity entries.old }
+        ensures items { entries.new.items
+            ≡ flat_map (entries_at self.now.desired self.now.running) keys.now }
+        ensures len { vec_len entries.new ≤ 3 * length keys.now }
+        ensures capacity { vec_capacity entries.new ≡ vec_capacity entries.old }
+    {
+        for key in keys {
+            self.list_one(key, entries);
+        }
+    }
+
+    // Fills in the entries of these instances, sorted and each once.
+    pub(crate) fn fill(&self, keys: &[Key], entries: &mut Vec<RouteEntry>)
+        requires empty { entries.old.items ≡ [] }
+        requires room { 3 * length keys.now ≤ vec_capacity entries.old }
+        ensures items { entries.new.items ≡ entries_of self.now.desired self.now.running keys.now }
+        ensures len { vec_len entries.new ≤ 3 * length keys.now }
+        ensures capacity { vec_capacity entries.new ≡ vec_capacity entries.old }
+    {
+        self.list(keys, entries);
+        put_in_order(entries);
     }
 }

@@ -1,10 +1,13 @@
 //! The table of routes to the instances that run, kept along a board by its events alone.
 #![tactic(auto)]
 
+mod changing;
 mod emitter;
 mod entry;
+mod instances;
 mod kept;
 mod laws;
+mod plan;
 mod sorted;
 mod text;
 mod way;

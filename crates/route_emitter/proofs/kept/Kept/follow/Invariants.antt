@@ -7,5 +7,4 @@ invariant-loop-event l = record {
   desired : desired_after (drop l.event-index l.events) l.self.desired ≡ desired_after l.events l.fn.self.desired;
   running : running_after (drop l.event-index l.events) l.self.running ≡ running_after l.events l.fn.self.running;
   room : length l.events ≤ l.self.spare + l.event-index;
-  count : length l.self.running ≤ length l.fn.self.running + l.event-index;
 }
