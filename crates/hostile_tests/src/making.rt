@@ -1,4 +1,7 @@
 //! What the tables begin with: disks in memory, boards over them, and commands.
+ghost use Rattle.std.specs.Prelude.{IfOk};
+ghost use Rattle.bbs_model.specs.Valid.{IsValid};
+
 use bbs_board::{Board, Closed, load};
 use bbs_model::{Command, Op, Reply, Rows};
 use crash_backoff::Moment;
@@ -39,12 +42,16 @@ pub fn disk_in<D: Disk + Drop>(board: Board<D>) -> D {
     disk
 }
 
-fn rows_in<D: Disk>(alloc: Global, board: &Board<D>) -> Result<Rows, Fail> {
+fn rows_in<D: Disk>(alloc: Global, board: &Board<D>) -> Result<Rows, Fail>
+    ensures { IfOk result (λ rows. IsValid rows) }
+{
     Ok(board.rows(alloc)?)
 }
 
 /// The rows of the board of these areas.
-pub fn found_in(alloc: Global, a: &[u8], b: &[u8]) -> Result<Rows, Fail> {
+pub fn found_in(alloc: Global, a: &[u8], b: &[u8]) -> Result<Rows, Fail>
+    ensures { IfOk result (λ rows. IsValid rows) }
+{
     let board = loaded(alloc, disk_of(alloc, a, b, &[])?)?;
     rows_in(alloc, &board)
 }
