@@ -1,0 +1,4 @@
+pub mod Bytes
+pub mod Endings
+pub mod EndLaws
+pub mod Telling
