@@ -9,11 +9,11 @@ use Rattle.diego_names.specs.declared.key.Key.{Key}
 use Rattle.lrp_records.specs.declared.actual.Actual.{Actual}
 use Rattle.lrp_records.specs.declared.desired.Desired.{Desired}
 use Rattle.row_tables.specs.Table.{find_row, IsRising, put_row, table, without_row}
-use Rattle.row_tables.proofs.Public.{find_row-put_row, find_row-table, find_row-without_row, IsRising-put_row, IsRising-table, IsRising-without_row, IsRising-tail, same_from_tie}
+use Rattle.row_tables.proofs.Public.{find_row-put_row, find_row-table, find_row-without_row, IsRising-put_row, IsRising-without_row}
 use Rattle.route_emitter.specs.Entries.{has, itself, minus, route_order}
-use Rattle.route_emitter.specs.Near.{KeepsOthers, is_among, key_of, toggle, toggle_each}
+use Rattle.route_emitter.specs.Near.{AreApart, IsSwitched, KeepsOthers, is_among, key_of, toggle, toggle_each}
 use Rattle.route_emitter.specs.declared.entry.RouteEntry.{RouteEntry}
-use Rattle.route_emitter.proofs.Filters.{IsRising-filter, none_behind}
+use Rattle.route_emitter.proofs.Filters.{IsRising-filter}
 use Rattle.route_emitter.proofs.Lists.{Contains-filter, Contains-from_filter, Contains-has, has-Contains}
 use Rattle.route_emitter.proofs.Members.{same_members}
 use Rattle.route_emitter.proofs.Order.{IsKeyOrder-route_order}
@@ -33,20 +33,20 @@ some-unless : {X : Type 0} (b : Bool) (o : Option X) → is_some (cond b None o)
 some-unless true o = refl
 some-unless false o = refl
 
-has-cons : (c : RouteEntry) (cs : List RouteEntry) (e : RouteEntry) → has (c ∷ cs) e ≡ cond (eq_by_cmp route_order e c) true (has cs e)
+pub has-cons : (c : RouteEntry) (cs : List RouteEntry) (e : RouteEntry) → has (c ∷ cs) e ≡ cond (eq_by_cmp route_order e c) true (has cs e)
 has-cons c cs e = some-either (eq_by_cmp route_order e c) c (find_row route_order itself e cs)
 
 either-or : (b c d : Bool) → cond b true (c || d) ≡ (cond b true c || d)
 either-or true c d = refl
 either-or false c d = refl
 
-has-append : (xs ys : List RouteEntry) (e : RouteEntry) → has (xs ++ ys) e ≡ (has xs e || has ys e)
+pub has-append : (xs ys : List RouteEntry) (e : RouteEntry) → has (xs ++ ys) e ≡ (has xs e || has ys e)
 has-append [] ys e = refl
 has-append (x ∷ xs) ys e =
     let tie = eq_by_cmp route_order e x in
     has-cons x (xs ++ ys) e ∙ ap (λ b. cond tie true b) (has-append xs ys e) ∙ either-or tie (has xs e) (has ys e) ∙ ap (λ b. b || has ys e) (sym (has-cons x xs e))
 
-has-table : (xs : List RouteEntry) (e : RouteEntry) → has (table route_order itself xs) e ≡ has xs e
+pub has-table : (xs : List RouteEntry) (e : RouteEntry) → has (table route_order itself xs) e ≡ has xs e
 has-table xs e = ap is_some (find_row-table route_order itself IsKeyOrder-route_order e xs)
 
 -- what one list has and the other hasn't
@@ -61,7 +61,7 @@ pub IsRising-minus : (xs ys : List RouteEntry) → IsRising route_order itself x
 IsRising-minus xs ys h = IsRising-filter route_order itself (λ (x : RouteEntry). not (has ys x)) xs h
 
 -- one entry in or out
-has-toggle : (c : RouteEntry) (xs : List RouteEntry) (e : RouteEntry) → has (toggle c xs) e ≡ cond (eq_by_cmp route_order e c) (not (has xs c)) (has xs e)
+pub has-toggle : (c : RouteEntry) (xs : List RouteEntry) (e : RouteEntry) → has (toggle c xs) e ≡ cond (eq_by_cmp route_order e c) (not (has xs c)) (has xs e)
 has-toggle c xs e =
     let tie = eq_by_cmp route_order e c in
     elim (has xs c) as (λ b. has (cond b (without_row route_order itself c xs) (put_row route_order itself c xs)) e ≡ cond tie (not b) (has xs e)) [
@@ -76,29 +76,22 @@ IsRising-toggle c xs h =
       | false ↦ IsRising-put_row route_order itself IsKeyOrder-route_order c xs h
     ]
 
-IsRising-toggle_each : (cs xs : List RouteEntry) → IsRising route_order itself xs → IsRising route_order itself (toggle_each cs xs)
+pub IsRising-toggle_each : (cs xs : List RouteEntry) → IsRising route_order itself xs → IsRising route_order itself (toggle_each cs xs)
 IsRising-toggle_each [] xs h = h
 IsRising-toggle_each (c ∷ cs) xs h = IsRising-toggle_each cs (toggle c xs) (IsRising-toggle c xs h)
 
--- each of them once in or out
-has-toggle_each : (cs xs : List RouteEntry) (e : RouteEntry) → IsRising route_order itself cs → has (toggle_each cs xs) e ≡ cond (has cs e) (not (has xs e)) (has xs e)
-has-toggle_each [] xs e h = refl
-has-toggle_each (c ∷ cs) xs e h =
-    let rest = has-toggle_each cs (toggle c xs) e (IsRising-tail route_order itself c cs h) in
-    let one = has-toggle c xs e in
-    elim (eq_by_cmp route_order e c) as (λ b. eq_by_cmp route_order e c ≡ b → has (toggle_each cs (toggle c xs)) e ≡ cond (has (c ∷ cs) e) (not (has xs e)) (has xs e)) [
-      | true ↦ λ tie.
-          let none : has cs e ≡ false = ap is_some (none_behind route_order itself IsKeyOrder-route_order e c cs h tie) in
-          let same : e ≡ c = same_from_tie route_order IsKeyOrder-route_order e c tie in
-          rest ∙ ap (λ b. cond b (not (has (toggle c xs) e)) (has (toggle c xs) e)) none
-          ∙ one ∙ ap (λ b. cond b (not (has xs c)) (has xs e)) tie
-          ∙ ap (λ x. not (has xs x)) (sym same)
-          ∙ ap (λ b. cond b (not (has xs e)) (has xs e)) (sym (has-cons c cs e ∙ ap (λ b. cond b true (has cs e)) tie))
-      | false ↦ λ tie.
-          let kept : has (toggle c xs) e ≡ has xs e = one ∙ ap (λ b. cond b (not (has xs c)) (has xs e)) tie in
-          rest ∙ ap (λ b. cond (has cs e) (not b) b) kept
-          ∙ ap (λ b. cond b (not (has xs e)) (has xs e)) (sym (has-cons c cs e ∙ ap (λ b. cond b true (has cs e)) tie))
-    ] refl
+-- what one list has of another's lack isn't lacked the other way round
+apart_one : (x y : Bool) → (x && not y) ≡ true → (y && not x) ≡ false
+apart_one true true h = absurd cc
+apart_one true false h = refl
+apart_one false y h = absurd cc
+
+pub minus-apart : (xs ys : List RouteEntry) → IsRising route_order itself xs → IsRising route_order itself ys → AreApart (minus xs ys) (minus ys xs)
+minus-apart xs ys f g = record {
+  comes_rise = IsRising-minus xs ys f;
+  goes_rise = IsRising-minus ys xs g;
+  apart = λ e h. has-minus ys xs e ∙ apart_one (has xs e) (has ys e) (sym (has-minus xs ys e) ∙ h);
+}
 
 -- what is among the named and in one table alone, for one entry
 told : (n t u : Bool) → (n ≡ false → t ≡ u) → ((n && u) && not (n && t)) ≡ (u && not t)
@@ -130,15 +123,11 @@ module _ (named : List Key) (old new before after : List RouteEntry) (was : IsRi
       (λ e. has-minus before after e ∙ (λ i. of_old e i && not (of_new e i)) ∙ told (is_among named (key_of e)) (has new e) (has old e) (λ n. sym (others e n)) ∙ sym (has-minus old new e))
 
   -- and makes one of the other
-  pub table_is : toggle_each (table route_order itself (minus after before ++ minus before after)) old ≡ new
-  table_is =
-      let comes = minus after before in
-      let goes = minus before after in
-      let changes = table route_order itself (comes ++ goes) in
-      let rising = IsRising-table route_order itself IsKeyOrder-route_order (comes ++ goes) in
-      same_has (toggle_each changes old) new (IsRising-toggle_each changes old was) is
+  pub table_is : (changed : List RouteEntry) → IsSwitched (minus after before) (minus before after) old changed → changed ≡ new
+  table_is changed switched =
+      same_has changed new switched.rising is
       (λ e.
         let n = is_among named (key_of e) in
-        let among : has changes e ≡ (((n && has new e) && not (n && has old e)) || ((n && has old e) && not (n && has new e))) =
-            has-table (comes ++ goes) e ∙ has-append comes goes e ∙ (λ i. has-minus after before e i || has-minus before after e i) ∙ (λ i. (of_new e i && not (of_old e i)) || (of_old e i && not (of_new e i))) in
-        has-toggle_each changes old e rising ∙ ap (λ b. cond b (not (has old e)) (has old e)) among ∙ settled n (has old e) (has new e) (others e))
+        let among : (has (minus after before) e || has (minus before after) e) ≡ (((n && has new e) && not (n && has old e)) || ((n && has old e) && not (n && has new e))) =
+            (λ i. has-minus after before e i || has-minus before after e i) ∙ (λ i. (of_new e i && not (of_old e i)) || (of_old e i && not (of_new e i))) in
+        switched.each e ∙ ap (λ b. cond b (not (has old e)) (has old e)) among ∙ settled n (has old e) (has new e) (others e))

@@ -12,6 +12,8 @@ pub mod Covering
 pub mod Naming
 pub mod Near
 pub mod Changes
+pub mod Writing
+pub mod Switching
 pub mod Following
 pub mod Renewing
 pub mod Logs

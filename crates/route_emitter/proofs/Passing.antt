@@ -56,7 +56,7 @@ IsRising-drop (suc n) (x ∷ xs) h = IsRising-drop n xs (IsRising-tail route_ord
 toggle-there : (e : RouteEntry) (xs : List RouteEntry) → has xs e ≡ true → toggle e xs ≡ without_row route_order itself e xs
 toggle-there e xs is = ap (λ b. cond b (without_row route_order itself e xs) (put_row route_order itself e xs)) is
 
-toggle-lacking : (e : RouteEntry) (xs : List RouteEntry) → has xs e ≡ false → toggle e xs ≡ put_row route_order itself e xs
+pub toggle-lacking : (e : RouteEntry) (xs : List RouteEntry) → has xs e ≡ false → toggle e xs ≡ put_row route_order itself e xs
 toggle-lacking e xs is = ap (λ b. cond b (without_row route_order itself e xs) (put_row route_order itself e xs)) is
 
 -- an entry that a search found, or for which it found a place

@@ -11,7 +11,7 @@ use Rattle.bbs_model.specs.declared.event.Event.{Event}
 use Rattle.std.specs.List.{flat_map}
 use Rattle.route_emitter.specs.Entries.{has, itself, minus, route_order}
 use Rattle.route_emitter.specs.Keeping.{desired_after, running_after}
-use Rattle.route_emitter.specs.Near.{KeepsOthers, entries_at, entries_of, is_among, key_of, toggle_each}
+use Rattle.route_emitter.specs.Near.{IsSwitched, KeepsOthers, entries_at, entries_of, is_among, key_of}
 use Rattle.route_emitter.specs.Routes.{routes_in}
 use Rattle.route_emitter.specs.declared.entry.RouteEntry.{RouteEntry}
 use Rattle.route_emitter.proofs.Changes.{comes_is, goes_is, table_is}
@@ -49,8 +49,10 @@ module _ (named : List Key) (es : List Event) (ds : List Desired) (rs : List Act
       goes_is named old (routes_in (desired_after es ds) (running_after es rs)) (entries_of ds rs named) (entries_of (desired_after es ds) (running_after es rs) named)
       old-rises (routes-rise (desired_after es ds) (running_after es rs)) (entries-rise ds rs named) (entries-rise (desired_after es ds) (running_after es rs) named) of_old of_new others
 
-  pub renewed : toggle_each (table route_order itself (minus (entries_of (desired_after es ds) (running_after es rs) named) (entries_of ds rs named) ++ minus (entries_of ds rs named) (entries_of (desired_after es ds) (running_after es rs) named))) old
-      ≡ routes_in (desired_after es ds) (running_after es rs)
-  renewed =
+  pub renewed : (changed : List RouteEntry)
+      → IsSwitched (minus (entries_of (desired_after es ds) (running_after es rs) named) (entries_of ds rs named)) (minus (entries_of ds rs named) (entries_of (desired_after es ds) (running_after es rs) named)) old changed
+      → changed ≡ routes_in (desired_after es ds) (running_after es rs)
+  renewed changed switched =
       table_is named old (routes_in (desired_after es ds) (running_after es rs)) (entries_of ds rs named) (entries_of (desired_after es ds) (running_after es rs) named)
       old-rises (routes-rise (desired_after es ds) (running_after es rs)) (entries-rise ds rs named) (entries-rise (desired_after es ds) (running_after es rs) named) of_old of_new others
+      changed switched

@@ -1,8 +1,9 @@
 -- What events can change of the routes: the entries of the instances that they name, and no others.
-use Rattle.std.specs.Prelude.{◌≡◌, ℕ, ◌<◌, ◌^◌, Bool, true, false, ◌&&◌, ◌||◌, List, [], ◌∷◌, ◌++◌, filter, Option, Some, None, is_some, IfSome, option_to_list, if◌then◌else◌}
+use Rattle.std.specs.Prelude.{◌≡◌, ℕ, ◌+◌, ◌<◌, ◌^◌, Bool, true, false, not, ◌&&◌, ◌||◌, List, [], ◌∷◌, ◌++◌, filter, take, drop, Option, Some, None, is_some, IfSome, option_to_list, if◌then◌else◌}
 use Rattle.std.specs.BTreeMap.Range.{range_contains}
 use Rattle.std.specs.List.{All, flat_map}
 use Rattle.std.specs.Option.{option_and_then}
+use Rattle.std.specs.declared.cmp.Ordering.TheVariants.{Less}
 use Rattle.std.specs.declared.ops.Bound.TheVariants.{Included}
 use Rattle.diego_names.specs.Key.{key_order}
 use Rattle.diego_names.specs.declared.key.Key.{Key}
@@ -11,7 +12,7 @@ use Rattle.lrp_records.specs.declared.actual.Actual.{Actual}
 use Rattle.lrp_records.specs.declared.desired.Desired.{Desired}
 use Rattle.lrp_records.specs.declared.presence.Presence.{Presence}
 use Rattle.lrp_records.specs.declared.presence.Presence.TheVariants.{Ordinary, Evacuating, Suspect}
-use Rattle.row_tables.specs.Table.{find_row, put_row, table, without_row}
+use Rattle.row_tables.specs.Table.{find_row, IsRising, put_row, table, without_row}
 use Rattle.bbs_model.specs.declared.event.Change.{Change}
 use Rattle.bbs_model.specs.declared.event.Event.{Event}
 use Rattle.bbs_model.specs.declared.event.Row.{Row}
@@ -130,3 +131,25 @@ toggle entry entries = if has entries entry then without_row route_order itself 
 abbrev pub toggle_each : List RouteEntry → List RouteEntry → List RouteEntry
 toggle_each [] entries = entries
 toggle_each (e ∷ es) entries = toggle_each es (toggle e entries)
+
+-- the entry is above all before that place, and below all behind it
+pub record IsBetween (entry : RouteEntry) (entries : List RouteEntry) (at : ℕ) : Type 0 where
+  pub above : All (λ e. route_order e entry ≡ Less) (take at entries)
+  pub below : All (λ e. route_order entry e ≡ Less) (drop (at + 1) entries)
+
+-- each old entry out and a new one in, pair by pair
+abbrev pub exchange_each : List RouteEntry → List RouteEntry → List RouteEntry → List RouteEntry
+exchange_each [] new entries = entries
+exchange_each (o ∷ os) [] entries = entries
+exchange_each (o ∷ os) (n ∷ ns) entries = exchange_each os ns (toggle n (toggle o entries))
+
+-- both lists are sorted, and have no entry in common
+pub record AreApart (comes goes : List RouteEntry) : Type 0 where
+  pub comes_rise : IsRising route_order itself comes
+  pub goes_rise : IsRising route_order itself goes
+  pub apart : (e : RouteEntry) → has comes e ≡ true → has goes e ≡ false
+
+-- sorted entries of which each that comes or goes is in or out other than before
+pub record IsSwitched (comes goes old new : List RouteEntry) : Type 0 where
+  pub rising : IsRising route_order itself new
+  pub each : (e : RouteEntry) → has new e ≡ (if has comes e || has goes e then not (has old e) else has old e)

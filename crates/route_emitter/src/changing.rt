@@ -2,10 +2,11 @@
 ghost use Rattle.std.specs.Prelude.{◌≡◌, ◌+◌, ◌≤◌, ◌<◌, ◌++◌, [], ◌∷◌, List, insert, length, vec_capacity, vec_len};
 ghost use Rattle.row_tables.specs.Table.{IsRising, table};
 ghost use Rattle.route_emitter.specs.Entries.{itself, route_order};
-ghost use Rattle.route_emitter.specs.Near.{toggle, toggle_each};
+ghost use Rattle.route_emitter.specs.Near.{AreApart, IsSwitched, toggle, toggle_each};
 ghost use Rattle.route_emitter.specs.declared.entry.RouteEntry.{RouteEntry as AnEntry};
 
 use crate::entry::RouteEntry;
+use crate::exchanging::exchange_each;
 use crate::sorted::put_in_order;
 
 /// Up to so many entries are changed where the table stands. Each moves all those behind it, so that
@@ -126,7 +127,7 @@ fn replace(entries: &mut Vec<RouteEntry>, next: Vec<RouteEntry>, changes: &[Rout
 }
 
 // What comes and what goes, sorted.
-pub(crate) fn gather(
+fn gather(
     changes: &mut Vec<RouteEntry>,
     register: &[RouteEntry],
     unregister: &[RouteEntry],
@@ -142,7 +143,7 @@ pub(crate) fn gather(
 }
 
 // Takes those entries out that the table has, and puts the others in.
-pub(crate) fn change(entries: &mut Vec<RouteEntry>, next: Vec<RouteEntry>, changes: &[RouteEntry])
+fn toggle_all(entries: &mut Vec<RouteEntry>, next: Vec<RouteEntry>, changes: &[RouteEntry])
     requires rising { IsRising route_order itself entries.old.items }
     requires order { IsRising route_order itself changes.now }
     requires few { vec_len entries.old + FEW ≤ vec_capacity entries.old }
@@ -156,4 +157,30 @@ pub(crate) fn change(entries: &mut Vec<RouteEntry>, next: Vec<RouteEntry>, chang
     } else {
         replace(entries, next, changes);
     }
+}
+
+// Brings the entries in that come, and takes those out that go. As long as one that comes fits into the place
+// of one that goes, it is written there, and no other entry is moved.
+pub(crate) fn change(
+    entries: &mut Vec<RouteEntry>,
+    next: Vec<RouteEntry>,
+    changes: &mut Vec<RouteEntry>,
+    register: &[RouteEntry],
+    unregister: &[RouteEntry],
+)
+    requires rising { IsRising route_order itself entries.old.items }
+    requires lists { AreApart register.now unregister.now }
+    requires few { vec_len entries.old + FEW ≤ vec_capacity entries.old }
+    requires changes { (changes.old.items ≡ [])
+        × (length register.now + length unregister.now ≤ vec_capacity changes.old) }
+    requires empty { next.items ≡ [] }
+    requires many { FEW < length register.now + length unregister.now
+        → vec_len entries.old + (length register.now + length unregister.now) ≤ vec_capacity next }
+    ensures { IsSwitched register.now unregister.now entries.old.items entries.new.items }
+{
+    let done = exchange_each(entries, unregister, register);
+    let (_, come) = register.split_at(done);
+    let (_, gone) = unregister.split_at(done);
+    gather(changes, come, gone);
+    toggle_all(entries, next, changes.as_slice());
 }

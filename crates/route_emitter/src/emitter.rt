@@ -15,7 +15,7 @@ ghost use Rattle.route_emitter.specs.Plans.{IsPlan};
 ghost use Rattle.route_emitter.specs.Routes.{routes_in};
 ghost use Rattle.route_emitter.specs.Routing.{IsRoutingOf};
 
-use crate::changing::{FEW, change, gather};
+use crate::changing::{FEW, change};
 use crate::entry::{RouteChange, RouteEntry};
 use crate::instances::Instances;
 use crate::kept::Kept;
@@ -114,8 +114,13 @@ fn renew(
     kept.fill(named, &mut after);
     add_lacking(&mut register, after.as_slice(), before.as_slice());
     add_lacking(&mut unregister, before.as_slice(), after.as_slice());
-    gather(&mut changes, register.as_slice(), unregister.as_slice());
-    change(table, next, changes.as_slice());
+    change(
+        table,
+        next,
+        &mut changes,
+        register.as_slice(),
+        unregister.as_slice(),
+    );
     RouteChange {
         register: List::from(register),
         unregister: List::from(unregister),

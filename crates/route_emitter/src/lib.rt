@@ -4,6 +4,7 @@
 mod changing;
 mod emitter;
 mod entry;
+mod exchanging;
 mod instances;
 mod kept;
 mod laws;
