@@ -1,21 +1,17 @@
 -- What is made by tests that agree is the same, and how the definitions are looked up.
-use Rattle.std.proofs.Common.{◌≡◌, ℕ, ◌+◌, ◌==◌, Bool, true, false, ◌&&◌, ◌||◌, cond, not, List, [], ◌∷◌, ◌++◌, map, filter, length, Option, Some, None, is_some, refl, sym, ap, ◌∙◌}
-use Rattle.std.specs.Prelude.{nat_le, nat_lt, fold}
-use Rattle.std.specs.HashMap.{get}
-use Rattle.std.specs.HashSet.{contains}
-use Rattle.std.specs.List.{count_by, filter_map, find, flat_map, list_any, sum_by}
-use Rattle.std.specs.Option.{option_and_then, option_eq, option_map}
-use Rattle.std.proofs.lemmas.List.Folds.{fold-map, list_any-append}
+use Rattle.std.proofs.Common.{◌≡◌, ℕ, ◌+◌, Bool, true, false, ◌&&◌, ◌||◌, cond, List, [], ◌∷◌, map, filter, Option, None, refl, ap, ◌∙◌}
+use Rattle.std.specs.List.{count_by, filter_map, list_any}
+use Rattle.std.specs.Option.{option_and_then, option_map}
+use Rattle.std.proofs.lemmas.List.Folds.{fold-map}
 use Rattle.diego_names.specs.declared.key.Key.{Key}
-use Rattle.auctioneer.specs.Stands.{same_name}
 use Rattle.dump_lines.specs.declared.cell_state.CellState.{CellState}
 use Rattle.dump_lines.specs.declared.cell_state.Place.{Place}
 use Rattle.dump_lines.specs.declared.rows.ActualRow.{ActualRow}
-use Rattle.what_if.specs.Places.{place_by, silent_stay_by, stay_by, IsPlaces}
+use Rattle.what_if.specs.Places.{place_by, silent_stay_by, IsPlaces}
 use Rattle.what_if.specs.Sites.{has_crashed, has_started, has_told, is_crashed, place_in, silent_stay, stay_on}
 use Rattle.what_if.specs.Stays.{is_lost, same_key}
 use Rattle.what_if.specs.declared.silence.Places.{Places}
-use Rattle.what_if.proofs.Names.{keys_turned, names_turned, tags_turned}
+use Rattle.what_if.proofs.Names.{keys_turned, names_turned}
 
 -- tests, and what is made of each, that agree everywhere
 pub filter-same : {X : Type 0} (p q : X → Bool) → ((x : X) → p x ≡ q x) → (xs : List X) → filter p xs ≡ filter q xs

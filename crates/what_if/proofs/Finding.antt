@@ -1,5 +1,5 @@
 -- The first that is found, going back from behind it.
-use Rattle.std.proofs.Common.{◌≡◌, ℕ, ◌+◌, ◌-◌, ◌<◌, ◌≤◌, Bool, cond, List, length, drop, get_or, Option, Some, refl, sym, ap, ◌∙◌, arith}
+use Rattle.std.proofs.Common.{◌≡◌, ℕ, ◌+◌, ◌-◌, ◌<◌, ◌≤◌, Bool, cond, List, length, drop, get_or, Some, sym, ap, ◌∙◌, arith}
 use Rattle.std.specs.List.{find}
 use Rattle.auctioneer.specs.Stands.{same_name}
 use Rattle.dump_lines.specs.declared.cell_state.Place.{Place}

@@ -1,5 +1,5 @@
 -- The states of cells by their places in the order of names.
-use Rattle.std.proofs.Common.{◌≡◌, ℕ, zero, suc, ◌+◌, ◌<◌, ◌≤◌, cond, List, [], ◌∷◌, ◌++◌, length, map, drop, take, get_or, Option, Some, None, refl, sym, ap, subst, ◌∙◌, arith}
+use Rattle.std.proofs.Common.{◌≡◌, ℕ, suc, ◌+◌, ◌<◌, List, [], ◌∷◌, ◌++◌, length, map, take, get_or, Option, Some, refl, sym, ap, ◌∙◌, arith}
 use Rattle.std.specs.FinMap.Entries.{by_order}
 use Rattle.std.specs.List.{All, cons_option, filter_map, flat_map, slice_get}
 use Rattle.std.specs.declared.cmp.Ordering.{Ordering}

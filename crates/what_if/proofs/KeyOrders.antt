@@ -1,5 +1,5 @@
 -- The orders of tags and groups are those of keys.
-use Rattle.std.proofs.Common.{◌≡◌, List, map, Option, Some, None, refl, sym, ap}
+use Rattle.std.proofs.Common.{◌≡◌, List, map, Some, None, refl, sym, ap}
 use Rattle.std.specs.Cmp.{back_total, nat_cmp_total, on_total, then_total}
 use Rattle.std.specs.Cmp.Lexicographic.{options_total}
 use Rattle.std.specs.FinMap.{IsAntisymmetric, nat_cmp-IsAntisymmetric}

@@ -1,5 +1,5 @@
 -- The site of a dump that was read is one on which plans may be made.
-use Rattle.std.proofs.Common.{◌≡◌, ◌≢◌, ℕ, zero, suc, ◌+◌, ◌<◌, ◌≤◌, ◌^◌, Bool, true, ◌&&◌, leb, not, List, [], ◌∷◌, ◌++◌, length, map, filter, refl, sym, ap, subst, ◌∙◌, arith}
+use Rattle.std.proofs.Common.{◌≡◌, ◌≢◌, ℕ, zero, suc, ◌+◌, ◌<◌, ◌≤◌, ◌^◌, Bool, true, ◌&&◌, leb, not, List, [], ◌∷◌, ◌++◌, length, map, filter, refl, sym, ap, subst, arith}
 use Rattle.std.specs.List.{All, flat_map, sum_by}
 use Rattle.std.specs.List.Sorted.{IsPermutation, IsSortedByKey}
 use Rattle.std.proofs.lemmas.Bool.{and_parts, leb-true}
@@ -25,7 +25,6 @@ use Rattle.dump_reader.specs.Facts.{IsCellState, IsDump}
 use Rattle.dump_reader.specs.declared.dump.Dump.{Dump}
 use Rattle.what_if.specs.Sites.{answer_of, cells_of, desired_instance, each_below, instance_container, instance_there, instances_there, instances_wanted, numbered, site_of, task_container, task_job, wanted_of, IsSite}
 use Rattle.what_if.specs.Waiting.{instance_job}
-use Rattle.what_if.specs.declared.site.Site.{Site}
 use Rattle.what_if.specs.declared.site.Wanted.{Wanted}
 use Rattle.what_if.proofs.Differing.{All-table, Differ, differ-append, differ-by, differ-from_rising, sum-table}
 use Rattle.what_if.proofs.Few.{table_few}

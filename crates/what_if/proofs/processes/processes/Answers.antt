@@ -1,4 +1,4 @@
-use Rattle.std.proofs.Common.{ℕ, List, Option, map, ap, ◌∙◌}
+use Rattle.std.proofs.Common.{ℕ, List, map, ap, ◌∙◌}
 use Rattle.diego_names.specs.Order.{name_order}
 use Rattle.diego_names.proofs.Public.{IsKeyOrder-name_order}
 use Rattle.what_if.specs.declared.site.Wanted.{Wanted}

@@ -1,6 +1,4 @@
-use Rattle.std.proofs.Common.{List, ap, ◌∙◌}
-use Rattle.std.specs.List.{filter_map}
-use Rattle.dump_lines.specs.declared.cell_state.Place.{Place}
+use Rattle.std.proofs.Common.{◌∙◌}
 use Rattle.what_if.specs.Places.{silent_stay_by}
 use Rattle.what_if.specs.Sites.{silent_stay}
 use Rattle.what_if.proofs.Agreeing.{filter_map-same, silent_stays-by_places}

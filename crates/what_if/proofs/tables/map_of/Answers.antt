@@ -1,4 +1,4 @@
-use Rattle.std.proofs.Common.{◌≡◌, ◌-◌, ◌+◌, ◌<◌, ◌∙◌, ap, drop, get_or, length, sym, arith}
+use Rattle.std.proofs.Common.{◌≡◌, ◌-◌, ◌+◌, ◌<◌, ◌∙◌, ap, drop, length, sym, arith}
 use Rattle.std.proofs.lemmas.List.{drop_more}
 use Rattle.row_tables.specs.Table.{put_row, table}
 use Rattle.what_if.proofs.Rows.{put-from_insert}

@@ -1,4 +1,4 @@
-use Rattle.std.proofs.Common.{ℕ, List, map, ap, ◌∙◌}
+use Rattle.std.proofs.Common.{List, map, ap, ◌∙◌}
 use Rattle.diego_names.specs.Key.{key_order}
 use Rattle.diego_names.specs.declared.key.Key.{Key}
 use Rattle.diego_names.proofs.Public.{IsKeyOrder-key_order}

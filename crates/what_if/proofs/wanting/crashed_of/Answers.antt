@@ -1,4 +1,4 @@
-use Rattle.std.proofs.Common.{List, ap, ◌∙◌}
+use Rattle.std.proofs.Common.{ap, ◌∙◌}
 use Rattle.std.specs.List.{list_any}
 use Rattle.diego_names.specs.declared.key.Key.{Key}
 use Rattle.what_if.specs.Stays.{same_key}

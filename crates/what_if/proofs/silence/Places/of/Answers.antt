@@ -1,4 +1,4 @@
-use Rattle.std.proofs.Common.{◌≡◌, ℕ, Bool, cond, List, drop, Option, Some, ap, ◌∙◌, arith}
+use Rattle.std.proofs.Common.{cond, Option, Some, ap, ◌∙◌, arith}
 use Rattle.auctioneer.specs.Stands.{same_name}
 use Rattle.dump_lines.specs.declared.cell_state.Place.{Place}
 use Rattle.what_if.proofs.Finding.{place_back}
