@@ -26,7 +26,7 @@ one_more true n m h = omega arith
 one_more false n m h = omega arith
 
 -- a table has no more rows than there are
-table_few : {K X : Type 0} (R : K → K → Ordering) (key : X → K) → IsKeyOrder R → (xs : List X) → length (table R key xs) ≤ length xs
+pub table_few : {K X : Type 0} (R : K → K → Ordering) (key : X → K) → IsKeyOrder R → (xs : List X) → length (table R key xs) ≤ length xs
 table_few R key o [] = omega arith
 table_few R key o (x ∷ xs) =
     let rest = table_few R key o xs in

@@ -1,4 +1,10 @@
 mod Lists
+mod Names
+mod Differing
+mod KeyOrders
+mod Rows
+mod Finding
+mod Agreeing
 mod Open
 mod Holding
 mod Turns
@@ -7,3 +13,5 @@ mod Few
 mod Planned
 mod Parts
 mod VerdictLemmas
+mod SoundSites
+mod InOrder

@@ -1,14 +1,14 @@
 -- What filters leave of lists, element by element.
 use Rattle.std.proofs.Common.{◌≡◌, ◌≢◌, ℕ, suc, ◌+◌, ◌<◌, ◌≤◌, Bool, true, false, cond, ◌||◌, List, [], ◌∷◌, ◌++◌, length, map, filter, take, drop, get_or, refl, sym, ap, ◌∙◌, arith, add-one}
-use Rattle.std.specs.List.{AllPairs, flat_map}
+use Rattle.std.specs.List.{AllPairs, flat_map, fold, list_any}
 use Rattle.std.proofs.Math.Seq.{drop-cons}
 use Rattle.std.proofs.lemmas.Grind.{flat_map-append}
-use Rattle.std.proofs.lemmas.List.{append-nil, length-map, get_or-map}
+use Rattle.std.proofs.lemmas.List.{append-nil, length-map, get_or-map, map-append, take_more}
 use Rattle.std.proofs.lemmas.List.Concat.{flat_map-cons}
-use Rattle.std.proofs.lemmas.List.Elements.{filter_more}
+use Rattle.std.proofs.lemmas.List.Elements.{filter-append, filter_more}
 use Rattle.std.proofs.lemmas.List.Folds.{list_any_more}
 use Rattle.std.proofs.lemmas.List.Kept.{AllPairs-filter}
-use Rattle.std.proofs.lemmas.List.Sums.{count_by-le-length, length-filter}
+use Rattle.std.proofs.lemmas.List.Sums.{count_by-le-length, fold_push, length-filter}
 use Rattle.auctioneer.specs.Stands.{same_name}
 use Rattle.what_if.specs.Stays.{is_lost}
 
@@ -63,6 +63,32 @@ filter_differs f p xs h = unlike_keys f (filter p xs) (AllPairs-filter (λ a b. 
 -- a filter adds nothing
 pub shorter : {X : Type 0} (p : X → Bool) (xs : List X) → length (filter p xs) ≤ length xs
 shorter p xs = rw length-filter (count_by-le-length p xs)
+
+-- a test more
+pub any_next : {X : Type 0} (p : X → Bool) (xs : List X) (i : ℕ) (x : X) → i < length xs → x ≡ get_or xs i x → list_any p (take (i + 1) xs) ≡ (list_any p (take i xs) || p x)
+any_next {X} p xs i x lt e = list_any_more p xs i x lt ∙ ap (λ (g : X). list_any p (take i xs) || p g) (sym e)
+
+-- a list made of each, with one element more
+pub map_next : {X A : Type 0} (f : X → A) (xs : List X) (i : ℕ) (x : X) → i < length xs → x ≡ get_or xs i x → map f (take (i + 1) xs) ≡ map f (take i xs) ++ f x ∷ []
+map_next {X} f xs i x lt e =
+    ap (map f) (take_more xs i x lt) ∙ map-append f (take i xs) (get_or xs i x ∷ []) ∙ ap (λ (g : X). map f (take i xs) ++ f g ∷ []) (sym e)
+
+-- and one of what is made of each
+pub flat_next : {X A : Type 0} (f : X → List A) (xs : List X) (i : ℕ) (x : X) → i < length xs → x ≡ get_or xs i x → flat_map f (take (i + 1) xs) ≡ flat_map f (take i xs) ++ f x
+flat_next {X} f xs i x lt e =
+    ap (flat_map f) (take_more xs i x lt)
+    ∙ flat_map-append f (take i xs) (get_or xs i x ∷ [])
+    ∙ ap (λ (ys : List _). flat_map f (take i xs) ++ ys) (flat_map-cons f (get_or xs i x) [] ∙ append-nil (f (get_or xs i x)))
+    ∙ ap (λ (g : X). flat_map f (take i xs) ++ f g) (sym e)
+
+-- what a filter leaves of what is made of each
+pub filter_map_next : {X A : Type 0} (f : X → A) (p : A → Bool) (xs : List X) (i : ℕ) (x : X) → i < length xs → x ≡ get_or xs i x → filter p (map f (take (i + 1) xs)) ≡ filter p (map f (take i xs)) ++ cond (p (f x)) (f x ∷ []) []
+filter_map_next f p xs i x lt e = ap (filter p) (map_next f xs i x lt e) ∙ filter-append p (map f (take i xs)) (f x ∷ [])
+
+-- a fold, with one element more
+pub fold_next : {X A : Type 0} (f : A → X → A) (a : A) (xs : List X) (i : ℕ) (x : X) → i < length xs → x ≡ get_or xs i x → fold f a (take (i + 1) xs) ≡ f (fold f a (take i xs)) x
+fold_next {X} f a xs i x lt e =
+    ap (fold f a) (take_more xs i x lt) ∙ fold_push f a (take i xs) (get_or xs i x) ∙ ap (f (fold f a (take i xs))) (sym e)
 
 -- a name more among those that are lost
 pub lost_next : (names : List (List ℕ)) (i : ℕ) (x : List ℕ) → i < length names → x ≡ get_or names i x → (q : List ℕ) → is_lost (take (i + 1) names) q ≡ (is_lost (take i names) q || same_name x q)

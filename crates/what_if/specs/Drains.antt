@@ -1,6 +1,6 @@
 -- The site after a step of a drain.
-use Rattle.std.specs.Prelude.{ℕ, ◌+◌, Bool, false, List, [], ◌++◌, map, filter, fold, length, if◌then◌else◌}
-use Rattle.std.specs.List.{list_any, zip}
+use Rattle.std.specs.Prelude.{ℕ, ◌+◌, ◌-◌, ◌≤◌, Bool, false, List, [], ◌++◌, map, filter, fold, length, min, if◌then◌else◌}
+use Rattle.std.specs.List.{All, list_any, zip}
 use Rattle.cell_records.specs.declared.answer.Answer.{Answer}
 use Rattle.cell_records.specs.declared.container.Container.{Container}
 use Rattle.cell_records.specs.declared.container_state.ContainerState.TheVariants.{Running}
@@ -11,9 +11,21 @@ use Rattle.auctioneer.specs.Stands.{less, same_name}
 use Rattle.auctioneer.specs.declared.placement.Placement.{Placement}
 use Rattle.auctioneer.specs.declared.placement.Placement.TheVariants.{On, NoRoom}
 use Rattle.what_if.specs.Plans.{jobs_of_loss, plan}
-use Rattle.what_if.specs.Sites.{numbered}
 use Rattle.what_if.specs.Stays.{is_lost}
 use Rattle.what_if.specs.declared.site.Site.{Site}
+
+-- a cell takes no more containers than its totals leave beside those that it has
+abbrev pub levelled_cell : Answer → Answer
+levelled_cell c =
+    record c { free = record c.free { containers = min c.free.containers (c.totals.containers - length c.containers) } }
+
+-- the site with all its cells so
+abbrev pub levelled : Site → Site
+levelled site = record site { cells = map levelled_cell site.cells }
+
+-- no cell takes more containers than its totals leave beside those that it has
+abbrev pub IsLevel : Site → Type 0
+IsLevel site = All (λ c. length c.containers + c.free.containers ≤ c.totals.containers) site.cells
 
 -- whether the placement is on that cell
 abbrev pub is_on : List ℕ → Placement → Bool
@@ -24,10 +36,10 @@ is_on cell (NoRoom job) = false
 abbrev pub jobs_on : List ℕ → List Job → List Placement → List Job
 jobs_on cell jobs placements = map (λ p. p.0) (filter (λ p. is_on cell p.1) (zip jobs placements))
 
--- a job as a container that runs
-abbrev pub job_container : ℕ → Job → Container
-job_container number j = record {
-  instance = record { epoch = 0; number = number };
+-- a job as a container that runs; no plan reads numbers, so it has none
+abbrev pub job_container : Job → Container
+job_container j = record {
+  instance = record { epoch = 0; number = 0 };
   job = j.job;
   memory = j.memory;
   disk = j.disk;
@@ -38,8 +50,7 @@ job_container number j = record {
 abbrev pub with_jobs : List Job → Answer → Answer
 with_jobs jobs c = record c {
   free = fold less c.free jobs;
-  last = c.last + length jobs;
-  containers = c.containers ++ numbered job_container (c.last + 1) jobs;
+  containers = c.containers ++ map job_container jobs;
 }
 
 -- the cell as it comes back: empty, and not being emptied

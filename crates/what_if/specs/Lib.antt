@@ -1,9 +1,12 @@
 pub mod Stays
 pub mod Waiting
 pub mod Sites
+pub mod Places
+pub mod Marks
 pub mod Verdicts
 pub mod Plans
 pub mod Holders
+pub mod Scenes
 pub mod Placed
 pub mod Sums
 pub mod Tags

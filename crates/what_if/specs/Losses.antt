@@ -68,9 +68,13 @@ is_dark site lost process =
 abbrev pub dark_of : Site → List (List ℕ) → List (List ℕ)
 dark_of site lost = filter (is_dark site lost) (map process_of (processes site))
 
+-- whether two instances of the process or more are wanted
+abbrev pub is_of_many : List Wanted → List ℕ → Bool
+is_of_many wanted process = nat_le 2 (times process (map process_of wanted))
+
 -- those of them of which two instances or more are wanted
 abbrev pub dark_of_many : Site → List (List ℕ) → List (List ℕ)
-dark_of_many site lost = filter (λ p. nat_le 2 (times p (map process_of site.wanted))) (dark_of site lost)
+dark_of_many site lost = filter (is_of_many site.wanted) (dark_of site lost)
 
 -- the processes that are uneven once all that waits is placed
 abbrev pub uneven_then : Site → List (List ℕ) → List Uneven

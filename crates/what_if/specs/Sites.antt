@@ -8,6 +8,7 @@ use Rattle.diego_names.specs.Order.{name_order}
 use Rattle.row_tables.specs.Table.{table}
 use Rattle.cell_records.specs.declared.answer.Answer.{Answer}
 use Rattle.cell_records.specs.declared.container.Container.{Container}
+use Rattle.cell_records.specs.declared.container_state.ContainerState.{ContainerState}
 use Rattle.cell_records.specs.declared.container_state.ContainerState.TheVariants.{Running, Completed}
 use Rattle.cell_records.specs.declared.job.Job.{Job}
 use Rattle.cell_records.specs.declared.job_name.JobName.TheVariants.{Lrp, Task}
@@ -33,6 +34,10 @@ use Rattle.what_if.specs.declared.site.Wanted.{Wanted}
 abbrev pub key_of : InstanceOnCell → Key
 key_of i = record { process = i.process; index = i.index }
 
+-- how far the container of an instance has come
+abbrev pub state_of : Bool → ContainerState
+state_of ended = if ended then Completed false else Running
+
 -- an instance as a container; a cell's containers have epoch 0, and numbers from 1
 abbrev pub instance_container : ℕ → InstanceOnCell → Container
 instance_container number i = record {
@@ -40,7 +45,7 @@ instance_container number i = record {
   job = Lrp (key_of i);
   memory = i.memory;
   disk = i.disk;
-  state = if i.ended then Completed false else Running;
+  state = state_of i.ended;
 }
 
 -- a task as a container

@@ -1,5 +1,5 @@
 -- Amounts added up.
-use Rattle.std.specs.Prelude.{max, List, fold, sum_by}
+use Rattle.std.specs.Prelude.{◌+◌, max, List, fold, sum_by}
 use Rattle.cell_records.specs.declared.amounts.Amounts.{Amounts}
 use Rattle.room_facts.specs.declared.sums.Sums.{Sums}
 
@@ -13,6 +13,22 @@ sums_of amounts = record {
   memory = sum_by (λ a. a.memory) amounts;
   disk = sum_by (λ a. a.disk) amounts;
   containers = sum_by (λ a. a.containers) amounts;
+}
+
+-- a sum with these amounts more
+abbrev pub with_more : Sums → Amounts → Sums
+with_more s a = record {
+  memory = s.memory + a.memory;
+  disk = s.disk + a.disk;
+  containers = s.containers + a.containers;
+}
+
+-- of each amount the larger one
+abbrev pub larger : Amounts → Amounts → Amounts
+larger a b = record {
+  memory = max a.memory b.memory;
+  disk = max a.disk b.disk;
+  containers = max a.containers b.containers;
 }
 
 -- of each amount the most

@@ -70,12 +70,9 @@ fn add_if_open(
     Ok(())
 }
 
-// The cells that told their state and are open, as an auction takes them.
-pub(crate) fn open_cells(
-    alloc: Global,
-    site: &Site,
-    lost: &[Name],
-) -> Result<Vec<Answer>, OutOfMemory>
+/// The cells that told their state and are open once these are lost, as an auction takes them. It costs
+/// a copy of their containers.
+pub fn open_cells(alloc: Global, site: &Site, lost: &[Name]) -> Result<Vec<Answer>, OutOfMemory>
     requires { IsSite site.now }
     ensures value { IfOk result (λ cells. cells.items ≡ open_cells site.now lost.now) }
     ensures sound { IfOk result (λ cells. AreAnswers cells.items) }

@@ -2,7 +2,7 @@ use diego_names::Name;
 use std::cmp::Reverse;
 
 /// The cells of one zone and one tag. Groups are ordered by zone, then by tag with none first.
-#[derive(Clone, Copy, Debug, PartialEq, Eq, PartialOrd, Ord)]
+#[derive(Clone, Copy, Debug, PartialEq, Eq, PartialOrd, Ord, Hash)]
 pub struct Group {
     pub zone: Name,
     pub tag: Option<Name>,

@@ -4,7 +4,7 @@ ghost use Rattle.auctioneer.specs.Auction.{auction_from, placement_on, stands_wi
 ghost use Rattle.auctioneer.specs.Least.{best};
 ghost use Rattle.what_if.specs.Holders.{unplaced_by};
 ghost use Rattle.what_if.specs.Placed.{PlacesAll, PlacesOne};
-ghost use Rattle.what_if.specs.Plans.{is_left, without_jobs};
+ghost use Rattle.what_if.specs.Plans.{is_left, unplaced_at, without_jobs};
 
 use crate::stays::Holders;
 use crate::waiting::held_before;
@@ -41,24 +41,40 @@ pub(crate) struct Setting<'a> {
     pub(crate) holders: &'a Holders,
 }
 
-// Why the job has no room on the cells as its turn finds them.
-fn unplaced(setting: &Setting, turn: &[Stand], job: &Job) -> Unplaced
-    requires few { length setting.now.before.now ≤ 2 ^ 32 }
+/// Why the job has no room on the cells as its turn finds them, among these jobs and on these cells
+/// before the first of them. It costs a look at each cell and each job.
+pub fn unplaced_at(
+    waited: bool,
+    before: &[Stand],
+    jobs: &[Job],
+    turn: &[Stand],
+    job: &Job,
+) -> Unplaced
+    requires few { length before.now ≤ 2 ^ 32 }
     requires turn { length turn.now ≤ 2 ^ 32 }
-    ensures { result ≡ unplaced_by setting.now.holders.now setting.now.before.now
-        setting.now.jobs.now turn.now job.now }
+    ensures { result ≡ unplaced_at (λ j. waited) before.now jobs.now turn.now job.now }
 {
     Unplaced {
         job: job.job,
         memory: job.memory,
         disk: job.disk,
         tag: job.tag,
-        waited: held_before(setting.holders, &job.job).is_none(),
+        waited,
         reasons: reasons_of(job, turn),
         most_free: most_free(&job.tag, turn),
-        as_large: as_large(job, setting.jobs),
-        room_for: room_for(job, setting.before),
+        as_large: as_large(job, jobs),
+        room_for: room_for(job, before),
     }
+}
+
+fn unplaced(setting: &Setting, turn: &[Stand], job: &Job) -> Unplaced
+    requires few { length setting.now.before.now ≤ 2 ^ 32 }
+    requires turn { length turn.now ≤ 2 ^ 32 }
+    ensures { result ≡ unplaced_by setting.now.holders.now setting.now.before.now
+        setting.now.jobs.now turn.now job.now }
+{
+    let waited = held_before(setting.holders, &job.job).is_none();
+    unplaced_at(waited, setting.before, setting.jobs, turn, job)
 }
 
 // Whether the job found no room.

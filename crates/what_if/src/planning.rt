@@ -2,6 +2,7 @@
 ghost use Rattle.std.specs.Prelude.{◌≡◌, ℕ, ◌≤◌, ◌^◌, List, length, map, filter, is_some, IfOk};
 ghost use Rattle.auctioneer.specs.Asked.{AreJobs};
 ghost use Rattle.what_if.specs.Holders.{found_before, waits_by, IsHolders};
+ghost use Rattle.what_if.specs.Scenes.{IsScene};
 ghost use Rattle.what_if.specs.Plans.{planned};
 ghost use Rattle.what_if.specs.Sites.{IsSite};
 ghost use Rattle.what_if.specs.Stays.{stays};
@@ -25,6 +26,15 @@ fn holders_of(alloc: Global, site: &Site, lost: &[Name]) -> Result<Holders, OutO
 {
     let list = stays(alloc, site, lost)?;
     Holders::of(alloc, &list)
+}
+
+// A loss, with the cells that hold instances before it and with it.
+#[derive(Clone, Copy)]
+pub(crate) struct Scene<'a> {
+    pub(crate) site: &'a Site,
+    pub(crate) lost: &'a [Name],
+    pub(crate) before: &'a Holders,
+    pub(crate) after: &'a Holders,
 }
 
 // Those of the jobs that a cell held while nothing was lost.
@@ -83,26 +93,44 @@ fn plan_from(
     }
 }
 
-/// Where all that waits goes once these cells are lost.
-pub fn plan_of(alloc: Global, site: &Site, lost: &[Name]) -> Result<Plan, OutOfMemory>
-    requires { IsSite site.now }
-    ensures { IfOk result (λ plan. plan ≡ planned site.now lost.now) }
+// The plan of a loss.
+pub(crate) fn plan_in(alloc: Global, scene: &Scene) -> Result<Plan, OutOfMemory>
+    requires site { IsSite scene.now.site.now }
+    requires scene { IsScene scene.now }
+    ensures { IfOk result (λ plan. plan ≡ planned scene.now.site.now scene.now.lost.now) }
 {
-    let now = holders_of(alloc, site, &[])?;
-    let then = holders_of(alloc, site, lost)?;
-    let waiting = waiting_of(alloc, site, &then)?;
-    let displaced = held_jobs(alloc, &waiting, &now)?;
+    let waiting = waiting_of(alloc, scene.site, scene.after)?;
+    let displaced = held_jobs(alloc, &waiting, scene.before)?;
     let jobs = in_order(alloc, &waiting)?;
-    let cells = open_cells(alloc, site, lost)?;
+    let cells = open_cells(alloc, scene.site, scene.lost)?;
     let mut auction = Auction::new(alloc, &cells)?;
     let before = without_jobs(alloc, auction.stands())?;
     let setting = Setting {
         before: &before,
         jobs: &jobs,
-        holders: &now,
+        holders: scene.before,
     };
     let outcome = place_all(alloc, &mut auction, &setting)?;
-    let counting = held_jobs(alloc, outcome.left.items(), &now)?;
+    let counting = held_jobs(alloc, outcome.left.items(), scene.before)?;
     let verdict = verdict_of(&before, &jobs, &counting);
     Ok(plan_from(jobs, before, outcome, auction, &displaced, verdict))
+}
+
+/// Where all that waits goes once these cells are lost.
+///
+/// It costs an auction of what waits, a look-up for each instance that stands or is wanted, and for
+/// each job without room a look at each job and at each open cell.
+pub fn plan_of(alloc: Global, site: &Site, lost: &[Name]) -> Result<Plan, OutOfMemory>
+    requires { IsSite site.now }
+    ensures { IfOk result (λ plan. plan ≡ planned site.now lost.now) }
+{
+    let before = holders_of(alloc, site, &[])?;
+    let after = holders_of(alloc, site, lost)?;
+    let scene = Scene {
+        site,
+        lost,
+        before: &before,
+        after: &after,
+    };
+    plan_in(alloc, &scene)
 }

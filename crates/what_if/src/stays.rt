@@ -3,7 +3,14 @@ ghost use Rattle.std.specs.Prelude.{◌≡◌, ◌++◌, IfOk, OnOk, cond, [], n
 ghost use Rattle.std.specs.HashSet.{contains};
 ghost use Rattle.auctioneer.specs.Stands.{has_ended, same_name};
 ghost use Rattle.what_if.specs.Holders.{found, IsHolders};
-ghost use Rattle.what_if.specs.Stays.{instance_in, is_open, silent_stays, stay_at, stays, stays_on};
+ghost use Rattle.what_if.specs.Stays.{
+  instance_in,
+  is_open,
+  silent_stays,
+  stay_at,
+  stays,
+  stays_on,
+};
 
 use crate::cells::{is_open, set_of};
 use crate::site::{Site, Stay};

@@ -18,9 +18,9 @@ fn is_any_short(before: &[Stand], jobs: &[Job], left: &[Job]) -> bool
     left.iter().any(|job| is_short(before, jobs, job))
 }
 
-// Room where none of the jobs is left over. Short where that is shown of one of them: the cells are
-// as before the first job.
-pub(crate) fn verdict_of(before: &[Stand], jobs: &[Job], left: &[Job]) -> Verdict
+/// Room where none of the jobs is left over. Short where that is shown of one of them: the cells are as
+/// before the first job. It costs a look at each cell and each job for each job that is left over.
+pub fn verdict_of(before: &[Stand], jobs: &[Job], left: &[Job]) -> Verdict
     requires stands { length before.now ≤ 2 ^ 32 }
     requires jobs { length jobs.now ≤ 2 ^ 32 }
     ensures { result ≡ verdict_of before.now jobs.now left.now }
