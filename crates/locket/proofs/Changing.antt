@@ -1,30 +1,25 @@
 -- How a locket stands after a command was put, and what that did to its disk.
-use Rattle.std.proofs.Common.{◌≡◌, ◌⊎◌, inl, inr, ⊎_elim, ℕ, ◌+◌, ◌<◌, ◌≤◌, ◌^◌, Bool, true, false, Option, Some, None, Ok, List, [], ◌∷◌, ◌++◌, map, length, refl, sym, ap, subst, ◌∙◌, arith, if◌then◌else◌, length-append, append_assoc, append-nil}
+use Rattle.std.proofs.Common.{◌≡◌, inl, inr, ⊎_elim, ◌<◌, ◌^◌, Bool, true, false, Option, None, Ok, List, [], ◌∷◌, ◌++◌, length, sym, ap, subst, ◌∙◌, arith, if◌then◌else◌, length-append, append_assoc, append-nil}
 use Rattle.std.proofs.lemmas.List.{length-map}
-use Rattle.disk_trait.specs.Past.{Past, Image, Images}
+use Rattle.disk_trait.specs.Past.{Past, Image}
 use Rattle.disk_trait.specs.Steps.{Goes}
 use Rattle.disk_trait.proofs.Public.{goes_weaker}
 use Rattle.payload_log.specs.Adds.{AddsOne, PassesAdd}
 use Rattle.payload_log.specs.Entries.{entry_of, done_in, stored_in}
 use Rattle.payload_log.specs.Opened.{Opened, OpensBehind}
 use Rattle.payload_log.specs.View.{LogView, payloads_in}
-use Rattle.payload_log.specs.declared.entry.Entry.{Entry}
 use Rattle.payload_log.specs.declared.entry.Entry.TheVariants.{Done, Doubt}
 use Rattle.payload_log.proofs.Public.{done-append}
 use Rattle.locket.specs.Bytes.{FitsLock, lock_spelled}
 use Rattle.locket.specs.Calls.{LivesOn, PassesLock}
-use Rattle.locket.specs.Lives.{LockLog, IsCounted, unused, state_after, state_from, state_of, IsChange, AreChanges, IsLife, IsLawful, lived}
+use Rattle.locket.specs.Lives.{LockLog, IsCounted, unused, state_after, state_from, state_of, IsChange, IsLife, IsLawful, lived}
 use Rattle.locket.specs.Opening.{locks_of, commands_in, IsLocket}
-use Rattle.locket.specs.Steps.{most_changes, lock_step}
 use Rattle.locket.specs.View.{AreSpelled, IsSoundLocket}
 use Rattle.locket.specs.declared.command.LockCommand.{LockCommand}
 use Rattle.locket.specs.declared.state.LockState.{LockState}
-use Rattle.locket.specs.declared.reply.LockReply.{LockReply}
-use Rattle.locket.specs.declared.verdict.LockVerdict.TheVariants.{Changes}
 use Rattle.locket.proofs.Payloads.{locks_lived}
 use Rattle.locket.proofs.Keeping.{BeganAsLocks, behind_more, behind_log}
-use Rattle.locket.proofs.Living.{from-append, changes-append, changes-back, counted_from, counted_unused, count_from, lawful_changes, lawful_more, spelled_more}
-use Rattle.locket.proofs.Stepping.{is_changed, after_is}
+use Rattle.locket.proofs.Living.{from-append, changes-append, counted_from, counted_unused, count_from, lawful_changes, lawful_more, spelled_more}
 
 -- a log that began with a lock journal is one of a locket
 pub loaded_sound : {D : Type 0} (v : LogView D LockCommand) (start : Opened) (s : LockState) → v.start ≡ start → v.log ≡ [] → locks_of start.version start.area start.head start.payloads None ≡ Ok s → IsSoundLocket v s

@@ -1,15 +1,12 @@
 -- What a log of lock commands keeps, as lockets.
-use Rattle.std.proofs.Common.{◌≡◌, ◌⊎◌, inl, inr, ℕ, ◌+◌, ◌≤◌, None, Some, Ok, List, [], ◌∷◌, ◌++◌, map, take, slice_get, refl, sym, subst, ◌∙◌, append_assoc}
-use Rattle.std.specs.Option.{ForSome}
+use Rattle.std.proofs.Common.{◌≡◌, ◌⊎◌, inl, inr, ℕ, ◌+◌, None, Ok, List, [], ◌∷◌, ◌++◌, map, take, refl, sym, subst, append_assoc}
 use Rattle.std.proofs.lemmas.List.{map-append}
-use Rattle.disk_trait.specs.Past.{Past, Image, ImagesSince}
+use Rattle.disk_trait.specs.Past.{Past, Image}
 use Rattle.payload_log.specs.Entries.{done_in, stored_in}
 use Rattle.payload_log.specs.Kept.{KeptList, IsListed, ShowsDoubt}
 use Rattle.payload_log.specs.Opened.{Opened, OpensBehind}
-use Rattle.payload_log.specs.declared.entry.Entry.{Entry}
-use Rattle.payload_log.specs.declared.entry.Entry.TheVariants.{Done, Doubt}
 use Rattle.locket.specs.Bytes.{FitsLock, lock_spelled}
-use Rattle.locket.specs.Kept.{EndsInDoubt, IsLedTo, IsFoundLocket, KeptLocks}
+use Rattle.locket.specs.Kept.{IsFoundLocket, KeptLocks}
 use Rattle.locket.specs.Lives.{LockLog, state_from, state_of, IsChange, AreChanges, IsLawful, lived}
 use Rattle.locket.specs.Opening.{locks_of, commands_in, IsLocket}
 use Rattle.locket.specs.View.{AreSpelled}

@@ -1,16 +1,14 @@
 -- Commands that change the state, one after another.
-use Rattle.std.proofs.Common.{◌≡◌, ℕ, zero, suc, ◌+◌, ◌<◌, ◌≤◌, Bool, true, false, List, [], ◌∷◌, ◌++◌, length, take, slice_get, Some, refl, sym, ap, subst, ◌∙◌, arith, length-append}
+use Rattle.std.proofs.Common.{◌≡◌, ℕ, zero, suc, ◌+◌, Bool, true, false, List, [], ◌∷◌, ◌++◌, length, take, slice_get, Some, refl, sym, subst, arith}
 use Rattle.payload_log.specs.Entries.{entry_of, done_in}
-use Rattle.payload_log.specs.declared.entry.Entry.{Entry}
 use Rattle.payload_log.specs.declared.entry.Entry.TheVariants.{Done, Doubt}
-use Rattle.locket.specs.Laws.{NeverFalls, LivesNeverFall}
-use Rattle.locket.specs.Lives.{LockLog, unused, IsCounted, state_after, state_from, state_of, IsChange, AreChanges, IsLife, IsLawful, lived}
-use Rattle.locket.specs.Steps.{lock_step, most_changes}
+use Rattle.locket.specs.Laws.{LivesNeverFall}
+use Rattle.locket.specs.Lives.{LockLog, unused, IsCounted, state_after, state_from, IsChange, AreChanges, IsLawful}
 use Rattle.locket.specs.View.{AreSpelled}
 use Rattle.locket.specs.Bytes.{FitsLock}
 use Rattle.locket.specs.declared.command.LockCommand.{LockCommand}
 use Rattle.locket.specs.declared.state.LockState.{LockState}
-use Rattle.locket.proofs.Stepping.{IsAfter, IsVerdict, change_is, after_is, after_step}
+use Rattle.locket.proofs.Stepping.{IsAfter, change_is, after_is, after_step}
 
 pub from-append : (s : LockState) (xs ys : List LockCommand) → state_from s (xs ++ ys) ≡ state_from (state_from s xs) ys
 from-append s [] ys = refl

@@ -7,9 +7,7 @@ use Rattle.bbs_journal.specs.Outcomes.{IsHeadless, IsOpened}
 use Rattle.bbs_journal.specs.declared.load_fault.LoadFault.{LoadFault}
 use Rattle.bbs_journal.proofs.Public.{opens_once, opens_or_not}
 use Rattle.locket.specs.Laws.{LocketOpensInOneWay, LocketOrRefused, LocketRefusedOnce, IsSomeLocket, IsNoLocket, LocketOpensOrIsRefused, LocketsHaveLives}
-use Rattle.locket.specs.Lives.{state_of}
 use Rattle.locket.specs.Opening.{locks_of, commands_in, IsLocket, IsDamagedLocket}
-use Rattle.locket.specs.declared.command.LockCommand.{LockCommand}
 use Rattle.locket.specs.declared.state.LockState.{LockState}
 use Rattle.locket.proofs.Payloads.{locks_unbroken, locks_lived, locket_life}
 

@@ -1,6 +1,5 @@
 -- The payloads of a lock journal, followed one after another.
-use Rattle.std.proofs.Common.{◌≡◌, ℕ, ◌+◌, ◌<◌, ◌≤◌, Bool, true, false, List, [], ◌∷◌, ◌++◌, map, length, Option, Some, None, Result, Ok, Err, IfSome, refl, sym, ap, subst, ◌∙◌, arith, if◌then◌else◌, append_assoc}
-use Rattle.std.proofs.lemmas.List.{map-append}
+use Rattle.std.proofs.Common.{◌≡◌, ℕ, ◌+◌, Bool, true, false, List, [], ◌∷◌, ◌++◌, map, length, Option, Some, None, Result, Ok, Err, IfSome, refl, sym, ap, subst, ◌∙◌, arith, if◌then◌else◌}
 use Rattle.disk_trait.specs.Past.{Image}
 use Rattle.disk_trait.specs.declared.area.Area.{Area}
 use Rattle.bbs_journal.specs.Opening.{IsOpening}
@@ -8,7 +7,7 @@ use Rattle.bbs_journal.specs.declared.load_fault.LoadFault.{LoadFault}
 use Rattle.bbs_journal.specs.declared.load_fault.LoadFault.TheVariants.{Damaged}
 use Rattle.locket.specs.Bytes.{lock_spelled, lock_reading}
 use Rattle.locket.specs.Lives.{unused, is_change, left_by, IsCounted, state_after, state_from, state_of, IsChange, AreChanges, IsLife}
-use Rattle.locket.specs.Opening.{is_prepared, next_of, after_read, after_payload, or_damaged, unless_broken, followed, locks_of, cons_read, commands_in, IsLocket}
+use Rattle.locket.specs.Opening.{is_prepared, next_of, after_read, after_payload, or_damaged, followed, locks_of, cons_read, commands_in, IsLocket}
 use Rattle.locket.specs.Steps.{lock_step}
 use Rattle.locket.specs.declared.command.LockCommand.{LockCommand}
 use Rattle.locket.specs.declared.state.LockState.{LockState}

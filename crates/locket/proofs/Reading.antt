@@ -1,15 +1,13 @@
 -- A lock command that is spelled is read back, and what is read is spelled so.
-use Rattle.std.proofs.Common.{◌≡◌, ℕ, ◌+◌, ◌<◌, ◌≤◌, ◌^◌, Bool, true, false, List, [], ◌∷◌, ◌++◌, length, take, drop, Option, Some, None, Result, Ok, Err, refl, sym, ap, subst, ◌∙◌, arith, ◌==◌, if◌then◌else◌, eq-eqb, length-append, append-nil}
+use Rattle.std.proofs.Common.{◌≡◌, ℕ, ◌+◌, ◌<◌, ◌≤◌, ◌^◌, Bool, true, false, List, [], ◌∷◌, ◌++◌, length, Some, None, Result, Ok, Err, refl, sym, ap, subst, ◌∙◌, arith, ◌==◌, if◌then◌else◌, eq-eqb, length-append, append-nil}
 use borrow.Author.Tests.{eqb-true}
 use Rattle.std.specs.Int.{w8, w32, w64}
-use Rattle.diego_names.specs.Name.{IsName}
 use Rattle.wire_fields.specs.Field.{field_number, field_name}
 use Rattle.wire_fields.specs.Laws.{IsBytes, TextStandsAt, IsField}
-use Rattle.wire_fields.specs.Reading.{◌>>=◌, number_at, name_at}
+use Rattle.wire_fields.specs.Reading.{◌>>=◌, number_at}
 use Rattle.wire_fields.specs.declared.fault.FieldFault.{FieldFault}
 use Rattle.wire_fields.specs.declared.fault.FieldFault.TheVariants.{BadField}
 use Rattle.wire_fields.proofs.Public.{ok_is, bind_ok, StandsAt-append, StandsAt-front, StandsAt-back, IsField-name, IsField-u8, IsField-u32, IsField-u64, IsField-pair, length-field_u8, length-field_u32, length-field_u64, length-field_name}
-use Rattle.crash_backoff.specs.declared.moment.Moment.{Moment}
 use Rattle.locket.specs.Bytes.{kind_of, fields_of, lock_spelled, FitsOp, FitsLock, acquire_at, term_at, renew_at, release_at, op_at, command_at, whole, lock_reading}
 use Rattle.locket.specs.declared.command.LockCommand.{LockCommand}
 use Rattle.locket.specs.declared.command.LockOp.{LockOp}

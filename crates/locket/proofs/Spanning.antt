@@ -1,11 +1,11 @@
 -- The leases of a life are apart, and those that were answered.
-use Rattle.std.proofs.Common.{◌≡◌, ◌⊎◌, inl, inr, ⊎_elim, ℕ, zero, suc, ◌+◌, ◌<◌, ◌≤◌, Bool, true, false, List, [], ◌∷◌, ◌++◌, length, slice_get, Option, Some, None, refl, sym, ap, subst, ◌∙◌, arith}
+use Rattle.std.proofs.Common.{◌≡◌, ◌⊎◌, inl, inr, ⊎_elim, ℕ, zero, suc, ◌+◌, ◌<◌, ◌≤◌, List, [], ◌∷◌, ◌++◌, slice_get, Option, Some, None, refl, sym, ap, subst, ◌∙◌, arith}
 use Rattle.std.proofs.lemmas.Bool.{cases_lt}
 use Rattle.crash_backoff.specs.declared.moment.Moment.{Moment}
-use Rattle.locket.specs.Laws.{LeasesAreApart, FencesComeOnce, OneIsHeld, GivesLease, AnswersAreLeases, IsLastLease, HeldIsTheLast, StaysLease, LeasesStay}
-use Rattle.locket.specs.Lives.{unused, state_after, state_from, state_of, IsChange, AreChanges}
+use Rattle.locket.specs.Laws.{LeasesAreApart, FencesComeOnce, OneIsHeld, GivesLease, AnswersAreLeases, HeldIsTheLast, LeasesStay}
+use Rattle.locket.specs.Lives.{unused, state_after, state_from, state_of, AreChanges}
 use Rattle.locket.specs.Spans.{Span, IsApart, IsSameLease, end_behind, spans_behind, span_of, spans}
-use Rattle.locket.specs.Steps.{changed, next_lease, ending, lock_step}
+use Rattle.locket.specs.Steps.{changed, next_lease, ending}
 use Rattle.locket.specs.declared.command.LockCommand.{LockCommand}
 use Rattle.locket.specs.declared.command.LockOp.{LockOp}
 use Rattle.locket.specs.declared.command.LockOp.TheVariants.{Acquire, Renew, Release}
@@ -13,9 +13,8 @@ use Rattle.locket.specs.declared.reply.LockReply.{LockReply}
 use Rattle.locket.specs.declared.reply.LockReply.TheVariants as reply
 use Rattle.locket.specs.declared.state.Lease.{Lease}
 use Rattle.locket.specs.declared.state.LockState.{LockState}
-use Rattle.locket.specs.declared.verdict.LockVerdict.TheVariants.{Changes}
 use Rattle.locket.proofs.Living.{after_change}
-use Rattle.locket.proofs.Stepping.{HasRunOut, Happened, IsVerdict, IsStep, stepped, change_is, after_is}
+use Rattle.locket.proofs.Stepping.{HasRunOut, Happened, stepped, change_is, after_is}
 
 -- ---- an operation at the front
 

@@ -1,5 +1,5 @@
 -- What a command does that changes the state.
-use Rattle.std.proofs.Common.{◌≡◌, ◌≢◌, ℕ, ◌+◌, ◌<◌, ◌≤◌, Bool, true, false, Option, Some, None, List, refl, sym, ap, ◌∙◌, arith, nat_lt, nat_le, ◌==◌, ◌&&◌, if◌then◌else◌, ltb-false, leb-false}
+use Rattle.std.proofs.Common.{◌≡◌, ◌≢◌, ℕ, ◌+◌, ◌<◌, ◌≤◌, Bool, true, false, Option, Some, None, List, refl, ap, ◌∙◌, arith, nat_lt, nat_le, ◌==◌, ◌&&◌, if◌then◌else◌, ltb-false, leb-false}
 use borrow.Author.Tests.{eqb-false}
 use Rattle.crash_backoff.specs.declared.moment.Moment.{Moment}
 use Rattle.locket.specs.Lives.{is_change, left_by, state_after, IsChange}
@@ -7,7 +7,7 @@ use Rattle.locket.specs.Steps.{most_changes, changed, refusing, unless_full, nex
 use Rattle.locket.specs.declared.command.LockCommand.{LockCommand}
 use Rattle.locket.specs.declared.command.LockOp.{LockOp}
 use Rattle.locket.specs.declared.command.LockOp.TheVariants.{Acquire, Renew, Release}
-use Rattle.locket.specs.declared.reply.LockRefusal.TheVariants.{Past, Held, NotHolder, Expired, LockFull}
+use Rattle.locket.specs.declared.reply.LockRefusal.TheVariants.{Past, Held, Expired, LockFull}
 use Rattle.locket.specs.declared.reply.LockReply.{LockReply}
 use Rattle.locket.specs.declared.reply.LockReply.TheVariants as reply
 use Rattle.locket.specs.declared.state.Lease.{Lease}

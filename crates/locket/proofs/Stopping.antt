@@ -1,17 +1,13 @@
 -- The lives that stops leave go on from what was acknowledged.
-use Rattle.std.proofs.Common.{◌≡◌, ◌⊎◌, inl, inr, ℕ, zero, suc, ◌+◌, ◌-◌, ◌<◌, ◌≤◌, List, [], ◌∷◌, ◌++◌, length, take, drop, slice_get, Some, refl, sym, ap, subst, ◌∙◌, arith, append_assoc, add-one}
-use Rattle.disk_trait.specs.Past.{Past, Image, ImagesSince}
+use Rattle.std.proofs.Common.{◌≡◌, ◌⊎◌, inl, inr, ℕ, zero, suc, ◌+◌, ◌≤◌, List, [], ◌∷◌, ◌++◌, length, take, slice_get, Some, refl, sym, ap, subst, ◌∙◌, arith, append_assoc, add-one}
 use Rattle.payload_log.specs.Entries.{done_in}
-use Rattle.payload_log.specs.declared.entry.Entry.{Entry}
 use Rattle.payload_log.specs.declared.entry.Entry.TheVariants.{Done, Doubt}
 use Rattle.payload_log.proofs.Public.{get_last}
-use Rattle.locket.specs.Kept.{EndsInDoubt, IsLedTo, KeptLocks}
-use Rattle.locket.specs.Laws.{GivesLease, StaysLease, GoesOnFrom, LivesGoOnOverStops, LeasesStayOverStops}
-use Rattle.locket.specs.Lives.{LockLog, unused, state_of, IsLife, lived}
-use Rattle.locket.specs.Opening.{IsLocket}
+use Rattle.locket.specs.Kept.{EndsInDoubt, IsLedTo}
+use Rattle.locket.specs.Laws.{StaysLease, GoesOnFrom, LivesGoOnOverStops, LeasesStayOverStops}
+use Rattle.locket.specs.Lives.{LockLog, unused, IsLife, lived}
 use Rattle.locket.specs.Spans.{Span, span_of, spans}
 use Rattle.locket.specs.declared.command.LockCommand.{LockCommand}
-use Rattle.locket.specs.declared.state.Lease.{Lease}
 use Rattle.locket.proofs.Payloads.{locket_life}
 use Rattle.locket.proofs.Living.{changes-front}
 use Rattle.locket.proofs.Outcomes.{one_life}

@@ -1,7 +1,6 @@
 -- A lock command in bytes, and how bytes are read as one.
 use Rattle.std.specs.Prelude.{ℕ, ◌<◌, ◌^◌, ◌==◌, List, ◌++◌, length, Option, Some, None, Result, Ok, Err, if◌then◌else◌}
 use Rattle.std.specs.Int.{w8, w32, w64}
-use Rattle.crash_backoff.specs.declared.moment.Moment.{Moment}
 use Rattle.diego_names.specs.Name.{IsName}
 use Rattle.wire_fields.specs.Field.{field_number, field_name}
 use Rattle.wire_fields.specs.Reading.{◌>>=◌, number_at, name_at}

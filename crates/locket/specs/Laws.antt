@@ -1,5 +1,5 @@
 -- What holds of every life of a locket, and of the lives that stops leave.
-use Rattle.std.specs.Prelude.{◌≡◌, ◌⊎◌, ℕ, ◌+◌, ◌<◌, ◌≤◌, Some, List, [], ◌∷◌, ◌++◌, length, take, Ok}
+use Rattle.std.specs.Prelude.{◌≡◌, ◌⊎◌, ℕ, ◌+◌, ◌<◌, ◌≤◌, Some, List, [], ◌∷◌, ◌++◌, length, take}
 use Rattle.std.specs.List.{slice_get}
 use Rattle.disk_trait.specs.Past.{Past, Image, ImagesSince}
 use Rattle.bbs_journal.specs.declared.load_fault.LoadFault.{LoadFault}

@@ -1,5 +1,5 @@
 -- The life of a locket: the commands that changed its state, one after another.
-use Rattle.std.specs.Prelude.{◌≡◌, ℕ, ◌≤◌, Bool, true, false, Option, None, List, [], ◌∷◌, ◌++◌}
+use Rattle.std.specs.Prelude.{◌≡◌, ◌≤◌, Bool, true, false, None, List, [], ◌∷◌, ◌++◌}
 use Rattle.payload_log.specs.Entries.{done_in}
 use Rattle.payload_log.specs.declared.entry.Entry.{Entry}
 use Rattle.payload_log.specs.declared.entry.Entry.TheVariants.{Done, Doubt}

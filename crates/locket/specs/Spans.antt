@@ -1,8 +1,6 @@
 -- The leases of a life: from when until when each is held.
-use Rattle.std.specs.Prelude.{◌≡◌, ℕ, ◌+◌, ◌<◌, ◌≤◌, Some, List, [], ◌∷◌, ◌++◌}
-use Rattle.std.specs.List.{slice_get}
+use Rattle.std.specs.Prelude.{◌≡◌, ℕ, ◌+◌, ◌<◌, ◌≤◌, List, [], ◌∷◌}
 use Rattle.locket.specs.declared.command.LockCommand.{LockCommand}
-use Rattle.locket.specs.declared.command.LockOp.{LockOp}
 use Rattle.locket.specs.declared.command.LockOp.TheVariants.{Acquire, Renew, Release}
 use Rattle.locket.specs.declared.state.Lease.{Lease}
 

@@ -1,7 +1,6 @@
 -- A locket as its callers see it, and what it rests on.
 use Rattle.std.specs.Prelude.{◌≡◌, ℕ, Bool, false, None, List, [], ◌∷◌, Ok}
 use Rattle.payload_log.specs.View.{LogView}
-use Rattle.payload_log.specs.declared.entry.Entry.{Entry}
 use Rattle.payload_log.specs.declared.entry.Entry.TheVariants.{Done, Doubt}
 use Rattle.locket.specs.Bytes.{FitsLock}
 use Rattle.locket.specs.Lives.{LockLog, state_of, lived, IsLawful}

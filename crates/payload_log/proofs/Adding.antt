@@ -1,5 +1,5 @@
 -- What a stop leaves while a payload is put where nothing waits, and after it.
-use Rattle.std.proofs.Common.{◌≡◌, ⊎_elim, inl, inr, ℕ, ◌+◌, Bool, true, false, List, [], ◌∷◌, ◌++◌, length, Option, Some, None, refl, subst, append_assoc}
+use Rattle.std.proofs.Common.{◌≡◌, ⊎_elim, inl, inr, ℕ, Bool, true, false, List, [], ◌∷◌, ◌++◌, Option, Some, None, subst, append_assoc}
 use Rattle.std.specs.Option.{ForSome}
 use Rattle.std.specs.Prelude.{is_some}
 use Rattle.disk_trait.specs.Held.{Held, Leaves}
@@ -10,7 +10,7 @@ use Rattle.disk_trait.proofs.Public.{goes_weaker, runs_there}
 use Rattle.bbs_journal.specs.Areas.{BeforeOrAfter, Ready, Stands}
 use Rattle.bbs_journal.specs.Calls.{Appends, AddsFrame}
 use Rattle.bbs_journal.specs.Stops.{OpensAs}
-use Rattle.bbs_journal.proofs.Public.{area_opens, stops_opened, acknowledged_opened}
+use Rattle.bbs_journal.proofs.Public.{stops_opened, acknowledged_opened}
 use Rattle.payload_log.specs.Adds.{AddsOne, PassesAdd}
 use Rattle.payload_log.specs.Entries.{stored_in}
 use Rattle.payload_log.specs.Opened.{Opened, OpensBehind}

@@ -1,5 +1,5 @@
 -- What was loaded is a log that stands.
-use Rattle.std.proofs.Common.{◌≡◌, ℕ, ◌+◌, ◌≤◌, false, List, [], ◌∷◌, ◌++◌, length, Option, Some, None, refl, sym, ap, subst, ◌∙◌, arith, append-nil, length-append}
+use Rattle.std.proofs.Common.{◌≡◌, ℕ, ◌+◌, false, List, [], ◌∷◌, ◌++◌, length, Option, Some, None, refl, sym, ap, subst, ◌∙◌, arith, append-nil, length-append}
 use Rattle.std.specs.Option.{ForSome}
 use Rattle.std.specs.Prelude.{is_some}
 use Rattle.std.proofs.lemmas.List.{length-map}
@@ -19,13 +19,10 @@ use Rattle.bbs_journal.specs.View.{is_waiting}
 use Rattle.bbs_journal.specs.declared.loading.Loaded.{Loaded}
 use Rattle.bbs_journal.specs.declared.waiting.Waiting.{Waiting}
 use Rattle.bbs_journal.proofs.Public.{area_opens, length-heading, recovered, ready}
-use Rattle.payload_log.specs.Entries.{stored_in}
 use Rattle.payload_log.specs.Kept.{IsListed, KeptList}
 use Rattle.payload_log.specs.Opened.{Opened, OpensBehind, opened_by}
-use Rattle.payload_log.specs.Doubts.{RoseBy}
 use Rattle.payload_log.specs.Puts.{OnlyFrameWaits}
 use Rattle.payload_log.specs.View.{Holds, CanBegin, IsSound}
-use Rattle.payload_log.specs.declared.entry.Entry.{Entry}
 use Rattle.payload_log.proofs.Logs.{listed_end}
 
 -- a log that just began is kept

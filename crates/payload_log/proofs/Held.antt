@@ -1,5 +1,5 @@
 -- How a log stands after an entry was added.
-use Rattle.std.proofs.Common.{◌≡◌, inl, inr, ⊎_elim, ℕ, ◌+◌, ◌<◌, ◌≤◌, Bool, true, false, List, [], ◌∷◌, ◌++◌, length, take, slice_get, Option, Some, None, Result, Ok, Err, is_ok, is_err, refl, sym, ap, subst, ◌∙◌, arith, length-append, append_assoc, if◌then◌else◌}
+use Rattle.std.proofs.Common.{◌≡◌, inl, inr, ⊎_elim, ℕ, ◌+◌, Bool, true, false, List, [], ◌∷◌, ◌++◌, length, Option, Some, None, Result, Ok, Err, is_ok, is_err, refl, sym, ap, subst, ◌∙◌, arith, length-append, append_assoc, if◌then◌else◌}
 use Rattle.std.specs.Option.{ForSome}
 use Rattle.std.specs.Prelude.{not}
 use Rattle.byte_ports.specs.Cause.{HasCause}
@@ -11,8 +11,7 @@ use Rattle.bbs_journal.specs.Areas.{Ready}
 use Rattle.bbs_journal.specs.Calls.{GrowsBy}
 use Rattle.bbs_journal.specs.Grammar.{heading}
 use Rattle.bbs_journal.specs.View.{JournalView, is_waiting}
-use Rattle.payload_log.specs.Doubts.{RoseBy}
-use Rattle.payload_log.specs.Entries.{entry_of, stored_in, doubts_in}
+use Rattle.payload_log.specs.Entries.{entry_of, stored_in}
 use Rattle.payload_log.specs.Opened.{Opened, opened_in}
 use Rattle.payload_log.specs.Puts.{IsOneOf, PutsOne, Puts}
 use Rattle.payload_log.specs.View.{Holds, MayShow, IsSound}

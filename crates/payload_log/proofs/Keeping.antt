@@ -1,5 +1,5 @@
 -- A list of payloads stays kept while an entry is added to its log.
-use Rattle.std.proofs.Common.{◌≡◌, inl, inr, ⊎_elim, ℕ, ◌+◌, ◌<◌, ◌≤◌, Bool, true, false, List, [], ◌∷◌, ◌++◌, length, take, slice_get, Some, refl, sym, ap, subst, arith, length-append, append_assoc}
+use Rattle.std.proofs.Common.{◌≡◌, inl, inr, ⊎_elim, ℕ, ◌+◌, ◌<◌, ◌≤◌, Bool, true, false, List, [], ◌∷◌, ◌++◌, length, slice_get, Some, sym, subst, arith, length-append, append_assoc}
 use Rattle.disk_trait.specs.Held.{Held, Leaves, Has}
 use Rattle.disk_trait.specs.Past.{Past, Image, ImagesSince, now, other}
 use Rattle.disk_trait.specs.declared.area.Area.{Area}
@@ -15,7 +15,7 @@ use Rattle.payload_log.specs.Puts.{MayHold, IsOneOf, PutsOne}
 use Rattle.payload_log.specs.View.{Holds, MayShow}
 use Rattle.payload_log.specs.declared.entry.Entry.{Entry}
 use Rattle.payload_log.specs.declared.entry.Entry.TheVariants.{Done, Doubt}
-use Rattle.payload_log.proofs.Logs.{get_more, get_split, get_within, stored-done, listed_more, listed_end, listed_doubt, rising_more}
+use Rattle.payload_log.proofs.Logs.{get_split, get_within, stored-done, listed_more, listed_end, listed_doubt, rising_more}
 
 module _ {X : Type 0} (spelling : X → List ℕ) (start : Opened) (log : List (Entry X)) (marks : List ℕ) (since end : ℕ) (waits : Bool) (p : Past) (h : Holds spelling start log marks since end waits p) where
   abbrev pub front : List ℕ

@@ -1,5 +1,5 @@
 -- Logs that grow by an entry.
-use Rattle.std.proofs.Common.{◌≡◌, ◌⊎◌, inl, inr, ℕ, zero, suc, ◌+◌, ◌<◌, ◌≤◌, List, [], ◌∷◌, ◌++◌, map, length, take, slice_get, Some, refl, sym, ap, subst, ◌∙◌, arith, length-append, take_all, append-nil}
+use Rattle.std.proofs.Common.{◌≡◌, ◌⊎◌, inl, inr, ℕ, zero, suc, ◌<◌, ◌≤◌, List, [], ◌∷◌, ◌++◌, map, length, take, slice_get, Some, refl, sym, ap, subst, ◌∙◌, arith, length-append, take_all, append-nil}
 use Rattle.std.proofs.lemmas.List.{take-append-le, map-append}
 use Rattle.disk_trait.specs.Past.{Image}
 use Rattle.payload_log.specs.Entries.{done_in, stored_in}

@@ -1,4 +1,4 @@
-use Rattle.std.proofs.Common.{ℕ, ◌≤◌, length, sym, subst, arith}
+use Rattle.std.proofs.Common.{◌≤◌, length, sym, subst, arith}
 use Rattle.wire_fields.specs.Field.{PutsText}
 use Rattle.wire_fields.proofs.Public.{length-field_u32, length-field_u64, length-field_name, Puts-then}
 use Rattle.locket.specs.Bytes.{FitsOp, fields_of}

@@ -1,4 +1,4 @@
-use Rattle.std.proofs.Common.{◌≡◌, ◌∙◌, Ok, None, Option, List, ℕ, sym, ap, subst, rules}
+use Rattle.std.proofs.Common.{◌≡◌, Ok, None, Option, List, ℕ, sym, subst, rules}
 use Rattle.bbs_journal.specs.Reading.{payloads_of}
 use Rattle.payload_log.specs.Opened.{Opened, opened_by}
 use Rattle.payload_log.proofs.Public.{can_begin}

@@ -1,5 +1,4 @@
-use Rattle.std.proofs.Common.{◌≡◌, ◌∙◌, Bool, List, ℕ, [], ◌∷◌, ◌++◌, is_ok, length, sym, ap, subst, refl}
-use Rattle.std.specs.Prelude.{not}
+use Rattle.std.proofs.Common.{◌≡◌, ◌∙◌, Bool, List, ℕ, [], ◌∷◌, ◌++◌, is_ok, sym, ap, subst, refl}
 use Rattle.byte_ports.specs.Cause.{HasCause}
 use Rattle.disk_trait.specs.Steps.{Goes}
 use Rattle.bbs_journal.specs.Reading.{payloads_of}

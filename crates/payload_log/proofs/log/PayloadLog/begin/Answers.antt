@@ -1,5 +1,4 @@
-use Rattle.std.proofs.Common.{◌≡◌, ◌∙◌, List, ℕ, [], sym, ap, subst}
-use Rattle.std.specs.declared.vec.Vec.{Vec}
+use Rattle.std.proofs.Common.{◌≡◌, ◌∙◌, List, ℕ, [], sym, subst}
 use Rattle.bbs_journal.specs.Reading.{payloads_of}
 use Rattle.payload_log.specs.Opened.{Opened, opened_in, opened_by}
 use Rattle.payload_log.specs.View.{IsSound}
