@@ -127,7 +127,7 @@ module _ (named : List Key) (old new before after : List RouteEntry) (was : IsRi
   table_is changed switched =
       same_has changed new switched.rising is
       (λ e.
-        let n = is_among named (key_of e) in
-        let among : (has (minus after before) e || has (minus before after) e) ≡ (((n && has new e) && not (n && has old e)) || ((n && has old e) && not (n && has new e))) =
-            (λ i. has-minus after before e i || has-minus before after e i) ∙ (λ i. (of_new e i && not (of_old e i)) || (of_old e i && not (of_new e i))) in
-        switched.each e ∙ ap (λ b. cond b (not (has old e)) (has old e)) among ∙ settled n (has old e) (has new e) (others e))
+      let n = is_among named (key_of e) in
+      let among : (has (minus after before) e || has (minus before after) e) ≡ (((n && has new e) && not (n && has old e)) || ((n && has old e) && not (n && has new e))) =
+      (λ i. has-minus after before e i || has-minus before after e i) ∙ (λ i. (of_new e i && not (of_old e i)) || (of_old e i && not (of_new e i))) in
+      switched.each e ∙ ap (λ b. cond b (not (has old e)) (has old e)) among ∙ settled n (has old e) (has new e) (others e))

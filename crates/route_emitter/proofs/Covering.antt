@@ -126,12 +126,12 @@ covers-without some fewer rs key rising idle dropped covers i d lt =
     let a = get_or rs i d in
     let at = covers i d lt in
     let other : is_at (key_order key) a.key ≡ false =
-        elim (is_at (key_order key) a.key) as (λ b. is_at (key_order key) a.key ≡ b → b ≡ false) [
-          | true ↦ λ tie.
-              let one : key ≡ a.key = same_from_tie key_order IsKeyOrder-key_order key a.key tie in
-              let found : find_row place_order place_of (a.key, a.presence) rs ≡ Some a = find_row-Contains place_order place_of IsKeyOrder-place_order a rs rising (Contains-get_or rs i d lt) in
-              let there : has_row rs key a.presence ≡ true = ap (λ k. has_row rs k a.presence) one ∙ ap is_some found in
-              absurd (false≢true (sym (no-row rs key a.presence idle) ∙ there))
-          | false ↦ λ tie. refl
-        ] refl in
+    elim (is_at (key_order key) a.key) as (λ b. is_at (key_order key) a.key ≡ b → b ≡ false) [
+      | true ↦ λ tie.
+          let one : key ≡ a.key = same_from_tie key_order IsKeyOrder-key_order key a.key tie in
+          let found : find_row place_order place_of (a.key, a.presence) rs ≡ Some a = find_row-Contains place_order place_of IsKeyOrder-place_order a rs rising (Contains-get_or rs i d lt) in
+          let there : has_row rs key a.presence ≡ true = ap (λ k. has_row rs k a.presence) one ∙ ap is_some found in
+          absurd (false≢true (sym (no-row rs key a.presence idle) ∙ there))
+      | false ↦ λ tie. refl
+    ] refl in
     (dropped a.key ∙ ap (λ b. cond b false (some a.key)) other ∙ at.0, at.1)

@@ -69,11 +69,11 @@ named-all set es named is i d lt =
     let names = filter_map (λ (x : Event). process_in x.row) es in
     let more = flat_map (of_process set.keys) (table name_order (λ p. p) names) in
     let among : (k : Key) → Contains (keys ++ more) k → is_among named k ≡ true = λ k h.
-        subst (λ ks. is_among ks k ≡ true) (sym is) (found-Contains key_order IsKeyOrder-key_order (table key_order (λ x. x) (keys ++ more)) k (Contains-table key_order IsKeyOrder-key_order (keys ++ more) k h)) in
+    subst (λ ks. is_among ks k ≡ true) (sym is) (found-Contains key_order IsKeyOrder-key_order (table key_order (λ x. x) (keys ++ more)) k (Contains-table key_order IsKeyOrder-key_order (keys ++ more) k h)) in
     named-row (contains key_order set) named e.row
     (λ k one. among k (Contains-append_left keys more k (Contains-filter_map (λ (x : Event). key_in x.row) e k es there one)))
     (λ p one k at same.
-      let range = range_contains key_order (Included (first_of p)) (Included (last_of p)) in
-      let listed : Contains (of_process set.keys p) k = Contains-filter range k set.keys (Contains-any set.keys k at.0) (in-range k p same at.1) in
-      let process = Contains-table name_order IsKeyOrder-name_order names p (Contains-filter_map (λ (x : Event). process_in x.row) e p es there one) in
-      among k (Contains-append_right keys more k (Contains-flat_map (of_process set.keys) p k (table name_order (λ x. x) names) process listed)))
+    let range = range_contains key_order (Included (first_of p)) (Included (last_of p)) in
+    let listed : Contains (of_process set.keys p) k = Contains-filter range k set.keys (Contains-any set.keys k at.0) (in-range k p same at.1) in
+    let process = Contains-table name_order IsKeyOrder-name_order names p (Contains-filter_map (λ (x : Event). process_in x.row) e p es there one) in
+    among k (Contains-append_right keys more k (Contains-flat_map (of_process set.keys) p k (table name_order (λ x. x) names) process listed)))

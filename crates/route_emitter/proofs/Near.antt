@@ -120,11 +120,11 @@ module _ (indexed : Key → Bool) (named : List Key) (es : List Event) (ds : Lis
       let rs' = running_after es rs in
       both_ways (has (routes_in ds rs) e) (has (routes_in ds' rs') e)
       (λ h.
-        let reached = reached-has ds rs rising e h in
-        has-reached ds' rs' e (reached-alike ds ds' rs rs' e (process-same e not_so reached) (rows-same e not_so) reached))
+      let reached = reached-has ds rs rising e h in
+      has-reached ds' rs' e (reached-alike ds ds' rs rs' e (process-same e not_so reached) (rows-same e not_so) reached))
       (λ h.
-        let reached' = reached-has ds' rs' (rising-after es rs rising) e h in
-        let found : find_row place_order place_of (key_of e, reached'.presence) rs ≡ Some reached'.row = sym (rows-same e not_so reached'.presence) ∙ reached'.found in
-        let at : IsIndexed indexed reached'.row.key = All-contains (λ (a : Actual). IsIndexed indexed a.key) rs reached'.row covers (Contains-find_row place_order place_of (key_of e, reached'.presence) reached'.row rs found) in
-        let same = process-kept indexed named es ds (key_of e) all (subst (λ k. IsIndexed indexed k) (sym (key-entry_among ds' reached'.row e reached'.entry)) at) not_so in
-        has-reached ds rs e (reached-alike ds' ds rs' rs e (sym same) (λ p. sym (rows-same e not_so p)) reached'))
+      let reached' = reached-has ds' rs' (rising-after es rs rising) e h in
+      let found : find_row place_order place_of (key_of e, reached'.presence) rs ≡ Some reached'.row = sym (rows-same e not_so reached'.presence) ∙ reached'.found in
+      let at : IsIndexed indexed reached'.row.key = All-contains (λ (a : Actual). IsIndexed indexed a.key) rs reached'.row covers (Contains-find_row place_order place_of (key_of e, reached'.presence) reached'.row rs found) in
+      let same = process-kept indexed named es ds (key_of e) all (subst (λ k. IsIndexed indexed k) (sym (key-entry_among ds' reached'.row e reached'.entry)) at) not_so in
+      has-reached ds rs e (reached-alike ds' ds rs' rs e (sym same) (λ p. sym (rows-same e not_so p)) reached'))

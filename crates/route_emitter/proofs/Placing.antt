@@ -55,7 +55,7 @@ module _ {K : Type 0} (R : K → K → Ordering) (o : IsKeyOrder R) where
   inserted e (x ∷ xs) (suc i) le split =
       let more : R e x ≡ Greater = turned-less x e (split.0 0 x (omega arith) (omega arith)) in
       let later : IsPartitionPoint (λ y. R y e ≡ Less) (λ y. R y e ≡ Greater) xs i =
-          (λ k d low high. split.0 (suc k) d (omega arith) (omega (arith, high)), λ k d low high. split.1 (suc k) d (omega (arith, low)) (omega (arith, high))) in
+      (λ k d low high. split.0 (suc k) d (omega arith) (omega (arith, high)), λ k d low high. split.1 (suc k) d (omega (arith, low)) (omega (arith, high))) in
       ap (λ (ys : List K). x ∷ ys) (inserted e xs i (omega (arith, le)) later)
       ∙ ap (λ c. by_order c (e ∷ x ∷ xs) (e ∷ xs) (x ∷ put_row R (λ y. y) e xs)) (sym more)
 

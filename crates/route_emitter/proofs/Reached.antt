@@ -120,15 +120,15 @@ module _ (ds : List Desired) (rs : List Actual) where
       let all = flat_map (entries_at ds rs) keys in
       both_ways (has (entries_of ds rs keys) e) (is_among keys (key_of e) && has (routes_in ds rs) e)
       (λ h.
-        let there = Contains-from_flat_map (entries_at ds rs) e keys (Contains-from_table route_order IsKeyOrder-route_order all e (Contains-has (entries_of ds rs keys) e h)) in
-        let at = some-at there.0 e there.2 in
-        let reached = reached-at there.0 at.0 e at.1 in
-        and_from (is_among keys (key_of e)) (has (routes_in ds rs) e)
-        (subst (λ k. is_among keys k ≡ true) (sym reached.0) (found-Contains key_order IsKeyOrder-key_order keys there.0 there.1))
-        (has-reached e reached.1))
+      let there = Contains-from_flat_map (entries_at ds rs) e keys (Contains-from_table route_order IsKeyOrder-route_order all e (Contains-has (entries_of ds rs keys) e h)) in
+      let at = some-at there.0 e there.2 in
+      let reached = reached-at there.0 at.0 e at.1 in
+      and_from (is_among keys (key_of e)) (has (routes_in ds rs) e)
+      (subst (λ k. is_among keys k ≡ true) (sym reached.0) (found-Contains key_order IsKeyOrder-key_order keys there.0 there.1))
+      (has-reached e reached.1))
       (λ h.
-        let both = and_parts (is_among keys (key_of e)) (has (routes_in ds rs) e) h in
-        let reached = reached-has rising e both.1 in
-        has-Contains (entries_of ds rs keys) e
-        (Contains-table route_order IsKeyOrder-route_order all e
-        (Contains-flat_map (entries_at ds rs) (key_of e) e keys (Contains-found key_order IsKeyOrder-key_order keys (key_of e) both.0) (each-at (key_of e) reached.presence e (at-reached e reached)))))
+      let both = and_parts (is_among keys (key_of e)) (has (routes_in ds rs) e) h in
+      let reached = reached-has rising e both.1 in
+      has-Contains (entries_of ds rs keys) e
+      (Contains-table route_order IsKeyOrder-route_order all e
+      (Contains-flat_map (entries_at ds rs) (key_of e) e keys (Contains-found key_order IsKeyOrder-key_order keys (key_of e) both.0) (each-at (key_of e) reached.presence e (at-reached e reached)))))

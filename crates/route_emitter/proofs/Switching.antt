@@ -133,17 +133,17 @@ switched comes goes old lists rising n in_goes in_comes =
           let late = flips-rising (drop n comes) e (IsRising-drop n comes lists.comes_rise) in
           let late_too = flips-rising (drop n goes) e (IsRising-drop n goes lists.goes_rise) in
           let apart : b ≡ true → d ≡ false = λ h.
-              elim d as (λ x. d ≡ x → x ≡ false) [
-                | true ↦ λ is. sym (later-has goes n e (sym late_too ∙ is)) ∙ lists.apart e (later-has comes n e (sym late ∙ h))
-                | false ↦ λ is. refl
-              ] refl in
+          elim d as (λ x. d ≡ x → x ≡ false) [
+            | true ↦ λ is. sym (later-has goes n e (sym late_too ∙ is)) ∙ lists.apart e (later-has comes n e (sym late ∙ h))
+            | false ↦ λ is. refl
+          ] refl in
           let of_later : flips changes e ≡ flip b d =
-              flips-rising changes e (IsRising-table route_order itself IsKeyOrder-route_order later) ∙ has-table later e ∙ has-append (drop n comes) (drop n goes) e
-              ∙ (λ i. sym late i || sym late_too i) ∙ or-apart b d apart in
+          flips-rising changes e (IsRising-table route_order itself IsKeyOrder-route_order later) ∙ has-table later e ∙ has-append (drop n comes) (drop n goes) e
+          ∙ (λ i. sym late i || sym late_too i) ∙ or-apart b d apart in
           let of_comes : flip a b ≡ has comes e =
-              sym (flips-append (take n comes) (drop n comes) e) ∙ ap (λ xs. flips xs e) (take-append-drop n comes) ∙ flips-rising comes e lists.comes_rise in
+          sym (flips-append (take n comes) (drop n comes) e) ∙ ap (λ xs. flips xs e) (take-append-drop n comes) ∙ flips-rising comes e lists.comes_rise in
           let of_goes : flip c d ≡ has goes e =
-              sym (flips-append (take n goes) (drop n goes) e) ∙ ap (λ xs. flips xs e) (take-append-drop n goes) ∙ flips-rising goes e lists.goes_rise in
+          sym (flips-append (take n goes) (drop n goes) e) ∙ ap (λ xs. flips xs e) (take-append-drop n goes) ∙ flips-rising goes e lists.goes_rise in
           has-toggled_each changes first e
           ∙ (λ i. flip (of_later i) (has-exchanged (take n goes) (take n comes) old e (length-both goes comes n in_goes in_comes) i))
           ∙ sym (flip-assoc (flip b d) (flip a c) t)

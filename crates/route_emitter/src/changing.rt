@@ -127,11 +127,7 @@ fn replace(entries: &mut Vec<RouteEntry>, next: Vec<RouteEntry>, changes: &[Rout
 }
 
 // What comes and what goes, sorted.
-fn gather(
-    changes: &mut Vec<RouteEntry>,
-    register: &[RouteEntry],
-    unregister: &[RouteEntry],
-)
+fn gather(changes: &mut Vec<RouteEntry>, register: &[RouteEntry], unregister: &[RouteEntry])
     requires empty { changes.old.items ≡ [] }
     requires room { length register.now + length unregister.now ≤ vec_capacity changes.old }
     ensures items { changes.new.items ≡ table route_order itself (register.now ++ unregister.now) }

@@ -161,12 +161,7 @@ impl Emitter {
             &mut self.table,
             events,
         )?;
-        let plan = Plan::of(
-            self.alloc,
-            &self.kept,
-            named.as_slice(),
-            self.table.len(),
-        )?;
+        let plan = Plan::of(self.alloc, &self.kept, named.as_slice(), self.table.len())?;
         let _rows = self.kept.count();
         let change = renew(
             &mut self.kept,

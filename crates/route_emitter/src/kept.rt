@@ -204,7 +204,11 @@ impl Kept {
     }
 
     // The table of routes, if these are all rows.
-    pub(crate) fn table(&self, alloc: Global, rows: &[Actual]) -> Result<Vec<RouteEntry>, AllocError>
+    pub(crate) fn table(
+        &self,
+        alloc: Global,
+        rows: &[Actual],
+    ) -> Result<Vec<RouteEntry>, AllocError>
         ensures { IfOk result (λ entries. entries.items ≡ routes_in self.now.desired rows.now) }
     {
         let mut entries = list_rows(alloc, &self.desired, rows)?;

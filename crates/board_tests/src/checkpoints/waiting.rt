@@ -47,12 +47,7 @@ fn is_mended<D: Disk + Drop>(
     disk_in(board)
 }
 
-fn mends(
-    rt: &impl Abort,
-    alloc: Global,
-    failing: &[u64],
-    failures: Failures,
-) -> Result<(), Fail> {
+fn mends(rt: &impl Abort, alloc: Global, failing: &[u64], failures: Failures) -> Result<(), Fail> {
     let commands = [desire(b'm', 1)?, desire(b'n', 1)?];
     let board = loaded(alloc, disk_of(alloc, &EMPTY, b"", failing)?)?;
     let mut disk = is_mended(rt, board, &commands, failures);

@@ -26,7 +26,7 @@ returns c =
     let old = c.args.entries.now.items in
     let within = c.exchange_each-done.ensures.within in
     let changes =
-        c.as_slice.ensures.value ∙ c.gather.ensures.items ∙ (λ i. table route_order itself (c.split_at.ensures.back i ++ c.split_at-2.ensures.back i)) in
+    c.as_slice.ensures.value ∙ c.gather.ensures.items ∙ (λ i. table route_order itself (c.split_at.ensures.back i ++ c.split_at-2.ensures.back i)) in
     subst (λ (xs : List RouteEntry). IsSwitched comes goes old xs)
     (sym (c.toggle_all.ensures ∙ (λ i. toggle_each (changes i) (c.exchange_each-done.ensures.items i))))
     (switched comes goes old c.requires.lists c.requires.rising c.exchange_each-done.result within.0 within.1)

@@ -27,9 +27,9 @@ returns-in-Err-clause-passed c later order =
     let at = c.in-Err.at in
     let e = c.args.entry.now in
     let told =
-        c.push_reserved.ensures.items
-        ∙ ap (λ (xs : List RouteEntry). xs ++ e ∷ []) (c.extend-in-Err.ensures.items ∙ ap (λ (front : List RouteEntry). next ++ front) c.split_at-in-Err.ensures.front)
-        ∙ append_assoc next (take at rest) (e ∷ []) in
+    c.push_reserved.ensures.items
+    ∙ ap (λ (xs : List RouteEntry). xs ++ e ∷ []) (c.extend-in-Err.ensures.items ∙ ap (λ (front : List RouteEntry). next ++ front) c.split_at-in-Err.ensures.front)
+    ∙ append_assoc next (take at rest) (e ∷ []) in
     (λ i. told i ++ toggle_each later (c.split_at-in-Err.ensures.back i))
     ∙ append_assoc next (take at rest ++ e ∷ []) (toggle_each later (drop at rest))
     ∙ ap (λ (xs : List RouteEntry). next ++ xs) (passed_placed e rest at c.requires.rising later c.in-Err.ensures.bound c.in-Err.ensures.position order)
