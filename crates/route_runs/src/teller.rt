@@ -10,7 +10,8 @@ use scenario_player::{Teller, events_from};
 use std::alloc::Global;
 
 /// Tells the entries that a phase took out of the table of routes, and then those that it brought
-/// into it. A phase costs a look through all that runs, and a sort of it.
+/// into it. A phase costs look-ups for the instances that its events name, and a move of the entries behind those
+/// that came or went.
 #[derive(Drop)]
 pub struct RouteTeller {
     /// The table as the last phase left it.
