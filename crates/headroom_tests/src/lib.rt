@@ -1,0 +1,5 @@
+//! Tests of what the planner prints.
+#![tactic(auto)]
+
+#[cfg(test)]
+mod tables;
