@@ -7,8 +7,8 @@ use serde_json::Value;
 use std::alloc::Global;
 use std::str;
 
-/// The value that the bytes of a line write.
-pub(crate) fn json_of(alloc: Global, line: &[u8]) -> Result<Value, LineError>
+/// The value that the bytes of a line write in JSON.
+pub fn json_of(alloc: Global, line: &[u8]) -> Result<Value, LineError>
     ensures { GivesContent view result (json_said line.now) }
 {
     let Ok(text) = str::from_utf8(line) else {

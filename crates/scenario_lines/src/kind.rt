@@ -76,7 +76,8 @@ impl Kind {
     }
 }
 
-pub(crate) fn number_of(value: &Value) -> Option<u32>
+/// The whole number of 32 bits that a value is, written without a point or an exponent.
+pub fn number_of(value: &Value) -> Option<u32>
     ensures { result ≡ number_said (view value.now) }
 {
     u32::try_from(value.as_u64()?).ok()

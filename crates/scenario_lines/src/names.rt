@@ -21,8 +21,9 @@ fn name_of(text: &str) -> Result<Name, Flaw>
     }
 }
 
+/// The name that a value is.
 #[tactic(auto, unfolding(crate::specs::Names::name_as))]
-fn name_as(value: &Value) -> Result<Name, Flaw>
+pub fn name_as(value: &Value) -> Result<Name, Flaw>
     ensures { result ≡ name_as (view value.now) }
 {
     match value.as_str() {

@@ -33,7 +33,7 @@ pub enum ScriptFault {
 
 impl ScriptFault {
     /// What is wrong with a line by itself.
-    pub(crate) fn of_flaw(flaw: Flaw, line: u32) -> ScriptFault
+    pub fn of_flaw(flaw: Flaw, line: u32) -> ScriptFault
         ensures { result ≡ flaw_at flaw line }
     {
         match flaw {

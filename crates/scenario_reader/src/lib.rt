@@ -12,3 +12,4 @@ mod text_lines;
 pub use fault::ScriptFault;
 pub use reader::read_script;
 pub use scenario_lines::{Line, Phase, RoundLine, Script};
+pub use text_lines::{Rest, TextLine, next_line};

@@ -6,7 +6,7 @@ use memchr::memchr;
 
 /// A line with its number.
 #[derive(Clone, Copy)]
-pub(crate) struct TextLine<'a> {
+pub struct TextLine<'a> {
     /// The first line of a text is 1.
     pub number: u32,
     pub text: &'a [u8],
@@ -14,13 +14,13 @@ pub(crate) struct TextLine<'a> {
 
 /// What has not been read of a text, and the number of its first line.
 #[derive(Clone, Copy)]
-pub(crate) struct Rest<'a> {
+pub struct Rest<'a> {
     pub number: u32,
     pub bytes: &'a [u8],
 }
 
 /// The next line that isn't blank, and what stands behind it.
-pub(crate) fn next_line(rest: Rest<'_>) -> Option<(TextLine<'_>, Rest<'_>)>
+pub fn next_line(rest: Rest<'_>) -> Option<(TextLine<'_>, Rest<'_>)>
     requires { rest.number + length rest.bytes.now < 2 ^ 32 }
     ensures next { MatchOption result (nonblank_in rest.entry ≡ [])
         (λ found. nonblank_in rest.entry ≡ line_view found.0 ∷ nonblank_in found.1) }
