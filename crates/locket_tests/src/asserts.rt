@@ -2,6 +2,8 @@
 //! stands once, over plain values.
 ghost use Rattle.std.specs.Prelude.{◌≡◌, true};
 
+use bbs_model::CallFault;
+use fenced_board::FencedReply;
 use locket::{LockFault, LockItem, LockReply, LockVerdict};
 use std::process::Abort;
 
@@ -41,4 +43,13 @@ pub fn is_verdict(rt: &impl Abort, row: usize, got: LockVerdict, wanted: LockVer
 
 pub fn are_items(rt: &impl Abort, log: &[LockItem], items: &[LockItem]) {
     assert_eq!(rt; log, items);
+}
+
+/// How a call behind a fence has ended.
+pub fn is_fenced_end(
+    rt: &impl Abort,
+    got: Result<FencedReply, CallFault>,
+    wanted: Result<FencedReply, CallFault>,
+) {
+    assert_eq!(rt; got, wanted);
 }

@@ -1,5 +1,5 @@
 //! Tests of a locket over a disk in memory: its step, its answers, stops and faults in each device call, and lock
-//! journals with a defect at each byte.
+//! journals with a defect at each byte. Tests of a board behind a fence.
 #![tactic(auto)]
 
 #[cfg(test)]
@@ -12,6 +12,8 @@ mod calls;
 mod defects;
 #[cfg(test)]
 mod failing;
+#[cfg(test)]
+mod fenced;
 #[cfg(test)]
 mod making;
 #[cfg(test)]
