@@ -49,7 +49,9 @@ command_in operation d = do
 
 -- what a value asks as a line
 unfoldable pub command_as : Data → Result LockCommand Flaw
-command_as d = or_shape (operation_in d) >>= λ operation. if has_only operation d then command_in operation d else Err BadShape
+command_as d = do
+  operation ← or_shape (operation_in d)
+  if has_only operation d then command_in operation d else Err BadShape
 
 -- what the bytes of a line ask: first as JSON, then by its shape, then by its owner's name
 unfoldable pub command_of : List ℕ → Result LockCommand Flaw

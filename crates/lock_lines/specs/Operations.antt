@@ -34,4 +34,5 @@ is_known Release name = is_in_each name || bytes_eq name (codes "fence")
 
 -- a line has no members but those of its operation
 unfoldable pub has_only : Operation → Data → Bool
-has_only operation d = option_map_or (λ members. list_all (is_known operation) (names_given members)) (as_object d) false
+has_only operation d =
+    option_map_or (λ members. list_all (is_known operation) (names_given members)) (as_object d) false

@@ -7,7 +7,7 @@ use Rattle.locket.specs.declared.reply.LockReply.{LockReply}
 use Rattle.locket.specs.declared.reply.LockReply.TheVariants as reply
 use Rattle.lock_lines.specs.Causes.{why_text}
 
--- an answer that tells of a lease: its fence, and the moment from which it holds no more, or null where it was given back
+-- an answer that tells of a lease: its fence, and from when it holds no more, or null where it was given back
 abbrev pub lease_data : List ℕ → ℕ → ℕ → Option ℕ → Data
 lease_data word line fence until =
     object
@@ -33,7 +33,10 @@ answer_data line (reply.Refused why) = refused_data line (why_text why)
 
 -- what is told of a line whose command the disk failed to store
 abbrev pub disk_data : ℕ → Data
-disk_data line = object (member (codes "answer") (string (codes "disk")) (member (codes "line") (whole line) no_members))
+disk_data line =
+    object
+    (member (codes "answer") (string (codes "disk"))
+    (member (codes "line") (whole line) no_members))
 
 -- how many commands were done, how many are in doubt, and the fence that was given last
 abbrev pub summary_data : ℕ → ℕ → ℕ → Data

@@ -14,3 +14,6 @@ pub use answer::{answer_text, disk_text};
 pub use lock_line::LockLine;
 pub use reading::read_lock_lines;
 pub use summary::summary_text;
+
+#[cfg(test)]
+mod tests;

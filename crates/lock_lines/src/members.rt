@@ -20,9 +20,10 @@ fn said<'v>(value: &'v Value, member: &str) -> Option<&'v Value>
 pub(crate) fn number_in(value: &Value, member: &str) -> Result<u32, Flaw>
     ensures { result ≡ number_in member.now (view value.now) }
 {
-    said(value, member)
-        .and_then(number_of)
-        .ok_or(Flaw::BadShape)
+    match said(value, member) {
+        Some(given) => number_of(given).ok_or(Flaw::BadShape),
+        None => Err(Flaw::BadShape),
+    }
 }
 
 /// The number of a member, which 64 bits hold.
