@@ -1,11 +1,11 @@
 -- A call with a lower number than one that was shown before is stale.
 use Rattle.std.proofs.Common.{◌≡◌, ℕ, zero, suc, ◌<◌, ◌≤◌, List, [], ◌∷◌, slice_get, Some, subst, arith}
 use Rattle.std.proofs.Math.Nat.{le-max_left, le-max_right}
-use Rattle.fenced_board.specs.Laws.{FencedCall, IsShown, AreShown, IsStale, LowerNumbersAreStale}
+use Rattle.fenced_board.specs.Laws.{FencedCall, HasShown, AreShown, IsStale, LowerNumbersAreStale}
 
 module _ {D : Type 0} where
   -- neither the number of a call nor what was the greatest one before it is above the greatest one behind it
-  reaches : (call : FencedCall D) → IsShown call → (call.old.fence.greatest ≤ call.new.fence.greatest) × (call.number ≤ call.new.fence.greatest)
+  reaches : (call : FencedCall D) → HasShown call → (call.old.fence.greatest ≤ call.new.fence.greatest) × (call.number ≤ call.new.fence.greatest)
   reaches call shown =
       let is = shown.shows.greatest in
       let left = le-max_left call.old.fence.greatest call.number in
@@ -14,12 +14,12 @@ module _ {D : Type 0} where
 
   -- the greatest number doesn't fall until a later call
   rises_until : (calls : List (FencedCall D)) (greatest : ℕ) → AreShown calls greatest → (j : ℕ) (later : FencedCall D) → slice_get calls j ≡ Some later
-      → (greatest ≤ later.old.fence.greatest) × IsShown later
+      → (greatest ≤ later.old.fence.greatest) × HasShown later
   rises_until [] greatest shown j later is = absurd cc
   rises_until (call ∷ calls) greatest shown zero later is =
       let same : call ≡ later = cc in
       let first = shown.0 in
-      subst (λ (c : FencedCall D). (greatest ≤ c.old.fence.greatest) × IsShown c) same (omega (arith, first), shown.1.0)
+      subst (λ (c : FencedCall D). (greatest ≤ c.old.fence.greatest) × HasShown c) same (omega (arith, first), shown.1.0)
   rises_until (call ∷ calls) greatest shown (suc j) later is =
       let first = shown.0 in
       let up = (reaches call shown.1.0).0 in
@@ -27,7 +27,7 @@ module _ {D : Type 0} where
       let more = rest.0 in
       (omega (arith, first, up, more), rest.1)
 
-  is_stale : (call : FencedCall D) → IsShown call → call.number < call.old.fence.greatest → IsStale call
+  is_stale : (call : FencedCall D) → HasShown call → call.number < call.old.fence.greatest → IsStale call
   is_stale call shown lower = record {
     greatest = call.old.fence.greatest;
     answer = shown.shows.stale.1 lower;

@@ -18,7 +18,7 @@ use Rattle.fenced_board.specs.declared.reply.FencedReply.TheVariants as fenced
 
 -- a number was shown where this one was the greatest: the greater of both is kept, whatever the call came to; and the
 -- answer is that it is stale exactly where it is the smaller one
-pub record Shows (number : ℕ) (end : Result FencedReply CallFault) (before after : ℕ) : Type 0 where
+pub record ShowsNumber (number : ℕ) (end : Result FencedReply CallFault) (before after : ℕ) : Type 0 where
   pub greatest : after ≡ max before number
   pub stale : (end ≡ Ok (fenced.StaleFence before)) ↔ (number < before)
 
@@ -60,7 +60,7 @@ pub record WantsRoom {D : Type 0} (old new : FencedView D) (result : Result Fenc
   pub numbers : new.fence.numbers ≡ old.fence.numbers
 
 -- what a call does with a number that isn't stale
-abbrev pub Writes : {D : Type 0} → (D → Option Past) → (D → ℕ) → (D → ℕ) → ℕ → ℕ → Command → FencedView D → FencedView D
+abbrev pub TakesNumber : {D : Type 0} → (D → Option Past) → (D → ℕ) → (D → ℕ) → ℕ → ℕ → Command → FencedView D → FencedView D
     → Result FencedReply CallFault → Type 0
-Writes told moment fault_count number by command old new result =
+TakesNumber told moment fault_count number by command old new result =
     HandsOn told moment fault_count number by command old new result ⊎ WantsRoom old new result

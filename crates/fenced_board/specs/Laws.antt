@@ -2,7 +2,7 @@
 use Rattle.std.specs.Prelude.{◌≡◌, ℕ, ◌<◌, List, [], ◌∷◌, Some, Result, Ok}
 use Rattle.std.specs.List.{slice_get}
 use Rattle.bbs_model.specs.declared.reply.CallFault.{CallFault}
-use Rattle.fenced_board.specs.Calls.{Shows}
+use Rattle.fenced_board.specs.Calls.{ShowsNumber}
 use Rattle.fenced_board.specs.Fences.{FencedView}
 use Rattle.fenced_board.specs.declared.reply.FencedReply.{FencedReply}
 use Rattle.fenced_board.specs.declared.reply.FencedReply.TheVariants as fenced
@@ -15,8 +15,8 @@ pub record FencedCall (D : Type 0) : Type 0 where
   pub new : FencedView D
 
 -- what each call ensures of its number
-pub record IsShown {D : Type 0} (call : FencedCall D) : Type 0 where
-  pub shows : Shows call.number call.end call.old.fence.greatest call.new.fence.greatest
+pub record HasShown {D : Type 0} (call : FencedCall D) : Type 0 where
+  pub shows : ShowsNumber call.number call.end call.old.fence.greatest call.new.fence.greatest
   pub idle : call.number < call.old.fence.greatest → call.new ≡ call.old
 
 -- calls one after the other, the first of them where this number was the greatest; whatever was done between two of
@@ -24,7 +24,7 @@ pub record IsShown {D : Type 0} (call : FencedCall D) : Type 0 where
 abbrev pub AreShown : {D : Type 0} → List (FencedCall D) → ℕ → Type 0
 AreShown [] greatest = Unit {0}
 AreShown (call ∷ calls) greatest =
-    (call.old.fence.greatest ≡ greatest) × (IsShown call × AreShown calls call.new.fence.greatest)
+    (call.old.fence.greatest ≡ greatest) × (HasShown call × AreShown calls call.new.fence.greatest)
 
 -- the call was told that its number is stale, and nothing was done
 pub record IsStale {D : Type 0} (call : FencedCall D) : Type 0 where

@@ -7,7 +7,7 @@ ghost use Rattle.bbs_board.specs.View.{rows_of};
 ghost use Rattle.bbs_model.specs.Calls.{added};
 ghost use Rattle.bbs_model.specs.Replay.{IsLawful};
 ghost use Rattle.bbs_model.specs.Valid.{IsValid};
-ghost use Rattle.fenced_board.specs.Calls.{Shows, IsCalledBehind, Writes};
+ghost use Rattle.fenced_board.specs.Calls.{ShowsNumber, IsCalledBehind, TakesNumber};
 ghost use Rattle.fenced_board.specs.Fences.{IsNewFence, NumbersEach, StaysBehind};
 
 use crate::fence::Fence;
@@ -89,7 +89,7 @@ impl<D: Disk> Fenced<D> {
 
     // A call with the greatest number.
     fn write(&mut self, by: u32, command: Command) -> Result<FencedReply, CallFault>
-        ensures writes { Writes D.told D.moment D.fault_count self.old.fence.greatest by command
+        ensures writes { TakesNumber D.told D.moment D.fault_count self.old.fence.greatest by command
             self.old self.new result }
         ensures greatest { self.new.fence.greatest ≡ self.old.fence.greatest }
         ensures stays { StaysBehind self.old self.new }
@@ -107,10 +107,10 @@ impl<D: Disk> Fenced<D> {
     /// number is stale: nothing was done, and no memory was taken. Room for one number more is had
     /// before the board's call; where there is none, the number has been shown all the same.
     pub fn call(&mut self, number: u64, by: u32, command: Command) -> Result<FencedReply, CallFault>
-        ensures shows { Shows number result self.old.fence.greatest self.new.fence.greatest }
+        ensures shows { ShowsNumber number result self.old.fence.greatest self.new.fence.greatest }
         ensures idle { number < self.old.fence.greatest → self.new ≡ self.old }
         ensures writes { self.old.fence.greatest ≤ number →
-            Writes D.told D.moment D.fault_count number by command self.old self.new result }
+            TakesNumber D.told D.moment D.fault_count number by command self.old self.new result }
         ensures stays { StaysBehind self.old self.new }
     {
         if !self.fence.show(number) {
