@@ -6,15 +6,17 @@ use Rattle.bbs_model.specs.Valid.{IsValid}
 use Rattle.bbs_model.specs.declared.item.Item.{Item}
 use Rattle.bbs_model.specs.declared.rows.Rows.{Rows}
 use Rattle.program_ends.specs.Ports.{Ports}
+use Rattle.program_ends.specs.Reading.{ReadsWhole}
 use Rattle.program_ends.specs.declared.ending.Ending.{Ending}
 use Rattle.program_ends.specs.declared.ending.Ending.TheVariants as ending
 use Rattle.scenario_player.specs.Wordings.{Wording}
-use Rattle.program_run.specs.Reading.{ReadsWhole}
+use Rattle.locket.specs.Lives.{LockLog}
 use Rattle.program_run.specs.Runs.{EndsLate, IsEmpty, RunEnds, ScriptEnds}
 use Rattle.program_run.specs.declared.ended.Ended.{Ended}
 use Rattle.run_theorem.specs.Headline.{IsFaithful}
 use Rattle.run_theorem.specs.Laws.{PlayedRunsAreFaithful}
 use Rattle.scenario_lines.specs.declared.script.Script.{Script}
+use Rattle.scenario_reader.specs.Accepted.{script_of}
 use Rattle.scenario_reader.specs.Facts.{IsScript}
 use Rattle.program_tools.specs.Words.{asks_for_run}
 use Rattle.program_tools.specs.declared.words.Asked.{Asked}
@@ -25,7 +27,7 @@ use Rattle.diego_engine.proofs.Ran.{ran}
 use Rattle.diego_engine.proofs.Recoveries.{opened, recovery_from}
 
 module _ {D : Type 0} (told : D → Option Past) (faults moment : D → ℕ) (wording : Wording) (law : PlayedRunsAreFaithful told) (e : Ended)
-    (left left' : Option (List ℕ)) (v w : Ports) where
+    (locks : LockLog) (left left' : Option (List ℕ)) (v w : Ports) where
   -- by the ending, of what is told here
   abbrev pub Did : Ending → Type 0
   Did how = DidRun how e.log.items e.answers.items e.reports.items left left' v.told w.told
@@ -44,7 +46,7 @@ module _ {D : Type 0} (told : D → Option Past) (faults moment : D → ℕ) (wo
       p.fresh.log (subst IsValid (sym p.base) p.valid)
       (subst (λ (rows : Rows). IsLawful rows p.left.log) (sym p.base) (subst (λ (log : List Item). IsLawful late.rows log) p.log p.lawful)) p.plays))
 
-  faithfully : (script : Script) (how : Ending) → ReadsWhole (Ok script) left left' → IsScript script → EndsLate told faults moment wording script how e v w
+  faithfully : (script : Script) (how : Ending) → ReadsWhole script_of (Ok script) left left' → IsScript script → EndsLate told faults moment wording script how e v w
       → DidFaithfully how
   faithfully script how reads sound late = record {
     script = script;
@@ -57,7 +59,7 @@ module _ {D : Type 0} (told : D → Option Past) (faults moment : D → ℕ) (wo
   idle : IsEmpty e → IsIdle e.log.items e.answers.items e.reports.items
   idle is = (is.log, is.answers, is.reports)
 
-  starved : (script : Script) → ReadsWhole (Ok script) left left' → IsScript script → ScriptEnds told faults moment wording script ending.OutOfMemory e v w
+  starved : (script : Script) → ReadsWhole script_of (Ok script) left left' → IsScript script → ScriptEnds told faults moment wording script ending.OutOfMemory e v w
       → Did ending.OutOfMemory
   starved script reads sound (inl late) = inl (faithfully script ending.OutOfMemory reads sound late)
   starved script reads sound (inr ends) = inr (idle ends.0)
@@ -77,9 +79,9 @@ module _ {D : Type 0} (told : D → Option Past) (faults moment : D → ℕ) (wo
   did (ending.NotABoard area) runs = idle runs.ends.0
   did (ending.Damaged area at) runs = idle runs.ends.0
 
-  pub headline_from : (how : Ending) (what : Option Asked) → asks_for_run what ≡ true → ProgramEnds told faults moment wording how what e left left' v w
+  pub headline_from : (how : Ending) (what : Option Asked) → asks_for_run what ≡ true → ProgramEnds told faults moment wording how what e locks left left' v w
       → Headline how e.log.items e.marks.items e.answers.items e.reports.items left left' v.told w.told v.disk_faults w.disk_faults
   headline_from how what is ends = record {
-    recovery = recovery_from told faults moment wording e v w left left' how what is ends;
-    run = did how (ran told faults moment wording e left left' v w how what is ends);
+    recovery = recovery_from told faults moment wording e v w locks left left' how what is ends;
+    run = did how (ran told faults moment wording e locks left left' v w how what is ends);
   }

@@ -3,6 +3,7 @@ use Rattle.std.proofs.Common.{◌≡◌, ℕ, true, false, List, Option, Some, N
 use Rattle.disk_trait.specs.Past.{Past}
 use Rattle.program_ends.specs.Ports.{Ports}
 use Rattle.program_ends.specs.declared.ending.Ending.{Ending}
+use Rattle.locket.specs.Lives.{LockLog}
 use Rattle.program_run.specs.Runs.{RunEnds}
 use Rattle.program_run.specs.declared.ended.Ended.{Ended}
 use Rattle.program_tools.specs.Words.{asks_for_run}
@@ -11,20 +12,22 @@ use Rattle.program_tools.specs.declared.words.Asked.TheVariants as asked
 use Rattle.scenario_player.specs.Wordings.{Wording}
 use Rattle.diego_engine.specs.Top.{ProgramEnds}
 
-pub ran : {D : Type 0} (told : D → Option Past) (faults moment : D → ℕ) (wording : Wording) (e : Ended) (left left' : Option (List ℕ)) (v w : Ports)
-    (how : Ending) (what : Option Asked) → asks_for_run what ≡ true → ProgramEnds told faults moment wording how what e left left' v w
+pub ran : {D : Type 0} (told : D → Option Past) (faults moment : D → ℕ) (wording : Wording) (e : Ended) (locks : LockLog) (left left' : Option (List ℕ)) (v w : Ports)
+    (how : Ending) (what : Option Asked) → asks_for_run what ≡ true → ProgramEnds told faults moment wording how what e locks left left' v w
     → RunEnds told faults moment wording how e left left' v w
-ran told faults moment wording e left left' v w how (Some asked.Run) is h = h
-ran told faults moment wording e left left' v w how (Some asked.Routes) is h = h
-ran told faults moment wording e left left' v w how (Some asked.Prepare) is h = absurd (cc (is))
-ran told faults moment wording e left left' v w how (Some asked.Records) is h = absurd (cc (is))
-ran told faults moment wording e left left' v w how (Some asked.Check) is h = absurd (cc (is))
-ran told faults moment wording e left left' v w how None is h = absurd (cc (is))
+ran told faults moment wording e locks left left' v w how (Some asked.Run) is h = h
+ran told faults moment wording e locks left left' v w how (Some asked.Routes) is h = h
+ran told faults moment wording e locks left left' v w how (Some asked.Locks) is h = absurd (cc (is))
+ran told faults moment wording e locks left left' v w how (Some asked.Prepare) is h = absurd (cc (is))
+ran told faults moment wording e locks left left' v w how (Some asked.Records) is h = absurd (cc (is))
+ran told faults moment wording e locks left left' v w how (Some asked.Check) is h = absurd (cc (is))
+ran told faults moment wording e locks left left' v w how None is h = absurd (cc (is))
 
 -- other words ask for no run
 pub neither : (what : Option Asked) → (what ≡ Some asked.Run → ⊥) → (what ≡ Some asked.Routes → ⊥) → asks_for_run what ≡ false
 neither (Some asked.Run) whole routes = absurd (whole refl)
 neither (Some asked.Routes) whole routes = absurd (routes refl)
+neither (Some asked.Locks) whole routes = refl
 neither (Some asked.Prepare) whole routes = refl
 neither (Some asked.Records) whole routes = refl
 neither (Some asked.Check) whole routes = refl

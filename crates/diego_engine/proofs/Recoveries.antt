@@ -1,9 +1,8 @@
 -- What is recovered, from each way in which the program ends.
 use Rattle.std.proofs.Common.{◌≡◌, ℕ, ◌≤◌, true, List, [], Option, Some, None, refl, sym, subst, arith, inl, inr}
 use Rattle.disk_trait.specs.Past.{Past, Image}
-use Rattle.disk_trait.specs.Held.{Leaves}
 use Rattle.disk_trait.specs.Steps.{Goes}
-use Rattle.disk_trait.proofs.Public.{extends_same, goes_same}
+use Rattle.disk_trait.proofs.Public.{goes_same}
 use Rattle.disk_trait.specs.Runs.{Extends}
 use Rattle.disk_trait.specs.Shows.{Shows, KeepsContent}
 use Rattle.bbs_model.specs.declared.item.Item.{Item}
@@ -14,7 +13,10 @@ use Rattle.program_ends.specs.Opening.{EndsUnopened}
 use Rattle.program_ends.specs.Ports.{Ports, IsTold}
 use Rattle.program_ends.specs.declared.ending.Ending.{Ending}
 use Rattle.program_ends.specs.declared.ending.Ending.TheVariants as ending
+use Rattle.program_ends.proofs.Public.{keeps_same}
 use Rattle.scenario_player.specs.Wordings.{Wording}
+use Rattle.locket.specs.Lives.{LockLog}
+use Rattle.lock_runs.proofs.Public as lock
 use Rattle.program_run.specs.Runs.{EndsIdle, EndsLate, EndsUnseen, IsEmpty, RunEnds, ScriptEnds}
 use Rattle.program_run.specs.declared.ended.Ended.{Ended}
 use Rattle.scenario_lines.specs.declared.script.Script.{Script}
@@ -25,13 +27,6 @@ use Rattle.program_tools.specs.declared.words.Asked.TheVariants as asked
 use Rattle.diego_engine.specs.Top.{ProgramEnds}
 use Rattle.diego_engine.proofs.Ran.{ran}
 use Rattle.diego_engine.proofs.SinceEntry.{recovers_resting, recovers_on}
-
-keeps_same : (p : Past) → KeepsContent p p
-keeps_same p = record {
-  extends = extends_same p;
-  same = λ area. refl;
-  leaves = λ m from to area left leaves. let e : m ≡ p.clock = omega (arith, from, to) in subst (λ (k : ℕ). Leaves (p.held k area) left) e leaves;
-}
 
 -- a disk that tells its past at the end told it before
 pub told_back : (between told' : Option Past) (Does : Past → Past → Type 0) → Goes between told' Does → IsTold told' → IsTold between
@@ -111,7 +106,7 @@ module _ {D : Type 0} (told : D → Option Past) (faults moment : D → ℕ) (wo
   script_causes script ending.OutOfMemory (inr ends) = none_idle ending.OutOfMemory ends
   script_causes script how ends = none_idle how ends
 
-  module _ (left left' : Option (List ℕ)) where
+  module _ (locks : LockLog) (left left' : Option (List ℕ)) where
     by_ending : (how : Ending) → RunEnds told faults moment wording how e left left' v w → HasRecovery
     by_ending (ending.Script why) ends = untouched (ending.Script why) ends.0
     by_ending ending.Read ends = untouched ending.Read ends.0
@@ -120,8 +115,8 @@ module _ {D : Type 0} (told : D → Option Past) (faults moment : D → ℕ) (wo
     by_ending ending.OutOfMemory (inr (ends, lost)) = idle ending.OutOfMemory ends
     by_ending how runs = of_script runs.script how runs.ends
 
-    pub recovery_from : (how : Ending) (what : Option Asked) → asks_for_run what ≡ true → ProgramEnds told faults moment wording how what e left left' v w → HasRecovery
-    recovery_from how what is ends = by_ending how (ran told faults moment wording e left left' v w how what is ends)
+    pub recovery_from : (how : Ending) (what : Option Asked) → asks_for_run what ≡ true → ProgramEnds told faults moment wording how what e locks left left' v w → HasRecovery
+    recovery_from how what is ends = by_ending how (ran told faults moment wording e locks left left' v w how what is ends)
 
     run_causes : (how : Ending) → RunEnds told faults moment wording how e left left' v w → HasCauses
     run_causes (ending.Script why) ends = none_unseen (ending.Script why) ends.0
@@ -131,9 +126,12 @@ module _ {D : Type 0} (told : D → Option Past) (faults moment : D → ℕ) (wo
     run_causes ending.OutOfMemory (inr (ends, lost)) = none_idle ending.OutOfMemory ends
     run_causes how runs = script_causes runs.script how runs.ends
 
-    pub doubts_from : (how : Ending) (what : Option Asked) → ProgramEnds told faults moment wording how what e left left' v w → HasCauses
+    pub doubts_from : (how : Ending) (what : Option Asked) → ProgramEnds told faults moment wording how what e locks left left' v w → HasCauses
     doubts_from how (Some asked.Run) ends = run_causes how ends
     doubts_from how (Some asked.Routes) ends = run_causes how ends
+    doubts_from how (Some asked.Locks) ends =
+        let later = lock.later_from locks e.marks.items left left' v w how ends.ends in
+        subst (λ (log : List Item). RoseForEach (doubts_in log) v.disk_faults w.disk_faults) (sym ends.log) (omega (arith, later))
     doubts_from how (Some asked.Prepare) ends = none ends.empty (later_from v w how (Some asked.Prepare) ends.still)
     doubts_from how (Some asked.Records) ends = none ends.empty (later_from v w how (Some asked.Records) ends.still)
     doubts_from how (Some asked.Check) ends = none ends.empty (later_from v w how (Some asked.Check) ends.still)

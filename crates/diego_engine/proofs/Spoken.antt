@@ -5,6 +5,7 @@ use Rattle.program_ends.specs.Ports.{Ports, IsTold}
 use Rattle.program_ends.specs.declared.ending.Ending.{Ending}
 use Rattle.program_ends.specs.declared.ending.Ending.TheVariants as ending
 use Rattle.scenario_player.specs.Wordings.{Wording}
+use Rattle.locket.specs.Lives.{LockLog}
 use Rattle.program_run.specs.Runs.{EndsLate, RunEnds, RunsScript, ScriptEnds}
 use Rattle.program_run.specs.declared.ended.Ended.{Ended}
 use Rattle.scenario_lines.specs.declared.script.Script.{Script}
@@ -37,7 +38,7 @@ module _ (wording : Wording) (e : Ended) (v w : Ports) (told : IsTold w.told) wh
       record { empty = empty; early = ends.early; refused = λ image shows. ends.refused image shows told }
   script_ends script how ends = ends
 
-  module _ (left left' : Option (List ℕ)) where
+  module _ (locks : LockLog) (left left' : Option (List ℕ)) where
     runs : (how : Ending) → RunsScript memory_told faults_of calls_of wording how e left left' v w → SpokenRun wording how e left left' v w
     runs how r = record { script = r.script; reads = r.reads; sound = r.sound; ends = script_ends r.script how r.ends }
 
@@ -49,8 +50,9 @@ module _ (wording : Wording) (e : Ended) (v w : Ports) (told : IsTold w.told) wh
     run ending.OutOfMemory (inr ends) = inr ends
     run how r = runs how r
 
-    pub spoken : (how : Ending) (what : Option Asked) → ProgramEnds memory_told faults_of calls_of wording how what e left left' v w → SpokenEnds wording how what e left left' v w
+    pub spoken : (how : Ending) (what : Option Asked) → ProgramEnds memory_told faults_of calls_of wording how what e locks left left' v w → SpokenEnds wording how what e locks left left' v w
     spoken how None ends = ends
+    spoken how (Some asked.Locks) ends = ends
     spoken how (Some asked.Prepare) ends = ends
     spoken how (Some asked.Records) ends = ends
     spoken how (Some asked.Check) ends = ends

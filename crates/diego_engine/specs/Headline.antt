@@ -15,12 +15,13 @@ use Rattle.bbs_board.specs.Kept.{IsFound, RiseBetween}
 use Rattle.bbs_board.specs.Opening.{IsBoard}
 use Rattle.convergence.specs.declared.report.Report.{Report}
 use Rattle.program_ends.specs.Ports.{IsTold}
+use Rattle.program_ends.specs.Reading.{ReadsWhole}
 use Rattle.program_ends.specs.declared.ending.Ending.{Ending}
 use Rattle.program_ends.specs.declared.ending.Ending.TheVariants as ending
-use Rattle.program_run.specs.Reading.{ReadsWhole}
 use Rattle.run_theorem.specs.Headline.{IsFaithful}
 use Rattle.scenario_lines.specs.declared.answered.Answered.{Answered}
 use Rattle.scenario_lines.specs.declared.script.Script.{Script}
+use Rattle.scenario_reader.specs.Accepted.{script_of}
 
 -- whatever a stop since p left is what a stop at p itself could leave, or a board that the log reaches; and each item has a
 -- mark, a moment between p and q, since which all that a stop left is a board that the log reaches with that item, if it was done
@@ -54,7 +55,7 @@ pub record IsFaithfulTo (how : Ending) (log : List Item) (answers : List Answere
     (left left' : Option (List ℕ)) (told told' : Option Past) : Type 0 where
   pub script : Script
   pub rows : Rows
-  pub reads : ReadsWhole (Ok script) left left'
+  pub reads : ReadsWhole script_of (Ok script) left left'
   pub opened : (image : Image) → Shows told image → IsTold told' → IsBoard rows image
   pub faithful : IsFaithful script how answers reports rows log
 

@@ -13,18 +13,20 @@ use Rattle.bbs_journal.specs.declared.load_fault.LoadFault.TheVariants as why
 use Rattle.program_ends.specs.Ending.{status_of}
 use Rattle.program_ends.specs.Opening.{EndsEarly, Opens}
 use Rattle.program_ends.specs.Ports.{Ports}
+use Rattle.program_ends.specs.Reading.{ReadsWhole, limit}
 use Rattle.program_ends.specs.declared.ending.Ending.{Ending}
 use Rattle.program_ends.specs.declared.ending.Ending.TheVariants as ending
 use Rattle.program_ends.specs.declared.top_end.TopEnd.{TopEnd}
-use Rattle.program_run.specs.Reading.{ReadsWhole, limit}
 use Rattle.program_run.specs.Runs.{EndsIdle, EndsUnseen, IsEmpty, PlaysOn}
 use Rattle.program_run.specs.declared.ended.Ended.{Ended}
 use Rattle.scenario_lines.specs.declared.script.Script.{Script}
+use Rattle.scenario_reader.specs.Accepted.{script_of}
 use Rattle.scenario_reader.specs.Facts.{IsScript}
 use Rattle.scenario_player.specs.Wordings.{Wording}
+use Rattle.locket.specs.Lives.{LockLog}
 use Rattle.program_tools.specs.declared.words.Asked.{Asked}
 use Rattle.program_tools.specs.declared.words.Asked.TheVariants as asked
-use Rattle.diego_engine.specs.Top.{EndsWithoutRun, ports_now, run_of, wording_of}
+use Rattle.diego_engine.specs.Top.{EndsWithLocks, EndsWithoutRun, ports_now, run_of, wording_of}
 
 -- what the disk tells, at every moment
 abbrev pub memory_told : MemoryDisk → Option Past
@@ -62,14 +64,14 @@ ScriptEndsInMemory wording script other e v w = EndsIdle other e v w
 pub record RunsScriptInMemory (wording : Wording) (how : Ending) (e : Ended)
     (left left' : Option (List ℕ)) (v w : Ports) : Type 0 where
   pub script : Script
-  pub reads : ReadsWhole (Ok script) left left'
+  pub reads : ReadsWhole script_of (Ok script) left left'
   pub sound : IsScript script
   pub ends : ScriptEndsInMemory wording script how e v w
 
 -- how a run ends
 abbrev pub RunEndsInMemory : Wording → Ending → Ended → Option (List ℕ) → Option (List ℕ) → Ports → Ports → Type 0
 RunEndsInMemory wording (ending.Script fault) e left left' v w =
-    EndsUnseen (ending.Script fault) e v w × ReadsWhole (Err fault) left left'
+    EndsUnseen (ending.Script fault) e v w × ReadsWhole script_of (Err fault) left left'
 RunEndsInMemory wording ending.Read e left left' v w = EndsUnseen ending.Read e v w × LostAtMost left left' limit
 RunEndsInMemory wording ending.TooLong e left left' v w = EndsUnseen ending.TooLong e v w × Lost left left' (limit + 1)
 RunEndsInMemory wording ending.OutOfMemory e left left' v w =
@@ -78,17 +80,18 @@ RunEndsInMemory wording ending.OutOfMemory e left left' v w =
 RunEndsInMemory wording how e left left' v w = RunsScriptInMemory wording how e left left' v w
 
 -- how the program ends, whose runs are told in these words
-abbrev pub EndsInMemory : Wording → Ending → Option Asked → Ended →
+abbrev pub EndsInMemory : Wording → Ending → Option Asked → Ended → LockLog →
     Option (List ℕ) → Option (List ℕ) → Ports → Ports → Type 0
-EndsInMemory wording how (Some asked.Run) e left left' v w = RunEndsInMemory wording how e left left' v w
-EndsInMemory wording how (Some asked.Routes) e left left' v w = RunEndsInMemory wording how e left left' v w
-EndsInMemory wording how (Some asked.Prepare) e left left' v w =
+EndsInMemory wording how (Some asked.Run) e locks left left' v w = RunEndsInMemory wording how e left left' v w
+EndsInMemory wording how (Some asked.Routes) e locks left left' v w = RunEndsInMemory wording how e left left' v w
+EndsInMemory wording how (Some asked.Locks) e locks left left' v w = EndsWithLocks how e locks left left' v w
+EndsInMemory wording how (Some asked.Prepare) e locks left left' v w =
     EndsWithoutRun how (Some asked.Prepare) e left left' v w
-EndsInMemory wording how (Some asked.Records) e left left' v w =
+EndsInMemory wording how (Some asked.Records) e locks left left' v w =
     EndsWithoutRun how (Some asked.Records) e left left' v w
-EndsInMemory wording how (Some asked.Check) e left left' v w =
+EndsInMemory wording how (Some asked.Check) e locks left left' v w =
     EndsWithoutRun how (Some asked.Check) e left left' v w
-EndsInMemory wording how None e left left' v w = EndsWithoutRun how None e left left' v w
+EndsInMemory wording how None e locks left left' v w = EndsWithoutRun how None e left left' v w
 
 -- a scenario was read and the board of the disk opened, every phase ran on it, nothing is in doubt, and the whole text
 -- was written
@@ -104,7 +107,7 @@ module _ {S K : Type 0} (left : S → Option (List ℕ)) (held : K → Option (L
   abbrev pub EndsInMemoryAt : Option Asked → S → K → MemoryDisk → TopEnd S K MemoryDisk → Type 0
   EndsInMemoryAt what source sink disk end =
       (how : Ending) × (end.status ≡ status_of how) × EndsInMemory (wording_of what) how what (run_of how end)
-      (left source) (left end.source) (seen_in_memory sink disk) (seen_in_memory end.sink end.disk)
+      end.locks.items (left source) (left end.source) (seen_in_memory sink disk) (seen_in_memory end.sink end.disk)
 
   -- a run that was asked for so and was given these did all of its scenario, by what it hands back
   abbrev pub RunsWholeInMemoryAt : Option Asked → S → K → MemoryDisk → TopEnd S K MemoryDisk → Type 0

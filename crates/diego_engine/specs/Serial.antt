@@ -8,12 +8,13 @@ use Rattle.bbs_board.specs.Opening.{IsBoard}
 use Rattle.bbs_board.specs.Written.{WritesOn}
 use Rattle.bbs_model.specs.declared.rows.Rows.{Rows}
 use Rattle.program_ends.specs.Ports.{IsTold, Ports, Prints}
+use Rattle.program_ends.specs.Reading.{ReadsWhole}
 use Rattle.program_ends.specs.declared.ending.Ending.{Ending}
 use Rattle.program_ends.specs.declared.top_end.TopEnd.{TopEnd}
-use Rattle.program_run.specs.Reading.{ReadsWhole}
 use Rattle.program_run.specs.declared.ended.Ended.{Ended}
 use Rattle.scenario_lines.specs.declared.script.Script.{Script}
 use Rattle.scenario_player.specs.Wordings.{Wording}
+use Rattle.scenario_reader.specs.Accepted.{script_of}
 use Rattle.program_tools.specs.declared.words.Asked.{Asked}
 use Rattle.run_function.specs.Boards.{SoleBoard}
 use Rattle.run_function.specs.Scripts.{IsSerialScript, SoleCourse, script_alone, words_alone}
@@ -40,7 +41,7 @@ pub record IsSerialRun (wording : Wording) (script : Script) (rows : Rows) (e : 
 pub record RunsSerially (wording : Wording) (e : Ended) (left left' : Option (List ℕ)) (v w : Ports) : Type 0 where
   pub script : Script
   pub rows : Rows
-  pub reads : ReadsWhole (Ok script) left left'
+  pub reads : ReadsWhole script_of (Ok script) left left'
   pub opened : (image : Image) → Shows v.told image → IsTold w.told → IsBoard rows image
   pub serial : IsSerialScript script → IsSerialRun wording script rows e v w
 

@@ -1,27 +1,25 @@
 //! The whole of what the program does.
-ghost use Rattle.std.specs.Prelude.{◌≡◌, ◌⊎◌, ◌+◌, ◌==◌, ◌↔◌, true, false, None, Some, Ok, Err, Bool, IsTrue, List, ℕ, map, string_bytes};
+ghost use Rattle.std.specs.Prelude.{◌≡◌, ◌⊎◌, ◌+◌, ◌==◌, ◌↔◌, [], true, false, None, Some, Bool, IsTrue, List, ℕ, map, string_bytes};
 ghost use Rattle.byte_ports.specs.Cause.{HasCause, Rose};
 ghost use Rattle.byte_ports.specs.Content.{Lost};
 ghost use Rattle.disk_trait.specs.Past.{Image};
 ghost use Rattle.disk_trait.specs.Steps.{Goes};
 ghost use Rattle.bbs_board.specs.Doubts.{doubts_in, RoseForEach};
-ghost use Rattle.bbs_board.specs.Opening.{IsRefused};
 ghost use Rattle.disk_trait.specs.Shows.{Shows};
 ghost use Rattle.bbs_journal.specs.Preparing.{FindsBytes};
 ghost use Rattle.bbs_journal.specs.declared.load_fault.LoadFault.{LoadFault as Why};
 ghost use Rattle.program_ends.specs.Ending.{script_line, status_of};
 ghost use Rattle.program_ends.specs.Opening.{is_before_board};
 ghost use Rattle.program_ends.specs.Ports.{IsTold, PrintsTo};
+ghost use Rattle.program_ends.specs.Reading.{TellsTooMuch, limit};
 ghost use Rattle.program_ends.specs.declared.ending.Ending.{Ending as AnEnding};
-ghost use Rattle.program_tools.specs.Still.{IsStopped, MeetsNoBoard, MeetsObstacle};
-ghost use Rattle.program_tools.specs.Words.{asked_of, asks_for_run};
+ghost use Rattle.program_tools.specs.Still.{IsRefusedFor, IsStopped, MeetsObstacle, ReadsFault, ReadsWell};
+ghost use Rattle.program_tools.specs.Words.{asked_of, asks_for_locks, asks_for_run, asks_for_source};
 ghost use Rattle.program_tools.specs.declared.words.Asked.TheVariants as wanted;
 ghost use Rattle.diego_engine.specs.Headline.{Headline};
 ghost use Rattle.diego_engine.specs.Serial.{RunsSeriallyAt};
-ghost use Rattle.diego_engine.specs.Top.{EndsAt, Meets, NoFault, ReachesBoard, RunsWholeAt, TellsWithoutFault, ports_now, run_of};
-ghost use Rattle.program_run.specs.Reading.{ReadsWhole, TellsAs, TellsTooMuch, limit};
+ghost use Rattle.diego_engine.specs.Top.{EndsAt, MeetsAll, MeetsNothing, NoFault, ReachesOpening, RunsWholeAt, TellsFault, TellsWithoutFault, ports_now, run_of};
 ghost use Rattle.program_run.specs.Runs.{RunEnds};
-ghost use Rattle.scenario_lines.specs.declared.script.Script.{Script as AScript};
 ghost use Rattle.scenario_reader.specs.declared.fault.ScriptFault.{ScriptFault as AFault};
 
 use byte_ports::{Gate, Sink, Source};
@@ -50,11 +48,12 @@ fn asks_for_routes(alloc: Global, words: &[String]) -> bool
     matches!(read_words(alloc, words), Some(Asked::Routes))
 }
 
-fn top_end<S, K, D>(ended: Ended, source: S, sink: K, disk: D) -> TopEnd<S, K, D>
+fn top_end<S, K, D>(alloc: Global, ended: Ended, source: S, sink: K, disk: D) -> TopEnd<S, K, D>
     ensures status { result.status ≡ status_of ended.ending }
     ensures ports { (result.source ≡ source) × (result.sink ≡ sink) × (result.disk ≡ disk) }
     ensures lists { (result.log ≡ ended.log) × (result.marks ≡ ended.marks)
         × (result.answers ≡ ended.answers) × (result.reports ≡ ended.reports) }
+    ensures locks { result.locks.items ≡ [] }
 {
     let Ended {
         ending,
@@ -72,6 +71,7 @@ fn top_end<S, K, D>(ended: Ended, source: S, sink: K, disk: D) -> TopEnd<S, K, D
         marks,
         answers,
         reports,
+        locks: Vec::new(alloc),
     }
 }
 
@@ -89,11 +89,12 @@ fn run_top<
         (S.left source) (S.left result.source)
         (ports_now K.held K.faults D.told D.fault_count D.moment sink disk)
         (ports_now K.held K.faults D.told D.fault_count D.moment result.sink result.disk) }
+    ensures locks { result.locks.items ≡ [] }
     ensures read { HasCause (result.status == 3) (S.faults source) (S.faults result.source) }
     ensures unopened { is_before_board result.status ≡ true → result.disk ≡ disk }
 {
     let (ended, disk) = run::<T, R, S, K, D, G>(rt, alloc, &mut source, &mut sink, disk, gate);
-    top_end(ended, source, sink, disk)
+    top_end(alloc, ended, source, sink, disk)
 }
 
 fn whole_top<R: Threads + Wait + Sync, S: Source, K: Sink, D: Disk + Drop + Send, G: Gate + Sync>(
@@ -107,8 +108,10 @@ fn whole_top<R: Threads + Wait + Sync, S: Source, K: Sink, D: Disk + Drop + Send
 ) -> TopEnd<S, K, D>
     ensures ends { EndsAt S.left K.held K.faults D.told D.fault_count D.moment
         (asked_of (map (λ w. string_bytes w) words.now)) source sink disk result }
+    ensures locks { asks_for_locks (asked_of (map (λ w. string_bytes w) words.now)) ≡ false
+        → result.locks.items ≡ [] }
     ensures read { HasCause (result.status == 3) (S.faults source) (S.faults result.source) }
-    ensures unread { asks_for_run (asked_of (map (λ w. string_bytes w) words.now)) ≡ false
+    ensures unread { asks_for_source (asked_of (map (λ w. string_bytes w) words.now)) ≡ false
         → result.source ≡ source }
     ensures unopened { is_before_board result.status ≡ true → result.disk ≡ disk }
 {
@@ -144,50 +147,57 @@ pub fn diego_top<
 
     ensures ends { EndsAt S.left K.held K.faults D.told D.fault_count D.moment
         (asked_of (map (λ w. string_bytes w) words.now)) source sink disk result }
+    ensures locks { asks_for_locks (asked_of (map (λ w. string_bytes w) words.now)) ≡ false
+        → result.locks.items ≡ [] }
 
     // Each status exactly where, or only where, this holds.
     ensures usage { (result.status ≡ 1) ↔ (asked_of (map (λ w. string_bytes w) words.now) ≡ None) }
     ensures script { result.status ≡ 2 → (fault : AFault)
-        × ReadsWhole (Err fault) (S.left source) (S.left result.source)
+        × ReadsFault (asked_of (map (λ w. string_bytes w) words.now)) fault
+        (S.left source) (S.left result.source)
         × (whole : Bool) × PrintsTo whole (script_line fault)
         (K.held sink) (K.held result.sink) (K.faults sink) (K.faults result.sink) }
-    ensures no_script { (fault : AFault) → TellsAs (Err fault) (S.left source)
-        → asks_for_run (asked_of (map (λ w. string_bytes w) words.now)) ≡ true
+    ensures no_script { (fault : AFault)
+        → TellsFault (asked_of (map (λ w. string_bytes w) words.now)) fault (S.left source)
         → NoFault (S.faults source) (S.faults result.source)
         → (result.status ≡ 2) ⊎ (result.status ≡ 7) }
     ensures read { HasCause (result.status == 3) (S.faults source) (S.faults result.source) }
     ensures unwritten { result.status ≡ 4 → Rose (K.faults sink) (K.faults result.sink) }
     ensures unstored { result.status ≡ 5 → Rose (D.fault_count disk) (D.fault_count result.disk) }
     ensures reached { result.status ≡ 6
-        → ReachesBoard (asked_of (map (λ w. string_bytes w) words.now))
+        → ReachesOpening (asked_of (map (λ w. string_bytes w) words.now))
         (S.left source) (S.left result.source) }
     ensures refused { result.status ≡ 6 → (why : Why)
         × (D.fault_count result.disk ≡ D.fault_count disk)
         × ((image : Image) → Shows (D.told disk) image → IsTold (D.told result.disk)
-        → IsRefused why image) }
+        → IsRefusedFor (asked_of (map (λ w. string_bytes w) words.now)) why image) }
     ensures too_long { result.status ≡ 8 → Lost (S.left source) (S.left result.source) (limit + 1) }
     ensures exists { result.status ≡ 9
         → (asked_of (map (λ w. string_bytes w) words.now) ≡ Some wanted.Prepare)
         × (D.fault_count result.disk ≡ D.fault_count disk)
         × Goes (D.told disk) (D.told result.disk) FindsBytes }
-    ensures no_board { (script : AScript) → TellsAs (Ok script) (S.left source)
-        → asks_for_run (asked_of (map (λ w. string_bytes w) words.now)) ≡ true
-        → MeetsNoBoard (D.told disk) → NoFault (S.faults source) (S.faults result.source)
+    ensures no_board { MeetsNothing (asked_of (map (λ w. string_bytes w) words.now))
+        (S.left source) (D.told disk)
+        → NoFault (S.faults source) (S.faults result.source)
         → TellsWithoutFault (D.told result.disk) (D.fault_count disk) (D.fault_count result.disk)
         → (result.status ≡ 6) ⊎ (result.status ≡ 7) }
-    ensures too_much { asks_for_run (asked_of (map (λ w. string_bytes w) words.now)) ≡ true
+    ensures too_much { asks_for_source (asked_of (map (λ w. string_bytes w) words.now)) ≡ true
         → TellsTooMuch (S.left source)
         → NoFault (S.faults source) (S.faults result.source)
         → (result.status ≡ 8) ⊎ (result.status ≡ 7) }
-    ensures stopped { MeetsObstacle (asked_of (map (λ w. string_bytes w) words.now)) (D.told disk)
+    ensures stopped { (status : ℕ)
+        → MeetsObstacle (asked_of (map (λ w. string_bytes w) words.now)) status
+        (S.left source) (D.told disk)
+        → ReadsWell (asked_of (map (λ w. string_bytes w) words.now))
+        (S.faults source) (S.faults result.source)
         → TellsWithoutFault (D.told result.disk) (D.fault_count disk) (D.fault_count result.disk)
-        → IsStopped (asked_of (map (λ w. string_bytes w) words.now)) result.status }
+        → IsStopped (asked_of (map (λ w. string_bytes w) words.now)) status result.status }
     ensures untouched { is_before_board result.status ≡ true
         → (D.told result.disk ≡ D.told disk) × (D.fault_count result.disk ≡ D.fault_count disk) }
 
     // What is handed back is what was handed in: the source, where nothing is run, and the disk, where it
     // ends before the opening.
-    ensures unread { asks_for_run (asked_of (map (λ w. string_bytes w) words.now)) ≡ false
+    ensures unread { asks_for_source (asked_of (map (λ w. string_bytes w) words.now)) ≡ false
         → result.source ≡ source }
     ensures unopened { is_before_board result.status ≡ true → result.disk ≡ disk }
 
@@ -205,9 +215,10 @@ pub fn diego_top<
         → RunsSeriallyAt S.left K.held K.faults D.told D.fault_count D.moment
         (asked_of (map (λ w. string_bytes w) words.now)) source sink disk result }
 
-    // With a scenario and a board, and without a fault, all is done unless memory runs out.
-    ensures complete { asks_for_run (asked_of (map (λ w. string_bytes w) words.now)) ≡ true
-        → Meets (S.left source) (D.told disk)
+    // With a scenario and a board, or lock commands and a lock journal, and without a fault, all is done
+    // unless memory runs out.
+    ensures complete { MeetsAll (asked_of (map (λ w. string_bytes w) words.now))
+        (S.left source) (D.told disk)
         → NoFault (S.faults source) (S.faults result.source) → NoFault (K.faults sink) (K.faults result.sink)
         → TellsWithoutFault (D.told result.disk) (D.fault_count disk) (D.fault_count result.disk)
         → (result.status ≡ 0) ⊎ (result.status ≡ 7) }

@@ -51,6 +51,7 @@ fn main(rt: HostRuntime) -> ExitCode {
         marks: _,
         answers: _,
         reports: _,
+        locks: _,
     } = diego_top(&rt, rt.alloc(), &words, source, sink, disk, &OpenGate);
     ExitCode::from(status)
 }

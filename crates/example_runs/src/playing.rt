@@ -67,6 +67,7 @@ fn run(rt: &impl Runtime, given: Given, disk: MemoryDisk) -> (u8, MemoryDisk) {
         marks: _,
         answers: _,
         reports: _,
+        locks: _,
     } = diego_top_in_memory(rt, rt.alloc(), &words, source, sink, disk, &OpenGate);
     (status, disk)
 }

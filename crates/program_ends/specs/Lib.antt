@@ -1,3 +1,4 @@
 pub mod Ending
 pub mod Opening
 pub mod Ports
+pub mod Reading

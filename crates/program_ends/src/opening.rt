@@ -1,8 +1,9 @@
-//! The opening of the board, and how the program ends where there is none.
-ghost use Rattle.std.specs.Prelude.{◌≡◌, IfOk, IfErr};
+//! The opening of what a disk holds, and how the program ends where nothing was loaded.
+ghost use Rattle.std.specs.Prelude.{◌≡◌, Bool, IfOk, IfErr};
 ghost use Rattle.bbs_board.specs.View.{IsFresh};
+ghost use Rattle.program_ends.specs.Ending.{EndsAs, line_of};
 ghost use Rattle.program_ends.specs.Opening.{Opens, EndsUnopened, ending_for};
-ghost use Rattle.program_ends.specs.Ports.{ports_of};
+ghost use Rattle.program_ends.specs.Ports.{PrintsTo, ports_of};
 
 use crate::ending::Ending;
 use crate::printing::ended_before;
@@ -11,7 +12,7 @@ use byte_ports::Sink;
 use disk_trait::Disk;
 use std::alloc::Global;
 
-/// How it ends whose board could not be loaded.
+/// How it ends that could not load what the disk holds.
 fn ending_for(fault: LoadFault) -> Ending
     ensures { result ≡ ending_for fault }
 {
@@ -21,6 +22,15 @@ fn ending_for(fault: LoadFault) -> Ending
         LoadFault::Damaged { area, at } => Ending::Damaged { area, at },
         LoadFault::OutOfMemory => Ending::OutOfMemory,
     }
+}
+
+/// Prints the line that tells why nothing was loaded, and ends so.
+pub fn ended_unloaded<K: Sink>(alloc: Global, sink: &mut K, fault: LoadFault) -> Ending
+    ensures ending { EndsAs (ending_for fault) result }
+    ensures prints { (whole : Bool) × PrintsTo whole (line_of result)
+        (K.held sink.old) (K.held sink.new) (K.faults sink.old) (K.faults sink.new) }
+{
+    ended_before(alloc, sink, ending_for(fault))
 }
 
 /// Opens the board that the disk holds. Where there is none, the line that says why is printed, and
@@ -42,6 +52,6 @@ pub fn open<K: Sink, D: Disk>(alloc: Global, sink: &mut K, disk: D) -> Result<Bo
 {
     match load(alloc, disk) {
         Ok(board) => Ok(board),
-        Err((disk, fault)) => Err((ended_before(alloc, sink, ending_for(fault)), disk)),
+        Err((disk, fault)) => Err((ended_unloaded(alloc, sink, fault), disk)),
     }
 }

@@ -1,22 +1,19 @@
 -- How a run ends, by what was read, what was opened and what was played.
-use Rattle.std.proofs.Common.{◌≡◌, ℕ, Bool, true, false, List, Option, Err, refl, sym, ap, subst, inl, inr, ◌∙◌, arith}
-use Rattle.byte_ports.specs.Cause.{HasCause}
+use Rattle.std.proofs.Common.{◌≡◌, ℕ, Bool, true, false, List, Option, Err, refl, sym, subst, inl, inr}
 use Rattle.byte_ports.specs.Content.{LostAtMost}
-use Rattle.disk_trait.proofs.Public.{extends_same, goes_same}
-use Rattle.disk_trait.specs.Held.{Leaves}
 use Rattle.disk_trait.specs.Past.{Past}
-use Rattle.disk_trait.specs.Shows.{KeepsContent}
-use Rattle.disk_trait.specs.Steps.{Goes}
 use Rattle.bbs_model.specs.declared.rows.Rows.{Rows}
 use Rattle.program_ends.specs.Ending.{EndsAs, line_of, status_of}
 use Rattle.program_ends.specs.Opening.{EndsUnopened, Opens, is_before_board}
 use Rattle.program_ends.specs.Ports.{Ports, Prints}
+use Rattle.program_ends.specs.Reading.{ReadsAs, ReadsWhole, is_read, limit}
 use Rattle.program_ends.specs.declared.ending.Ending.{Ending}
 use Rattle.program_ends.specs.declared.ending.Ending.TheVariants as ending
+use Rattle.program_ends.proofs.Public.{rests_unseen}
 use Rattle.scenario_lines.specs.declared.script.Script.{Script}
+use Rattle.scenario_reader.specs.Accepted.{script_of}
 use Rattle.scenario_reader.specs.declared.fault.ScriptFault.{ScriptFault}
 use Rattle.scenario_player.specs.Wordings.{Wording}
-use Rattle.program_run.specs.Reading.{ReadsScript, ReadsWhole, is_read, limit}
 use Rattle.program_run.specs.Runs.{EndsUnseen, IsEmpty, PlaysOn, RunEnds, RunsScript, ScriptEnds}
 use Rattle.program_run.specs.declared.ended.Ended.{Ended}
 
@@ -71,30 +68,10 @@ module _ {D : Type 0} (told : D → Option Past) (faults moment : D → ℕ) (wo
       unseen : (how : Ending) → IsEmpty e → Prints whole (line_of how) v w → EndsUnseen how e v w
       unseen how empty prints = (empty, record { told = same; faults = stands; whole = whole; prints = prints })
 
-      keeps_same : (p : Past) → KeepsContent p p
-      keeps_same p = record {
-        extends = extends_same p;
-        same = λ area. refl;
-        leaves = λ m from to area left leaves.
-            let e : m ≡ p.clock = omega (arith, from, to) in subst (λ (k : ℕ). Leaves (p.held k area) left) e leaves;
-      }
-
       wants : IsEmpty e → Prints whole (line_of ending.OutOfMemory) v w → LostAtMost left left' limit → RunEnds told faults moment wording ending.OutOfMemory e left left' v w
-      wants empty prints lost = inr (
-        (
-          empty,
-          record {
-            rests = subst (λ (t : Option Past). Goes v.told t KeepsContent) (sym same) (goes_same v.told KeepsContent (λ p is. keeps_same p));
-            cause = subst (λ (n : ℕ). HasCause false v.disk_faults n) (sym stands)
-                (record { later = omega arith; stood = λ none. refl; rose = λ never. absurd (cc (never)) });
-            whole = whole;
-            prints = prints;
-          },
-        ),
-        lost,
-      )
+      wants empty prints lost = inr ((empty, rests_unseen v w same stands whole ending.OutOfMemory prints), lost)
 
-      lost_of : (fault : ScriptFault) → ReadsWhole (Err fault) left left' → LostAtMost left left' limit
+      lost_of : (fault : ScriptFault) → ReadsWhole script_of (Err fault) left left' → LostAtMost left left' limit
       lost_of fault reads = (reads.bytes, reads.few, reads.consumes)
 
       as_ends : (how other : Ending) → other ≡ how → RunEnds told faults moment wording how e left left' v w → RunEnds told faults moment wording other e left left' v w
@@ -103,7 +80,7 @@ module _ {D : Type 0} (told : D → Option Past) (faults moment : D → ℕ) (wo
       as_prints : (how other : Ending) → other ≡ how → Prints whole (line_of other) v w → Prints whole (line_of how) v w
       as_prints how other is prints = subst (λ (x : Ending). Prints whole (line_of x) v w) is prints
 
-      unread_ends : (what how : Ending) → ReadsScript (Err what) left left' → EndsAs what how → IsEmpty e → Prints whole (line_of how) v w
+      unread_ends : (what how : Ending) → ReadsAs script_of (Err what) left left' → EndsAs what how → IsEmpty e → Prints whole (line_of how) v w
           → RunEnds told faults moment wording how e left left' v w
       unread_ends (ending.Script why) how reads (inl is) empty prints =
           as_ends (ending.Script why) how is (unseen (ending.Script why) empty (as_prints (ending.Script why) how is prints), reads)
@@ -118,24 +95,6 @@ module _ {D : Type 0} (told : D → Option Past) (faults moment : D → ℕ) (wo
       unread_ends what how never is empty prints = absurd never
 
       -- the source gave no scenario
-      pub unread : (what how : Ending) → e.ending ≡ how → ReadsScript (Err what) left left' → EndsAs what how → IsEmpty e → Prints whole (line_of how) v w
+      pub unread : (what how : Ending) → e.ending ≡ how → ReadsAs script_of (Err what) left left' → EndsAs what how → IsEmpty e → Prints whole (line_of how) v w
           → RunEnds told faults moment wording e.ending e left left' v w
       unread what how is reads ends empty prints = as_ends how e.ending is (unread_ends what how reads ends empty prints)
-
--- the source failed where reading it says so
-same_read : (what how : Ending) → EndsAs what how → is_read what ≡ is_read how
-same_read (ending.Script why) how (inl is) = ap is_read (sym is)
-same_read (ending.Script why) how (inr is) = ap is_read (sym is)
-same_read (ending.Damaged area at) how (inl is) = ap is_read (sym is)
-same_read (ending.Damaged area at) how (inr is) = ap is_read (sym is)
-same_read what how is = ap is_read (sym is)
-
-cause_as : (a b : Bool) (n m : ℕ) → a ≡ b → HasCause a n m → HasCause b n m
-cause_as a b n m is cause = subst (λ (x : Bool). HasCause x n m) is cause
-
-pub read_cause : (how : Ending) (n m : ℕ) → is_read how ≡ false → HasCause false n m → HasCause (is_read how) n m
-read_cause how n m none cause = cause_as false (is_read how) n m (sym none) cause
-
-pub unread_cause : (what how other : Ending) (n m : ℕ) → other ≡ how → EndsAs what how → HasCause (is_read what) n m → HasCause (is_read other) n m
-unread_cause what how other n m is ends cause =
-    cause_as (is_read what) (is_read other) n m (same_read what how ends ∙ ap is_read (sym is)) cause

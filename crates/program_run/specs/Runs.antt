@@ -14,13 +14,14 @@ use Rattle.bbs_board.specs.View.{View, IsFresh}
 use Rattle.bbs_board.specs.Written.{WritesOn}
 use Rattle.program_ends.specs.Opening.{EndsUnopened, EndsUntouched, Opens}
 use Rattle.program_ends.specs.Ports.{Ports}
+use Rattle.program_ends.specs.Reading.{ReadsWhole, limit}
 use Rattle.program_ends.specs.declared.ending.Ending.{Ending}
 use Rattle.program_ends.specs.declared.ending.Ending.TheVariants as ending
 use Rattle.scenario_lines.specs.declared.script.Script.{Script}
+use Rattle.scenario_reader.specs.Accepted.{script_of}
 use Rattle.scenario_reader.specs.Facts.{IsScript}
 use Rattle.scenario_player.specs.Plays.{Plays}
 use Rattle.scenario_player.specs.Wordings.{Wording}
-use Rattle.program_run.specs.Reading.{ReadsWhole, limit}
 use Rattle.program_run.specs.declared.ended.Ended.{Ended}
 
 -- nothing was done
@@ -92,7 +93,7 @@ ScriptEnds told faults moment wording script other e v w = EndsIdle other e v w
 pub record RunsScript {D : Type 0} (told : D → Option Past) (faults moment : D → ℕ) (wording : Wording) (how : Ending)
     (e : Ended) (left left' : Option (List ℕ)) (v w : Ports) : Type 0 where
   pub script : Script
-  pub reads : ReadsWhole (Ok script) left left'
+  pub reads : ReadsWhole script_of (Ok script) left left'
   pub sound : IsScript script
   pub ends : ScriptEnds told faults moment wording script how e v w
 
@@ -100,7 +101,7 @@ pub record RunsScript {D : Type 0} (told : D → Option Past) (faults moment : D
 abbrev pub RunEnds : {D : Type 0} → (D → Option Past) → (D → ℕ) → (D → ℕ) → Wording → Ending → Ended →
     Option (List ℕ) → Option (List ℕ) → Ports → Ports → Type 0
 RunEnds told faults moment wording (ending.Script fault) e left left' v w =
-    EndsUnseen (ending.Script fault) e v w × ReadsWhole (Err fault) left left'
+    EndsUnseen (ending.Script fault) e v w × ReadsWhole script_of (Err fault) left left'
 RunEnds told faults moment wording ending.Read e left left' v w =
     EndsUnseen ending.Read e v w × LostAtMost left left' limit
 RunEnds told faults moment wording ending.TooLong e left left' v w =

@@ -5,8 +5,8 @@ ghost use Rattle.bbs_board.specs.View.{IsFresh};
 ghost use Rattle.program_ends.specs.Ending.{status_of};
 ghost use Rattle.program_ends.specs.Opening.{is_before_board};
 ghost use Rattle.program_ends.specs.Ports.{ports_of};
+ghost use Rattle.program_ends.specs.Reading.{is_read};
 ghost use Rattle.scenario_reader.specs.Facts.{IsScript};
-ghost use Rattle.program_run.specs.Reading.{is_read};
 ghost use Rattle.program_run.specs.Runs.{PlaysOn, RunEnds, ScriptEnds};
 
 use crate::ended::{Ended, idle};

@@ -1,5 +1,5 @@
 -- What each status says, from how the words end that ask for no run.
-use Rattle.std.proofs.Common.{◌≡◌, ◌⊎◌, ◌∙◌, ◌≤◌, ℕ, true, [], Option, Some, None, Err, refl, sym, ap, subst, inl, inr, arith}
+use Rattle.std.proofs.Common.{◌≡◌, ◌⊎◌, ◌∙◌, ◌≤◌, ℕ, true, List, [], Option, Some, None, Err, refl, sym, ap, subst, inl, inr, arith}
 use Rattle.byte_ports.specs.Cause.{Rose}
 use Rattle.disk_trait.proofs.Public.{goes_weaker}
 use Rattle.disk_trait.specs.Past.{Past, Image}
@@ -51,6 +51,7 @@ module _ (v w : Ports) where
   opens_from how None n h = refl
   opens_from how (Some asked.Run) n h = absurd h
   opens_from how (Some asked.Routes) n h = absurd h
+  opens_from how (Some asked.Locks) n h = absurd h
   opens_from how (Some asked.Prepare) n h = absurd (prepare_opens how n h)
   opens_from how (Some asked.Records) n h = absurd (records_open how n h)
   opens_from how (Some asked.Check) n h = absurd (check_opens how n h)
@@ -82,6 +83,7 @@ module _ (v w : Ports) where
   unwritten_from ending.Unwritten (Some asked.Prepare) n h = absurd h
   unwritten_from ending.Unwritten (Some asked.Run) n h = absurd h
   unwritten_from ending.Unwritten (Some asked.Routes) n h = absurd h
+  unwritten_from ending.Unwritten (Some asked.Locks) n h = absurd h
   unwritten_from ending.Unwritten None n h = absurd h
   unwritten_from how what n h = absurd (omega (arith, n))
 
@@ -91,12 +93,14 @@ module _ (v w : Ports) where
   unstored_from ending.Unopened (Some asked.Prepare) n h = h.cause.rose refl
   unstored_from ending.Unopened (Some asked.Run) n h = absurd h
   unstored_from ending.Unopened (Some asked.Routes) n h = absurd h
+  unstored_from ending.Unopened (Some asked.Locks) n h = absurd h
   unstored_from ending.Unopened None n h = absurd h
   unstored_from ending.Doubt (Some asked.Records) n h = absurd h
   unstored_from ending.Doubt (Some asked.Check) n h = absurd h
   unstored_from ending.Doubt (Some asked.Prepare) n h = absurd h
   unstored_from ending.Doubt (Some asked.Run) n h = absurd h
   unstored_from ending.Doubt (Some asked.Routes) n h = absurd h
+  unstored_from ending.Doubt (Some asked.Locks) n h = absurd h
   unstored_from ending.Doubt None n h = absurd h
   unstored_from how what n h = absurd (omega (arith, n))
 
@@ -107,12 +111,14 @@ module _ (v w : Ports) where
   refused_from (ending.NotABoard area) (Some asked.Prepare) n h = absurd h
   refused_from (ending.NotABoard area) (Some asked.Run) n h = absurd h
   refused_from (ending.NotABoard area) (Some asked.Routes) n h = absurd h
+  refused_from (ending.NotABoard area) (Some asked.Locks) n h = absurd h
   refused_from (ending.NotABoard area) None n h = absurd h
   refused_from (ending.Damaged area at) (Some asked.Records) n h = (fault.Damaged area at, h.early.cause.stood refl, h.refused)
   refused_from (ending.Damaged area at) (Some asked.Check) n h = (fault.Damaged area at, h.early.cause.stood refl, h.refused)
   refused_from (ending.Damaged area at) (Some asked.Prepare) n h = absurd h
   refused_from (ending.Damaged area at) (Some asked.Run) n h = absurd h
   refused_from (ending.Damaged area at) (Some asked.Routes) n h = absurd h
+  refused_from (ending.Damaged area at) (Some asked.Locks) n h = absurd h
   refused_from (ending.Damaged area at) None n h = absurd h
   refused_from how what n h = absurd (omega (arith, n))
 
@@ -124,6 +130,7 @@ module _ (v w : Ports) where
   exists_from ending.Exists (Some asked.Check) n h = absurd h
   exists_from ending.Exists (Some asked.Run) n h = absurd h
   exists_from ending.Exists (Some asked.Routes) n h = absurd h
+  exists_from ending.Exists (Some asked.Locks) n h = absurd h
   exists_from ending.Exists None n h = absurd h
   exists_from how what n h = absurd (omega (arith, n))
 
@@ -168,6 +175,7 @@ module _ (v w : Ports) where
   pub later_from : (how : Ending) (what : Option Asked) → StillEnds how what v w → v.disk_faults ≤ w.disk_faults
   later_from how (Some asked.Run) h = absurd h
   later_from how (Some asked.Routes) h = absurd h
+  later_from how (Some asked.Locks) h = absurd h
   later_from how (Some asked.Prepare) h = prepare_later how h
   later_from how (Some asked.Records) h = records_later how h
   later_from how (Some asked.Check) h = check_later how h
@@ -187,45 +195,47 @@ module _ (v w : Ports) where
   board_met : MeetsBoard v.told → IsTold w.told → (why : LoadFault) → ((image : Image) → Shows v.told image → IsTold w.told → IsRefused why image) → ⊥
   board_met m told why refused = not_refused m.rows why m.image m.board (refused m.image m.shows told)
 
-  refusal_met : (how : Ending) (what : Option Asked) → status_of how ≡ 6 → StillEnds how what v w → MeetsStill what v.told → IsTold w.told → ⊥
-  refusal_met how None n h m told = m
-  refusal_met how (Some asked.Run) n h m told = m
-  refusal_met how (Some asked.Routes) n h m told = m
-  refusal_met how (Some asked.Prepare) n h m told = no_refusal how n h
+  refusal_met : (how : Ending) (what : Option Asked) (left : Option (List ℕ)) → status_of how ≡ 6 → StillEnds how what v w → MeetsStill what left v.told → IsTold w.told → ⊥
+  refusal_met how None left n h m told = m
+  refusal_met how (Some asked.Run) left n h m told = m
+  refusal_met how (Some asked.Routes) left n h m told = m
+  refusal_met how (Some asked.Locks) left n h m told = h
+  refusal_met how (Some asked.Prepare) left n h m told = no_refusal how n h
     where
       no_refusal : (x : Ending) → status_of x ≡ 6 → PrepareEnds x v w → ⊥
       no_refusal (ending.NotABoard area) n h = h
       no_refusal (ending.Damaged area at) n h = h
       no_refusal x n h = absurd (omega (arith, n))
-  refusal_met how (Some asked.Records) n h m told = let (why, stood, refused) = refused_from how (Some asked.Records) n h in board_met m told why refused
-  refusal_met how (Some asked.Check) n h m told = let (why, stood, refused) = refused_from how (Some asked.Check) n h in board_met m told why refused
+  refusal_met how (Some asked.Records) left n h m told = let (why, stood, refused) = refused_from how (Some asked.Records) n h in board_met m told why refused
+  refusal_met how (Some asked.Check) left n h m told = let (why, stood, refused) = refused_from how (Some asked.Check) n h in board_met m told why refused
 
-  bytes_met : (what : Option Asked) → StillEnds ending.Exists what v w → MeetsStill what v.told → IsTold w.told → ⊥
-  bytes_met (Some asked.Prepare) h m told = let (is, stood, finds) = exists_from ending.Exists (Some asked.Prepare) refl h in none_found v.told w.told finds m told
-  bytes_met (Some asked.Records) h m told = h
-  bytes_met (Some asked.Check) h m told = h
-  bytes_met (Some asked.Run) h m told = h
-  bytes_met (Some asked.Routes) h m told = h
-  bytes_met None h m told = h
+  bytes_met : (what : Option Asked) (left : Option (List ℕ)) → StillEnds ending.Exists what v w → MeetsStill what left v.told → IsTold w.told → ⊥
+  bytes_met (Some asked.Prepare) left h m told = let (is, stood, finds) = exists_from ending.Exists (Some asked.Prepare) refl h in none_found v.told w.told finds m told
+  bytes_met (Some asked.Records) left h m told = h
+  bytes_met (Some asked.Check) left h m told = h
+  bytes_met (Some asked.Run) left h m told = h
+  bytes_met (Some asked.Routes) left h m told = h
+  bytes_met (Some asked.Locks) left h m told = h
+  bytes_met None left h m told = h
 
-  grammar_met : (how : Ending) (what : Option Asked) → is_before_board (status_of how) ≡ true → StillEnds how what v w → MeetsStill what v.told → ⊥
-  grammar_met how None n h m = m
-  grammar_met how (Some x) n h m = cc (opens_from how (Some x) n h)
+  grammar_met : (how : Ending) (what : Option Asked) (left : Option (List ℕ)) → is_before_board (status_of how) ≡ true → StillEnds how what v w → MeetsStill what left v.told → ⊥
+  grammar_met how None left n h m = m
+  grammar_met how (Some x) left n h m = cc (opens_from how (Some x) n h)
 
-  pub complete_from : (how : Ending) (what : Option Asked) → StillEnds how what v w → MeetsStill what v.told → IsTold w.told
+  pub complete_from : (how : Ending) (what : Option Asked) (left : Option (List ℕ)) → StillEnds how what v w → MeetsStill what left v.told → IsTold w.told
       → (Rose v.write_faults w.write_faults → ⊥) → (Rose v.disk_faults w.disk_faults → ⊥) → (status_of how ≡ 0) ⊎ (status_of how ≡ 7)
-  complete_from ending.Done what h m told sink disk = inl refl
-  complete_from ending.OutOfMemory what h m told sink disk = inr refl
-  complete_from ending.Unwritten what h m told sink disk = absurd (sink (unwritten_from ending.Unwritten what refl h))
-  complete_from ending.Unopened what h m told sink disk = absurd (disk (unstored_from ending.Unopened what refl h))
-  complete_from ending.Doubt what h m told sink disk = absurd (disk (unstored_from ending.Doubt what refl h))
-  complete_from (ending.NotABoard area) what h m told sink disk = absurd (refusal_met (ending.NotABoard area) what refl h m told)
-  complete_from (ending.Damaged area at) what h m told sink disk = absurd (refusal_met (ending.Damaged area at) what refl h m told)
-  complete_from ending.Exists what h m told sink disk = absurd (bytes_met what h m told)
-  complete_from ending.Usage what h m told sink disk = absurd (grammar_met ending.Usage what refl h m)
-  complete_from (ending.Script why) what h m told sink disk = absurd (grammar_met (ending.Script why) what refl h m)
-  complete_from ending.Read what h m told sink disk = absurd (grammar_met ending.Read what refl h m)
-  complete_from ending.TooLong what h m told sink disk = absurd (grammar_met ending.TooLong what refl h m)
+  complete_from ending.Done what left h m told sink disk = inl refl
+  complete_from ending.OutOfMemory what left h m told sink disk = inr refl
+  complete_from ending.Unwritten what left h m told sink disk = absurd (sink (unwritten_from ending.Unwritten what refl h))
+  complete_from ending.Unopened what left h m told sink disk = absurd (disk (unstored_from ending.Unopened what refl h))
+  complete_from ending.Doubt what left h m told sink disk = absurd (disk (unstored_from ending.Doubt what refl h))
+  complete_from (ending.NotABoard area) what left h m told sink disk = absurd (refusal_met (ending.NotABoard area) what left refl h m told)
+  complete_from (ending.Damaged area at) what left h m told sink disk = absurd (refusal_met (ending.Damaged area at) what left refl h m told)
+  complete_from ending.Exists what left h m told sink disk = absurd (bytes_met what left h m told)
+  complete_from ending.Usage what left h m told sink disk = absurd (grammar_met ending.Usage what left refl h m)
+  complete_from (ending.Script why) what left h m told sink disk = absurd (grammar_met (ending.Script why) what left refl h m)
+  complete_from ending.Read what left h m told sink disk = absurd (grammar_met ending.Read what left refl h m)
+  complete_from ending.TooLong what left h m told sink disk = absurd (grammar_met ending.TooLong what left refl h m)
 
   -- ---- what stops a word
 
@@ -264,14 +274,16 @@ module _ (v w : Ports) where
   check_stopped ending.Unwritten (check, s) m told disk = let c = s.found m.image m.shows told in absurd (no_board_met m c.rows c.board)
   check_stopped how h m told disk = unopened_stopped how h disk
 
-  pub stopped_from : (how : Ending) (what : Option Asked) (n : ℕ) → n ≡ status_of how → StillEnds how what v w → MeetsObstacle what v.told → IsTold w.told
-      → (Rose v.disk_faults w.disk_faults → ⊥) → IsStopped what n
-  stopped_from how what n is h m told disk = subst (λ (k : ℕ). IsStopped what k) (sym is) (by_word what h m)
-    where
-      by_word : (x : Option Asked) → StillEnds how x v w → MeetsObstacle x v.told → IsStopped x (status_of how)
-      by_word (Some asked.Run) h m = absurd m
-      by_word (Some asked.Routes) h m = absurd m
-      by_word (Some asked.Prepare) h m = prepare_stopped how h m told disk
-      by_word (Some asked.Records) h m = records_stopped how h m told disk
-      by_word (Some asked.Check) h m = check_stopped how h m told disk
-      by_word None h m = absurd m
+  -- a status that a word is to have, told by the number that what stops it names
+  with_number : (how : Ending) (n wanted : ℕ) → wanted ≡ n → (status_of how ≡ n) ⊎ (status_of how ≡ 7) → (status_of how ≡ wanted) ⊎ (status_of how ≡ 7)
+  with_number how n wanted is ends = subst (λ (k : ℕ). (status_of how ≡ k) ⊎ (status_of how ≡ 7)) (sym is) ends
+
+  pub stopped_from : (how : Ending) (what : Option Asked) (wanted : ℕ) (left : Option (List ℕ)) → StillEnds how what v w → MeetsObstacle what wanted left v.told → IsTold w.told
+      → (Rose v.disk_faults w.disk_faults → ⊥) → IsStopped what wanted (status_of how)
+  stopped_from how (Some asked.Run) wanted left h m told disk = absurd m
+  stopped_from how (Some asked.Routes) wanted left h m told disk = absurd m
+  stopped_from how (Some asked.Locks) wanted left h m told disk = absurd h
+  stopped_from how (Some asked.Prepare) wanted left h (is, m) told disk = prepare_stopped how h m told disk ∙ sym is
+  stopped_from how (Some asked.Records) wanted left h (is, m) told disk = with_number how 6 wanted is (records_stopped how h m told disk)
+  stopped_from how (Some asked.Check) wanted left h (is, m) told disk = with_number how 6 wanted is (check_stopped how h m told disk)
+  stopped_from how None wanted left h m told disk = absurd m

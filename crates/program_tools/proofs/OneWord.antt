@@ -39,38 +39,41 @@ other_way xs ys differs = elim (cases_Bool (bytes_eq ys xs)) [
   | inr other ↦ other
 ]
 
--- a word is one of the five, or equals none of them
-by_word : (P : List ℕ → Type 0) → P (codes "run") → P (codes "routes") → P (codes "prepare") → P (codes "records") → P (codes "check")
-    → ((w : List ℕ) → bytes_eq w (codes "run") ≡ false → bytes_eq w (codes "routes") ≡ false → bytes_eq w (codes "prepare") ≡ false → bytes_eq w (codes "records") ≡ false
+-- a word is one of the six, or equals none of them
+by_word : (P : List ℕ → Type 0) → P (codes "run") → P (codes "routes") → P (codes "locks") → P (codes "prepare") → P (codes "records") → P (codes "check")
+    → ((w : List ℕ) → bytes_eq w (codes "run") ≡ false → bytes_eq w (codes "routes") ≡ false → bytes_eq w (codes "locks") ≡ false → bytes_eq w (codes "prepare") ≡ false → bytes_eq w (codes "records") ≡ false
     → bytes_eq w (codes "check") ≡ false → P w) → (w : List ℕ) → P w
-by_word P run routes prepare records check other w = elim (cases_Bool (bytes_eq w (codes "run"))) [
+by_word P run routes locks prepare records check other w = elim (cases_Bool (bytes_eq w (codes "run"))) [
   | inl same ↦ subst P (sym ((bytes_eq-Decides w (codes "run")).0 same)) run
   | inr no-1 ↦ elim (cases_Bool (bytes_eq w (codes "routes"))) [
     | inl same ↦ subst P (sym ((bytes_eq-Decides w (codes "routes")).0 same)) routes
-    | inr no-2 ↦ elim (cases_Bool (bytes_eq w (codes "prepare"))) [
-      | inl same ↦ subst P (sym ((bytes_eq-Decides w (codes "prepare")).0 same)) prepare
-      | inr no-3 ↦ elim (cases_Bool (bytes_eq w (codes "records"))) [
-        | inl same ↦ subst P (sym ((bytes_eq-Decides w (codes "records")).0 same)) records
-        | inr no-4 ↦ elim (cases_Bool (bytes_eq w (codes "check"))) [
-          | inl same ↦ subst P (sym ((bytes_eq-Decides w (codes "check")).0 same)) check
-          | inr no-5 ↦ other w no-1 no-2 no-3 no-4 no-5
+    | inr no-2 ↦ elim (cases_Bool (bytes_eq w (codes "locks"))) [
+      | inl same ↦ subst P (sym ((bytes_eq-Decides w (codes "locks")).0 same)) locks
+      | inr no-3 ↦ elim (cases_Bool (bytes_eq w (codes "prepare"))) [
+        | inl same ↦ subst P (sym ((bytes_eq-Decides w (codes "prepare")).0 same)) prepare
+        | inr no-4 ↦ elim (cases_Bool (bytes_eq w (codes "records"))) [
+          | inl same ↦ subst P (sym ((bytes_eq-Decides w (codes "records")).0 same)) records
+          | inr no-5 ↦ elim (cases_Bool (bytes_eq w (codes "check"))) [
+            | inl same ↦ subst P (sym ((bytes_eq-Decides w (codes "check")).0 same)) check
+            | inr no-6 ↦ other w no-1 no-2 no-3 no-4 no-5 no-6
+          ]
         ]
       ]
     ]
   ]
 ]
 
-asks_nothing : (w : List ℕ) → bytes_eq w (codes "run") ≡ false → bytes_eq w (codes "routes") ≡ false → bytes_eq w (codes "prepare") ≡ false → bytes_eq w (codes "records") ≡ false
+asks_nothing : (w : List ℕ) → bytes_eq w (codes "run") ≡ false → bytes_eq w (codes "routes") ≡ false → bytes_eq w (codes "locks") ≡ false → bytes_eq w (codes "prepare") ≡ false → bytes_eq w (codes "records") ≡ false
     → bytes_eq w (codes "check") ≡ false → asked_by_word w ≡ None
-asks_nothing w a b c d e = rw (a, b, c, d, e) refl
+asks_nothing w a b c d e f = rw (a, b, c, d, e, f) refl
 
 abbrev level_names : Names
 level_names = names_of (built level)
 
-names_nothing : (w : List ℕ) → bytes_eq w (codes "run") ≡ false → bytes_eq w (codes "routes") ≡ false → bytes_eq w (codes "prepare") ≡ false → bytes_eq w (codes "records") ≡ false
+names_nothing : (w : List ℕ) → bytes_eq w (codes "run") ≡ false → bytes_eq w (codes "routes") ≡ false → bytes_eq w (codes "locks") ≡ false → bytes_eq w (codes "prepare") ≡ false → bytes_eq w (codes "records") ≡ false
     → bytes_eq w (codes "check") ≡ false → find (answers_to w) level_names ≡ None
-names_nothing w a b c d e =
-    rw (other_way w (codes "run") a, other_way w (codes "routes") b, other_way w (codes "prepare") c, other_way w (codes "records") d, other_way w (codes "check") e) refl
+names_nothing w a b c d e f =
+    rw (other_way w (codes "run") a, other_way w (codes "routes") b, other_way w (codes "locks") c, other_way w (codes "prepare") d, other_way w (codes "records") e, other_way w (codes "check") f) refl
 
 -- a word that names no subcommand and is no flag goes to a positional, of which there is none
 stray : (w : List ℕ) → begins_with_hyphen w ≡ false → subcommand_or_other [] None idle 1 w nothing_held ≡ (nothing_held, value)
@@ -87,8 +90,8 @@ stops_nowhere w plain none =
 -- the subcommand that clap enters is the one that the word asks for
 pub enters : (w : List ℕ) → begins_with_hyphen w ≡ false → entered_word w ≡ asked_by_word w
 unfolding clap_on_literals
-enters = by_word (λ w. begins_with_hyphen w ≡ false → entered_word w ≡ asked_by_word w) (λ p. refl) (λ p. refl) (λ p. refl) (λ p. refl) (λ p. refl)
-    (λ w a b c d e plain. ap (λ (at : Option _). option_and_then asked_by_word (option_map (λ p. p.0) at)) (stops_nowhere w plain (names_nothing w a b c d e)) ∙ sym (asks_nothing w a b c d e))
+enters = by_word (λ w. begins_with_hyphen w ≡ false → entered_word w ≡ asked_by_word w) (λ p. refl) (λ p. refl) (λ p. refl) (λ p. refl) (λ p. refl) (λ p. refl)
+    (λ w a b c d e f plain. ap (λ (at : Option _). option_and_then asked_by_word (option_map (λ p. p.0) at)) (stops_nowhere w plain (names_nothing w a b c d e f)) ∙ sym (asks_nothing w a b c d e f))
 
 -- an error that isn't want of memory has one of the kinds
 pub among : (kinds : Kinds) (e : Error) → (kind_of e ≡ OutOfMemory → ⊥) → HasKind kinds e → IsAmong (kind_of e) kinds
@@ -99,7 +102,7 @@ pub refuses : (w : List ℕ) (k : ErrorKind) → IsAmong k (fault_of level (w �
 unfolding clap_on_literals
 refuses = by_word (λ w. (k : ErrorKind) → IsAmong k (fault_of level (w ∷ [])) → None ≡ asked_by_word w)
     (λ k among. absurd among) (λ k among. absurd among) (λ k among. absurd among) (λ k among. absurd among) (λ k among. absurd among)
-    (λ w a b c d e k among. sym (asks_nothing w a b c d e))
+    (λ k among. absurd among) (λ w a b c d e f k among. sym (asks_nothing w a b c d e f))
 
 name_first : {Z : Type 0} (b : Option (Box SubCommand Z)) → option_map (λ b. (out-SubCommand (box_value b)).name.now) b ≡ option_map (λ p. p.0) (subcommand_rows b)
 name_first None = refl

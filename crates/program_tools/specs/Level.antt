@@ -3,7 +3,7 @@ use Rattle.std.specs.Prelude.{ℕ, Bool, true, false, List, [], ◌∷◌, ◌==
 use Rattle.clap.specs.Simple.{App, new_app, new_shape, on_top, with_subcommand}
 use Rattle.program_tools.specs.Words.{word_for}
 use Rattle.program_tools.specs.declared.words.Asked.{Asked}
-use Rattle.program_tools.specs.declared.words.Asked.TheVariants.{Run, Routes, Prepare, Records, Check}
+use Rattle.program_tools.specs.declared.words.Asked.TheVariants.{Run, Routes, Locks, Prepare, Records, Check}
 
 -- the word begins with a hyphen (45), as an option does
 abbrev pub begins_with_hyphen : List ℕ → Bool
@@ -26,4 +26,4 @@ with_word level asked = with_subcommand level (new_shape (word_for asked))
 
 -- the level of the program's words
 abbrev pub level : App
-level = fold with_word bare_level (Run ∷ Routes ∷ Prepare ∷ Records ∷ Check ∷ [])
+level = fold with_word bare_level (Run ∷ Routes ∷ Locks ∷ Prepare ∷ Records ∷ Check ∷ [])

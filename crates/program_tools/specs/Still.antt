@@ -1,6 +1,6 @@
--- How the words end that ask for no run, by what the sink and the disk did.
+-- How the words end that ask for no run, by what the source gave, and what the sink and the disk did.
 use Rattle.std.specs.Prelude.{◌≡◌, ◌≢◌, ◌⊎◌, Bool, true, false, List, [], Option, Some, None, Result, Ok, Err, ℕ}
-use Rattle.byte_ports.specs.Cause.{HasCause}
+use Rattle.byte_ports.specs.Cause.{HasCause, Rose}
 use Rattle.disk_trait.specs.Past.{Past, Image}
 use Rattle.disk_trait.specs.Shows.{Shows, Secures}
 use Rattle.disk_trait.specs.Steps.{Goes}
@@ -12,11 +12,18 @@ use Rattle.bbs_journal.specs.declared.preparing.PrepareFault.TheVariants.{Disk, 
 use Rattle.bbs_model.specs.declared.rows.Rows.{Rows}
 use Rattle.bbs_board.specs.Opening.{IsBoard, IsRefused}
 use Rattle.record_print.specs.declared.check.Check.{Check}
+use Rattle.locket.specs.Lives.{LockLog}
+use Rattle.locket.specs.Opening.{IsNotLocket}
+use Rattle.lock_lines.specs.Reading.{lock_lines_of}
+use Rattle.lock_runs.specs.Runs.{LocksEnd, MeetsLocks, StopsLocks}
 use Rattle.program_ends.specs.Ending.{line_of}
 use Rattle.program_ends.specs.Opening.{EndsUntouched, EndsUnopened}
 use Rattle.program_ends.specs.Ports.{Ports, IsTold, Prints}
+use Rattle.program_ends.specs.Reading.{ReadsWhole}
 use Rattle.program_ends.specs.declared.ending.Ending.{Ending}
 use Rattle.program_ends.specs.declared.ending.Ending.TheVariants as ending
+use Rattle.scenario_reader.specs.Accepted.{script_of}
+use Rattle.scenario_reader.specs.declared.fault.ScriptFault.{ScriptFault}
 use Rattle.program_tools.specs.Records.{records_text, IsCheckOf, check_line}
 use Rattle.program_tools.specs.declared.words.Asked.{Asked}
 use Rattle.program_tools.specs.declared.words.Asked.TheVariants as asked
@@ -68,14 +75,36 @@ abbrev pub UsageEnds : Ending → Ports → Ports → Type 0
 UsageEnds ending.Usage v w = EndsUntouched ending.Usage v w
 UsageEnds other v w = ⊥
 
--- how words that ask for no run end
+-- how words end that ask nothing of the source
 abbrev pub StillEnds : Ending → Option Asked → Ports → Ports → Type 0
 StillEnds how (Some asked.Run) v w = ⊥
 StillEnds how (Some asked.Routes) v w = ⊥
+StillEnds how (Some asked.Locks) v w = ⊥
 StillEnds how (Some asked.Prepare) v w = PrepareEnds how v w
 StillEnds how (Some asked.Records) v w = RecordsEnds how v w
 StillEnds how (Some asked.Check) v w = CheckEnds how v w
 StillEnds how None v w = UsageEnds how v w
+
+-- how words that ask for no run end, by what they did to a locket and to the source
+abbrev pub AskedEnds : Ending → Option Asked → LockLog → List ℕ →
+    Option (List ℕ) → Option (List ℕ) → Ports → Ports → Type 0
+AskedEnds how (Some asked.Locks) locks marks left left' v w = LocksEnd how locks marks left left' v w
+AskedEnds how other locks marks left left' v w = StillEnds how other v w
+
+-- the source was read whole, and this is the first fault of what was to be read
+abbrev pub ReadsFault : Option Asked → ScriptFault → Option (List ℕ) → Option (List ℕ) → Type 0
+ReadsFault (Some asked.Locks) fault left left' = ReadsWhole lock_lines_of (Err fault) left left'
+ReadsFault other fault left left' = ReadsWhole script_of (Err fault) left left'
+
+-- the content of a disk is refused for this, as a lock journal or as a board
+abbrev pub IsRefusedFor : Option Asked → LoadFault → Image → Type 0
+IsRefusedFor (Some asked.Locks) why image = IsNotLocket why image
+IsRefusedFor other why image = IsRefused why image
+
+-- no fault of the source was counted, where the word reads it
+abbrev pub ReadsWell : Option Asked → ℕ → ℕ → Type 0
+ReadsWell (Some asked.Locks) faults faults' = Rose faults faults' → ⊥
+ReadsWell other faults faults' = Unit {0}
 
 -- the disk tells that it holds a board
 pub record MeetsBoard (told : Option Past) : Type 0 where
@@ -84,14 +113,15 @@ pub record MeetsBoard (told : Option Past) : Type 0 where
   pub shows : Shows told image
   pub board : IsBoard rows image
 
--- the disk tells what the word asks for: two empty areas, or a board
-abbrev pub MeetsStill : Option Asked → Option Past → Type 0
-MeetsStill (Some asked.Run) told = ⊥
-MeetsStill (Some asked.Routes) told = ⊥
-MeetsStill (Some asked.Prepare) told = Shows told (λ area. [])
-MeetsStill (Some asked.Records) told = MeetsBoard told
-MeetsStill (Some asked.Check) told = MeetsBoard told
-MeetsStill None told = ⊥
+-- the source and the disk tell what the word asks for: two empty areas, a board, or lock commands and a lock journal
+abbrev pub MeetsStill : Option Asked → Option (List ℕ) → Option Past → Type 0
+MeetsStill (Some asked.Run) left told = ⊥
+MeetsStill (Some asked.Routes) left told = ⊥
+MeetsStill (Some asked.Locks) left told = MeetsLocks left told
+MeetsStill (Some asked.Prepare) left told = Shows told (λ area. [])
+MeetsStill (Some asked.Records) left told = MeetsBoard told
+MeetsStill (Some asked.Check) left told = MeetsBoard told
+MeetsStill None left told = ⊥
 
 -- the disk tells that it holds no board, with this first defect
 pub record MeetsNoBoard (told : Option Past) : Type 0 where
@@ -106,20 +136,18 @@ pub record MeetsBytes (told : Option Past) : Type 0 where
   pub shows : Shows told image
   pub bytes : (image A ≢ []) ⊎ (image B ≢ [])
 
--- the disk tells what stops the word: an area that isn't empty, or no board
-abbrev pub MeetsObstacle : Option Asked → Option Past → Type 0
-MeetsObstacle (Some asked.Run) told = ⊥
-MeetsObstacle (Some asked.Routes) told = ⊥
-MeetsObstacle (Some asked.Prepare) told = MeetsBytes told
-MeetsObstacle (Some asked.Records) told = MeetsNoBoard told
-MeetsObstacle (Some asked.Check) told = MeetsNoBoard told
-MeetsObstacle None told = ⊥
+-- the source and the disk tell what stops the word, by the status that it then has: an area that isn't empty, or no
+-- board, or what stops lock commands
+abbrev pub MeetsObstacle : Option Asked → ℕ → Option (List ℕ) → Option Past → Type 0
+MeetsObstacle (Some asked.Run) status left told = ⊥
+MeetsObstacle (Some asked.Routes) status left told = ⊥
+MeetsObstacle (Some asked.Locks) status left told = StopsLocks status left told
+MeetsObstacle (Some asked.Prepare) status left told = (status ≡ 9) × MeetsBytes told
+MeetsObstacle (Some asked.Records) status left told = (status ≡ 6) × MeetsNoBoard told
+MeetsObstacle (Some asked.Check) status left told = (status ≡ 6) × MeetsNoBoard told
+MeetsObstacle None status left told = ⊥
 
 -- the word ends with the status of what stops it; the line of a defect may want memory
-abbrev pub IsStopped : Option Asked → ℕ → Type 0
-IsStopped (Some asked.Run) status = ⊥
-IsStopped (Some asked.Routes) status = ⊥
-IsStopped (Some asked.Prepare) status = status ≡ 9
-IsStopped (Some asked.Records) status = (status ≡ 6) ⊎ (status ≡ 7)
-IsStopped (Some asked.Check) status = (status ≡ 6) ⊎ (status ≡ 7)
-IsStopped None status = ⊥
+abbrev pub IsStopped : Option Asked → ℕ → ℕ → Type 0
+IsStopped (Some asked.Prepare) wanted status = status ≡ wanted
+IsStopped other wanted status = (status ≡ wanted) ⊎ (status ≡ 7)

@@ -13,6 +13,8 @@ pub enum Asked {
     Run,
     /// To run it, and to print what it changes of the routes in place of all that it does.
     Routes,
+    /// To run the lock commands that the source gives, on a lock journal.
+    Locks,
     /// To make an empty board.
     Prepare,
     /// To print each row of the board.
@@ -23,9 +25,10 @@ pub enum Asked {
 
 impl Asked {
     /// All that the program can be asked for.
-    pub(crate) const ALL: [Asked; 5] = [
+    pub(crate) const ALL: [Asked; 6] = [
         Asked::Run,
         Asked::Routes,
+        Asked::Locks,
         Asked::Prepare,
         Asked::Records,
         Asked::Check,
@@ -38,6 +41,7 @@ impl Asked {
         match self {
             Asked::Run => "run",
             Asked::Routes => "routes",
+            Asked::Locks => "locks",
             Asked::Prepare => "prepare",
             Asked::Records => "records",
             Asked::Check => "check",
@@ -98,9 +102,10 @@ mod tests {
 
     #[test]
     fn one_word_behind_the_programs_name_is_read(rt: HostRuntime) -> Result<(), Fail> {
-        let cases: [(&[&str], Option<Asked>); 6] = [
+        let cases: [(&[&str], Option<Asked>); 7] = [
             (&["diego", "run"], Some(Asked::Run)),
             (&["diego", "routes"], Some(Asked::Routes)),
+            (&["diego", "locks"], Some(Asked::Locks)),
             (&["diego", "prepare"], Some(Asked::Prepare)),
             (&["diego", "records"], Some(Asked::Records)),
             (&["diego", "check"], Some(Asked::Check)),
@@ -114,11 +119,14 @@ mod tests {
 
     #[test]
     fn other_words_ask_for_nothing(rt: HostRuntime) -> Result<(), Fail> {
-        let cases: [&[&str]; 19] = [
+        let cases: [&[&str]; 22] = [
             &["diego", "Records"],
             &["diego", "record"],
             &["diego", "route"],
             &["diego", "Routes"],
+            &["diego", "lock"],
+            &["diego", "Locks"],
+            &["diego", "locks", "x"],
             &["diego", "checks"],
             &["diego", ""],
             &["diego", "-h"],

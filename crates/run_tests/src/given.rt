@@ -5,6 +5,7 @@ use byte_ports::{Gate, MemorySink, MemorySource};
 use convergence::Report;
 use diego_engine::{TopEnd, diego_top_in_memory};
 use disk_trait::{Area, Disk, MemoryDisk};
+use locket::LockItem;
 use scenario_lines::Answered;
 use std::alloc::Global;
 use std::panic::Expect;
@@ -84,6 +85,7 @@ pub struct Left<K = MemorySink> {
     pub marks: Vec<u64>,
     pub answers: Vec<Answered>,
     pub reports: Vec<Report>,
+    pub locks: Vec<LockItem>,
 }
 
 /// A text of its own.
@@ -138,6 +140,7 @@ pub fn left_of<K>(end: TopEnd<MemorySource, K, MemoryDisk>) -> Left<K> {
         marks,
         answers,
         reports,
+        locks,
     } = end;
     Left {
         status,
@@ -147,6 +150,7 @@ pub fn left_of<K>(end: TopEnd<MemorySource, K, MemoryDisk>) -> Left<K> {
         marks,
         answers,
         reports,
+        locks,
     }
 }
 
@@ -177,6 +181,7 @@ pub fn tells_nothing<K>(rt: &impl Abort, left: &Left<K>) {
     assert!(rt; left.marks.is_empty());
     assert!(rt; left.answers.is_empty());
     assert!(rt; left.reports.is_empty());
+    assert!(rt; left.locks.is_empty());
 }
 
 /// What the areas must hold.

@@ -2,6 +2,7 @@
 //! over ports in memory.
 mod bytes;
 mod faults;
+mod locks;
 mod shown;
 
 ghost use Rattle.std.specs.Prelude.{◌≡◌, false, map, string_bytes};

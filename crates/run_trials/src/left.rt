@@ -36,6 +36,7 @@ pub fn left_of<S: Drop, K>(end: TopEnd<S, K, MemoryDisk>) -> Left<K>
         marks,
         answers,
         reports,
+        locks: _,
     } = end;
     Left {
         status,

@@ -124,6 +124,7 @@ fn status_at(rt: &impl Runtime, alloc: Global, narrow: &mut Narrow) -> u8 {
         marks: _,
         answers: _,
         reports: _,
+        locks: _,
     } = diego_top(rt, alloc, &words, source, sink, disk, &OpenGate);
     status
 }

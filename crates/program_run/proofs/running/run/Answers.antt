@@ -1,5 +1,6 @@
 use Rattle.std.proofs.Common.{refl}
-use Rattle.program_run.proofs.Endings.{not_before, not_read, read_cause, script_runs, unread, unread_cause}
+use Rattle.program_ends.proofs.Public.{read_cause, unread_cause}
+use Rattle.program_run.proofs.Endings.{not_before, not_read, script_runs, unread}
 use Rattle.program_run.proofs.running.run.Goals as goal
 
 pub returns-in-Ok-clause-ends : goal.returns-in-Ok-clause-ends

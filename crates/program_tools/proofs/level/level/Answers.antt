@@ -4,11 +4,11 @@ use Rattle.std.proofs.lemmas.List.Sums.{fold_more}
 use Rattle.clap.specs.Simple.{App, app_of_fields, on_top, with_subcommand}
 use Rattle.program_tools.specs.Level.{bare_level, with_word}
 use Rattle.program_tools.specs.declared.words.Asked.{Asked}
-use Rattle.program_tools.specs.declared.words.Asked.TheVariants.{Run, Routes, Prepare, Records, Check}
+use Rattle.program_tools.specs.declared.words.Asked.TheVariants.{Run, Routes, Locks, Prepare, Records, Check}
 use Rattle.program_tools.proofs.level.level.Goals as goal
 
 abbrev all : List Asked
-all = Run ∷ Routes ∷ Prepare ∷ Records ∷ Check ∷ []
+all = Run ∷ Routes ∷ Locks ∷ Prepare ∷ Records ∷ Check ∷ []
 
 pub loop-asked-init : goal.loop-asked-init
 loop-asked-init c =
@@ -27,5 +27,5 @@ loop-asked-preserved c =
 
 pub returns : goal.returns
 returns c =
-    let at_end : c.loop-asked.asked-index ≡ 5 = omega arith in
+    let at_end : c.loop-asked.asked-index ≡ 6 = omega arith in
     c.loop-asked.invariant ∙ ap (λ (n : ℕ). fold with_word bare_level (take n all)) at_end

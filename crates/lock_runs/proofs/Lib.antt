@@ -1,0 +1,7 @@
+mod Joining
+mod OneLine
+mod Counting
+mod Telling
+mod Endings
+pub mod Laws
+pub mod Public
