@@ -1,12 +1,11 @@
-mod Lists
-mod Names
-mod Differing
-mod KeyOrders
-mod Rows
-mod Finding
+pub mod Lists
+pub mod Names
+pub mod Differing
+pub mod Rows
+pub mod Finding
 mod Agreeing
 mod Open
-mod Holding
+pub mod Holding
 mod Turns
 mod Bare
 mod Few

@@ -3,31 +3,28 @@
 
 mod cells;
 mod containers;
-mod group;
 mod key_sets;
 mod placing;
 mod plan;
 mod planning;
-mod processes;
 mod proxies;
 mod silence;
 mod site;
 mod site_of;
 mod states_in_order;
-mod stays;
+mod standing;
 mod tables;
 mod verdicts;
 mod waiting;
 mod wanting;
-mod zone_cells;
 
 pub use cells::open_cells;
-pub use group::Group;
 pub use placing::unplaced_at;
 pub use plan::Plan;
-pub use planning::plan_of;
-pub use processes::zone_names;
+pub use planning::{Scene, holders_of, plan_in, plan_of};
 pub use proxies::{proxy_of, with_proxy};
 pub use site::{Site, Stay, Wanted};
+pub use standing::{Holders, instance_in, silent_stays, stays};
+pub use tables::table_of;
 pub use verdicts::verdict_of;
-pub use zone_cells::cells_of_zone;
+pub use waiting::{does_wait, held_before};

@@ -12,7 +12,7 @@ use Rattle.forecast_records.specs.declared.spread.InOneZone.{InOneZone}
 use Rattle.forecast_records.specs.declared.spread.OnOneCell.{OnOneCell}
 use Rattle.forecast_records.specs.declared.spread.Uneven.{Uneven}
 use Rattle.forecast_records.specs.declared.spread.ZoneCount.{ZoneCount}
-use Rattle.what_if.specs.declared.group.Unevenness.{Unevenness}
+use Rattle.site_answers.specs.declared.group.Unevenness.{Unevenness}
 use Rattle.what_if.specs.declared.site.Site.{Site}
 use Rattle.what_if.specs.declared.site.Stay.{Stay}
 use Rattle.what_if.specs.declared.site.Wanted.{Wanted}

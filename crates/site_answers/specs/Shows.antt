@@ -2,14 +2,14 @@
 use Rattle.std.specs.Prelude.{[], length, count_by}
 use Rattle.std.specs.List.{flat_map}
 use Rattle.forecast_records.specs.declared.stock.Shown.{Shown}
-use Rattle.what_if.specs.Losses.{tasks_on}
+use Rattle.site_answers.specs.Losses.{tasks_on}
 use Rattle.what_if.specs.Plans.{jobs_of_loss, left_of, stands_before, unplaced_of}
-use Rattle.what_if.specs.Spread.{by_spread, in_one_zone, on_one_cell, processes, uneven_in}
+use Rattle.site_answers.specs.Spread.{by_spread, in_one_zone, on_one_cell, processes, uneven_in}
 use Rattle.what_if.specs.Stays.{open_cells, stays, stays_on}
-use Rattle.what_if.specs.Tags.{tag_rooms}
+use Rattle.site_answers.specs.Tags.{tag_rooms}
 use Rattle.what_if.specs.Verdicts.{verdict_of}
 use Rattle.what_if.specs.Waiting.{waits}
-use Rattle.what_if.specs.Zones.{zones_now}
+use Rattle.site_answers.specs.Zones.{zones_now}
 use Rattle.what_if.specs.declared.site.Site.{Site}
 
 -- what stands and waits now; what waits is planned with no cell lost, and all that is left over counts

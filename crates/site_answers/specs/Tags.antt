@@ -11,7 +11,7 @@ use Rattle.forecast_records.specs.declared.stock.TagRoom.{TagRoom}
 use Rattle.room_facts.specs.Lacks.{has_tag}
 use Rattle.room_facts.specs.Rooms.{free_in_all, of_tag, sums}
 use Rattle.what_if.specs.Plans.{jobs_of_loss, left_of, stands_before}
-use Rattle.what_if.specs.Sums.{as_sums}
+use Rattle.site_answers.specs.Sums.{as_sums}
 use Rattle.what_if.specs.Verdicts.{verdict_of}
 use Rattle.what_if.specs.declared.site.Site.{Site}
 

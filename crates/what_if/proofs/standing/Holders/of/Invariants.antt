@@ -2,7 +2,7 @@ use Rattle.std.proofs.Common.{◌≡◌, ◌≤◌, length, drop}
 use Rattle.std.specs.HashMap.{get}
 use Rattle.diego_names.specs.declared.key.Key.{Key}
 use Rattle.what_if.specs.Stays.{holder_in, same_key}
-use Rattle.what_if.proofs.stays.Holders.of.Given as goal
+use Rattle.what_if.proofs.standing.Holders.of.Given as goal
 
 abbrev pub invariant-loop-at : goal.invariant-loop-at
 invariant-loop-at l = record {

@@ -12,9 +12,9 @@ use Rattle.row_tables.proofs.Public.{table-from_sorted}
 use Rattle.diego_names.specs.Order.{name_order}
 use Rattle.diego_names.proofs.Public.{IsKeyOrder-name_order}
 use Rattle.forecast_records.specs.declared.spread.Uneven.{Uneven}
-use Rattle.what_if.specs.Spread.{by_spread, uneven_order, unevenness}
-use Rattle.what_if.specs.Tags.{tag_order}
-use Rattle.what_if.specs.Zones.{group_order}
+use Rattle.site_answers.specs.Spread.{by_spread, uneven_order, unevenness}
+use Rattle.site_answers.specs.Tags.{tag_order}
+use Rattle.site_answers.specs.Zones.{group_order}
 use Rattle.what_if.proofs.Differing.{Differ, differ-by}
 
 -- where one order and then another tie, both do

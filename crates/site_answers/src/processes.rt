@@ -2,10 +2,9 @@
 ghost use Rattle.std.specs.Prelude.{◌≡◌, map, ◌++◌, IfOk};
 ghost use Rattle.diego_names.specs.Order.{name_order};
 ghost use Rattle.row_tables.specs.Table.{table};
-ghost use Rattle.what_if.specs.Spread.{processes, zone_names};
+ghost use Rattle.site_answers.specs.Spread.{processes, zone_names};
 
-use crate::site::{Site, Wanted};
-use crate::tables::table_of;
+use what_if::{Site, Wanted, table_of};
 use diego_names::{Name, OutOfMemory};
 use std::alloc::Global;
 

@@ -3,7 +3,7 @@ use Rattle.diego_names.specs.Order.{name_order}
 use Rattle.diego_names.proofs.Public.{IsKeyOrder-name_order}
 use Rattle.row_tables.specs.Table.{table}
 use Rattle.what_if.proofs.Rows.{rows-of_table}
-use Rattle.what_if.proofs.processes.names_in_order.Goals as goal
+use Rattle.site_answers.proofs.processes.names_in_order.Goals as goal
 
 pub table_of-requires : goal.table_of-requires
 table_of-requires c = IsKeyOrder-name_order.exact

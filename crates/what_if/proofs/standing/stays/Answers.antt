@@ -2,7 +2,7 @@ use Rattle.std.proofs.Common.{cond, List, [], ◌++◌, sym, ap, ◌∙◌}
 use Rattle.what_if.specs.Stays.{is_open, stays_on}
 use Rattle.what_if.specs.declared.site.Stay.{Stay}
 use Rattle.what_if.proofs.Lists.{flat_map_next}
-use Rattle.what_if.proofs.stays.stays.Goals as goal
+use Rattle.what_if.proofs.standing.stays.Goals as goal
 
 pub loop-answer-preserved : goal.loop-answer-preserved
 loop-answer-preserved c =

@@ -4,7 +4,7 @@ use Rattle.std.proofs.lemmas.List.Elements.{filter_agree}
 use Rattle.auctioneer.specs.Stands.{same_name}
 use Rattle.what_if.specs.Stays.{is_lost}
 use Rattle.what_if.specs.declared.site.Stay.{Stay}
-use Rattle.what_if.proofs.stays.silent_stays.Goals as goal
+use Rattle.what_if.proofs.standing.silent_stays.Goals as goal
 
 pub returns : goal.returns
 returns c =

@@ -4,7 +4,7 @@ use Rattle.diego_names.proofs.Public.{IsKeyOrder-name_order}
 use Rattle.what_if.specs.declared.site.Wanted.{Wanted}
 use Rattle.row_tables.specs.Table.{table}
 use Rattle.what_if.proofs.Rows.{rows-of_table}
-use Rattle.what_if.proofs.processes.processes.Goals as goal
+use Rattle.site_answers.proofs.processes.processes.Goals as goal
 
 pub table_of-requires : goal.table_of-requires
 table_of-requires c = IsKeyOrder-name_order.exact

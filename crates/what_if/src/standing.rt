@@ -28,8 +28,8 @@ fn has_ended(state: &ContainerState) -> bool
     }
 }
 
-// The instance that a job is of.
-pub(crate) fn instance_in(job: &JobName) -> Option<Key>
+/// The instance that a job is of. A task is of none.
+pub fn instance_in(job: &JobName) -> Option<Key>
     ensures { result ≡ instance_in job.now }
 {
     match job {
@@ -94,8 +94,8 @@ fn outside(alloc: Global, stays: &[Stay], cells: &HashSet<Name>) -> Result<Vec<S
     Ok(list)
 }
 
-// Where instances stand on silent cells that aren't lost.
-fn silent_stays(alloc: Global, site: &Site, lost: &[Name]) -> Result<Vec<Stay>, OutOfMemory>
+/// Where instances stand on silent cells that aren't lost.
+pub fn silent_stays(alloc: Global, site: &Site, lost: &[Name]) -> Result<Vec<Stay>, OutOfMemory>
     ensures { IfOk result (λ list. list.items ≡ silent_stays site.now lost.now) }
 {
     let gone = set_of(alloc, lost)?;
@@ -103,8 +103,8 @@ fn silent_stays(alloc: Global, site: &Site, lost: &[Name]) -> Result<Vec<Stay>, 
     Ok(list)
 }
 
-// Where instances stand with these cells lost.
-pub(crate) fn stays(alloc: Global, site: &Site, lost: &[Name]) -> Result<Vec<Stay>, OutOfMemory>
+/// Where instances stand with these cells lost: on the open cells by name, then on silent ones.
+pub fn stays(alloc: Global, site: &Site, lost: &[Name]) -> Result<Vec<Stay>, OutOfMemory>
     ensures { IfOk result (λ list. list.items ≡ stays site.now lost.now) }
 {
     let mut list = Vec::new(alloc);
@@ -116,15 +116,15 @@ pub(crate) fn stays(alloc: Global, site: &Site, lost: &[Name]) -> Result<Vec<Sta
     Ok(list)
 }
 
-// Of each instance the first cell on which it stands.
+/// Of each instance the first cell on which it stands.
 #[derive(Drop)]
-pub(crate) struct Holders {
+pub struct Holders {
     cells: HashMap<Key, Name>,
 }
 
 impl Holders {
-    // The cells of these instances.
-    pub(crate) fn of(alloc: Global, stays: &[Stay]) -> Result<Holders, OutOfMemory>
+    /// The cells of these instances.
+    pub fn of(alloc: Global, stays: &[Stay]) -> Result<Holders, OutOfMemory>
         ensures { IfOk result (λ holders. IsHolders stays.now holders) }
     {
         let mut cells = HashMap::new(alloc);
@@ -137,8 +137,8 @@ impl Holders {
         Ok(Holders { cells })
     }
 
-    // The cell that holds the instance.
-    pub(crate) fn holder(&self, key: &Key) -> Option<Name>
+    /// The cell that holds the instance.
+    pub fn holder(&self, key: &Key) -> Option<Name>
         ensures { result ≡ found self.now key.now }
     {
         self.cells.get(key).copied()

@@ -4,7 +4,7 @@ use Rattle.std.proofs.lemmas.Grind.{common_steps}
 use Rattle.what_if.specs.Stays.{holder_in, same_key}
 use Rattle.what_if.specs.declared.site.Stay.{Stay}
 use Rattle.what_if.proofs.Holding.{holder_back}
-use Rattle.what_if.proofs.stays.Holders.of.Goals as goal
+use Rattle.what_if.proofs.standing.Holders.of.Goals as goal
 
 pub loop-at-init : goal.loop-at-init
 loop-at-init c = record {

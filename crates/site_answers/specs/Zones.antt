@@ -13,9 +13,9 @@ use Rattle.forecast_records.specs.declared.stock.ZoneNow.{ZoneNow}
 use Rattle.forecast_records.specs.declared.stock.ZoneThen.{ZoneThen}
 use Rattle.forecast_records.specs.declared.stock.ZoneTotals.{ZoneTotals}
 use Rattle.what_if.specs.Stays.{stays_on}
-use Rattle.what_if.specs.Sums.{most_of, sums_of}
-use Rattle.what_if.specs.Tags.{tag_order}
-use Rattle.what_if.specs.declared.group.Group.{Group}
+use Rattle.site_answers.specs.Sums.{most_of, sums_of}
+use Rattle.site_answers.specs.Tags.{tag_order}
+use Rattle.site_answers.specs.declared.group.Group.{Group}
 use Rattle.what_if.specs.declared.site.Site.{Site}
 
 -- by zone, then by tag

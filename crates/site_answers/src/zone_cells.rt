@@ -1,11 +1,11 @@
 //! The cells of a zone.
 ghost use Rattle.std.specs.Prelude.{◌≡◌, map, filter, IfOk};
 ghost use Rattle.auctioneer.specs.Stands.{same_name};
-ghost use Rattle.what_if.specs.Losses.{cells_of_zone};
+ghost use Rattle.site_answers.specs.Losses.{cells_of_zone};
 
-use crate::site::Site;
 use diego_names::{Name, OutOfMemory};
 use std::alloc::Global;
+use what_if::Site;
 
 // The cells of the zone that told their state.
 fn telling_cells(alloc: Global, site: &Site, zone: &Name) -> Result<Vec<Name>, OutOfMemory>

@@ -1,0 +1,2 @@
+mod KeyOrders
+mod Finding
