@@ -19,3 +19,6 @@ pub use showing::show;
 pub use stands::stays_after;
 pub use zone_cells::cells_of_zone;
 pub use zones::{zones_now, zones_then};
+
+#[cfg(test)]
+mod tests;
