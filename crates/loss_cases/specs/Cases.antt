@@ -9,10 +9,10 @@ use Rattle.forecast_records.specs.declared.cases.EachLost.{EachLost}
 use Rattle.forecast_records.specs.declared.unplaced.Unplaced.{Unplaced}
 use Rattle.forecast_records.specs.declared.verdict.Verdict.{Verdict}
 use Rattle.forecast_records.specs.declared.verdict.Verdict.TheVariants.{Room, Unplaced as IsUnplaced, Short}
-use Rattle.what_if.specs.Losses.{cells_of_zone, dark_of_many}
+use Rattle.site_answers.specs.Losses.{cells_of_zone, dark_of_many}
 use Rattle.what_if.specs.Plans.{planned}
-use Rattle.what_if.specs.Spread.{zone_names}
-use Rattle.what_if.specs.Tags.{tag_order}
+use Rattle.site_spread.specs.Spread.{zone_names}
+use Rattle.site_spread.specs.Groups.{tag_order}
 use Rattle.what_if.specs.Verdicts.{worse}
 use Rattle.what_if.specs.declared.plan.Plan.{Plan}
 use Rattle.what_if.specs.declared.site.Site.{Site}

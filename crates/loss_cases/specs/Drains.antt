@@ -10,12 +10,12 @@ use Rattle.forecast_records.specs.declared.drains.Step.{Step}
 use Rattle.room_facts.specs.Lacks.{has_tag}
 use Rattle.room_facts.specs.Placings.{is_placed}
 use Rattle.room_facts.specs.Rooms.{free_in_all}
-use Rattle.what_if.specs.Drains.{after_step}
+use Rattle.cell_drains.specs.Steps.{after_step}
 use Rattle.what_if.specs.Plans.{planned, stands_before}
-use Rattle.what_if.specs.Spread.{uneven_in}
+use Rattle.site_spread.specs.Spread.{uneven_in}
 use Rattle.what_if.specs.Stays.{open_cells, same_key, stays}
-use Rattle.what_if.specs.Sums.{as_sums}
-use Rattle.what_if.specs.Zones.{zones_then}
+use Rattle.site_answers.specs.Sums.{as_sums}
+use Rattle.site_answers.specs.Zones.{zones_then}
 use Rattle.what_if.specs.declared.plan.Plan.{Plan}
 use Rattle.what_if.specs.declared.site.Site.{Site}
 use Rattle.loss_cases.specs.Batches.{batches}

@@ -10,9 +10,9 @@ use Rattle.dump_reader.specs.declared.dump.Dump.{Dump}
 use Rattle.forecast_records.specs.declared.finding.Finding.{Finding}
 use Rattle.forecast_records.specs.declared.finding.Finding.TheVariants.{Show as Shows, Lose as Loses, LoseEach as LosesEach, LoseInTurn as LosesInTurn, Drain as Drains, Fit as Fits}
 use Rattle.forecast_records.specs.declared.finding.Found.{Found}
-use Rattle.what_if.specs.Losses.{cells_of_zone, lost_of}
-use Rattle.what_if.specs.Notes.{notes_of}
-use Rattle.what_if.specs.Shows.{shown_of}
+use Rattle.site_answers.specs.Losses.{cells_of_zone, lost_of}
+use Rattle.site_answers.specs.Notes.{notes_of}
+use Rattle.site_answers.specs.Shows.{shown_of}
 use Rattle.what_if.specs.Sites.{proxy_of, site_of}
 use Rattle.what_if.specs.declared.site.Site.{Site}
 use Rattle.loss_cases.specs.Cases.{each_lost}

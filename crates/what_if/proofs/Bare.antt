@@ -17,7 +17,7 @@ use Rattle.what_if.specs.Stays.{stays}
 use Rattle.what_if.specs.Verdicts.{short_if, verdict_of}
 use Rattle.what_if.specs.Waiting.{is_displaced}
 use Rattle.what_if.specs.declared.site.Site.{Site}
-use Rattle.what_if.specs.declared.stays.Holders.{Holders}
+use Rattle.what_if.specs.declared.standing.Holders.{Holders}
 use Rattle.what_if.proofs.Holding.{displaced-by_holders}
 
 -- a fold over what is made of each

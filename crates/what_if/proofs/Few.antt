@@ -17,7 +17,7 @@ use Rattle.what_if.specs.Holders.{does_wait_by, waits_by}
 use Rattle.what_if.specs.Plans.{without_jobs}
 use Rattle.what_if.specs.Waiting.{instance_job}
 use Rattle.what_if.specs.declared.site.Site.{Site}
-use Rattle.what_if.specs.declared.stays.Holders.{Holders}
+use Rattle.what_if.specs.declared.standing.Holders.{Holders}
 use Rattle.what_if.proofs.Lists.{shorter}
 
 -- a row more or none

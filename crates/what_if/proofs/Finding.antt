@@ -4,8 +4,6 @@ use Rattle.std.specs.List.{find}
 use Rattle.auctioneer.specs.Stands.{same_name}
 use Rattle.dump_lines.specs.declared.cell_state.Place.{Place}
 use Rattle.what_if.specs.Sites.{place_in}
-use Rattle.what_if.specs.Spread.{is_of_process}
-use Rattle.what_if.specs.declared.site.Stay.{Stay}
 use Rattle.what_if.proofs.Lists.{drop_next}
 use Rattle.what_if.proofs.Names.{names_turned}
 
@@ -19,8 +17,3 @@ pub place_back : (ps : List Place) (n : ℕ) (p : Place) → 0 < n → n ≤ len
 place_back ps n p some within e cell =
     ap (λ (b : Bool). cond b (Some p) (place_in (drop n ps) cell)) (names_turned p.cell cell)
     ∙ find_back (λ (q : Place). same_name cell q.cell) ps n p some within e
-
-pub stay_back : (ss : List Stay) (n : ℕ) (s : Stay) → 0 < n → n ≤ length ss → s ≡ get_or ss (n - 1) s → (process : List ℕ) → cond (same_name s.key.process process) (Some s) (find (is_of_process process) (drop n ss)) ≡ find (is_of_process process) (drop (n - 1) ss)
-stay_back ss n s some within e process =
-    ap (λ (b : Bool). cond b (Some s) (find (is_of_process process) (drop n ss))) (names_turned s.key.process process)
-    ∙ find_back (is_of_process process) ss n s some within e

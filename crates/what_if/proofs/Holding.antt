@@ -10,7 +10,7 @@ use Rattle.what_if.specs.Waiting.{does_wait, instance_job, is_displaced, held_be
 use Rattle.what_if.specs.declared.site.Site.{Site}
 use Rattle.what_if.specs.declared.site.Stay.{Stay}
 use Rattle.what_if.specs.declared.site.Wanted.{Wanted}
-use Rattle.what_if.specs.declared.stays.Holders.{Holders}
+use Rattle.what_if.specs.declared.standing.Holders.{Holders}
 use Rattle.what_if.proofs.Lists.{drop_next}
 
 -- of the instances from one on, the first that is the one

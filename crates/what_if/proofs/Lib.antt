@@ -1,15 +1,14 @@
-mod Lists
-mod Names
-mod Differing
-mod KeyOrders
-mod Rows
-mod Finding
-mod Agreeing
-mod Open
-mod Holding
+pub mod Lists
+pub mod Names
+pub mod Differing
+pub mod Rows
+pub mod Finding
+pub mod Agreeing
+pub mod Open
+pub mod Holding
 mod Turns
-mod Bare
-mod Few
+pub mod Bare
+pub mod Few
 mod Planned
 mod Parts
 mod VerdictLemmas

@@ -15,7 +15,7 @@ use Rattle.what_if.specs.declared.placing.Outcome.{Outcome}
 use Rattle.what_if.specs.declared.placing.Setting.{Setting}
 use Rattle.what_if.specs.declared.plan.Plan.{Plan}
 use Rattle.what_if.specs.declared.site.Site.{Site}
-use Rattle.what_if.specs.declared.stays.Holders.{Holders}
+use Rattle.what_if.specs.declared.standing.Holders.{Holders}
 use Rattle.what_if.proofs.Bare.{left_agree, unplaced-by_holders, verdict_of-bare}
 use Rattle.what_if.proofs.Holding.{displaced-by_holders, waits-by_holders}
 use Rattle.what_if.proofs.Planned.{HasParts}

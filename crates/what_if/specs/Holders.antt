@@ -13,7 +13,7 @@ use Rattle.what_if.specs.Waiting.{instance_job}
 use Rattle.what_if.specs.declared.site.Site.{Site}
 use Rattle.what_if.specs.declared.site.Stay.{Stay}
 use Rattle.what_if.specs.declared.site.Wanted.{Wanted}
-use Rattle.what_if.specs.declared.stays.Holders.{Holders}
+use Rattle.what_if.specs.declared.standing.Holders.{Holders}
 
 -- the cell that holds the instance, as it is looked up
 abbrev pub found : Holders → Key → Option (List ℕ)

@@ -8,11 +8,3 @@ pub mod Plans
 pub mod Holders
 pub mod Scenes
 pub mod Placed
-pub mod Sums
-pub mod Tags
-pub mod Zones
-pub mod Spread
-pub mod Losses
-pub mod Shows
-pub mod Drains
-pub mod Notes

@@ -6,7 +6,7 @@ ghost use Rattle.what_if.specs.Holders.{unplaced_by};
 ghost use Rattle.what_if.specs.Placed.{PlacesAll, PlacesOne};
 ghost use Rattle.what_if.specs.Plans.{is_left, unplaced_at, without_jobs};
 
-use crate::stays::Holders;
+use crate::standing::Holders;
 use crate::waiting::held_before;
 use auctioneer::{Auction, Placement, Stand};
 use cell_records::Job;

@@ -11,7 +11,7 @@ use crate::cells::open_cells;
 use crate::placing::{Outcome, Setting, place_all, without_jobs};
 use crate::plan::Plan;
 use crate::site::Site;
-use crate::stays::{Holders, stays};
+use crate::standing::{Holders, stays};
 use crate::verdicts::verdict_of;
 use crate::waiting::{held_before, waits};
 use auctioneer::{Auction, Stand, in_order};
@@ -20,25 +20,25 @@ use diego_names::{List, Name, OutOfMemory};
 use forecast_records::Verdict;
 use std::alloc::Global;
 
-// Which cell holds which instance with these cells lost.
-fn holders_of(alloc: Global, site: &Site, lost: &[Name]) -> Result<Holders, OutOfMemory>
+/// Which cell holds which instance with these cells lost.
+pub fn holders_of(alloc: Global, site: &Site, lost: &[Name]) -> Result<Holders, OutOfMemory>
     ensures { IfOk result (IsHolders (stays site.now lost.now)) }
 {
     let list = stays(alloc, site, lost)?;
     Holders::of(alloc, &list)
 }
 
-// A loss, with the cells that hold instances before it and with it.
+/// A loss, with the cells that hold instances before it and with it.
 #[derive(Clone, Copy)]
-pub(crate) struct Scene<'a> {
-    pub(crate) site: &'a Site,
-    pub(crate) lost: &'a [Name],
-    pub(crate) before: &'a Holders,
-    pub(crate) after: &'a Holders,
+pub struct Scene<'a> {
+    pub site: &'a Site,
+    pub lost: &'a [Name],
+    pub before: &'a Holders,
+    pub after: &'a Holders,
 }
 
-// Those of the jobs that a cell held while nothing was lost.
-fn held_jobs(alloc: Global, jobs: &[Job], before: &Holders) -> Result<Vec<Job>, OutOfMemory>
+/// Those of the jobs that a cell held while nothing was lost, by the holders of that time.
+pub fn held_jobs(alloc: Global, jobs: &[Job], before: &Holders) -> Result<Vec<Job>, OutOfMemory>
     ensures { IfOk result (λ held. held.items
         ≡ filter (λ j. is_some (found_before before.now j.job)) jobs.now) }
 {
@@ -93,8 +93,9 @@ fn plan_from(
     }
 }
 
-// The plan of a loss.
-pub(crate) fn plan_in(alloc: Global, scene: &Scene) -> Result<Plan, OutOfMemory>
+/// The plan of a loss, where it is known already which cells hold what: what one loss after another shares is
+/// looked up once.
+pub fn plan_in(alloc: Global, scene: &Scene) -> Result<Plan, OutOfMemory>
     requires site { IsSite scene.now.site.now }
     requires scene { IsScene scene.now }
     ensures { IfOk result (λ plan. plan ≡ planned scene.now.site.now scene.now.lost.now) }

@@ -36,8 +36,8 @@ fn rows_of<K: Ord + Copy + Drop, X: Copy + Drop>(
     Ok(rows)
 }
 
-// The rows in the order of their keys. Of two of one key the first is kept.
-pub(crate) fn table_of<K: Ord + Copy + Drop, X: Copy + Drop>(
+/// The rows in the order of their keys. Of two of one key the first is kept.
+pub fn table_of<K: Ord + Copy + Drop, X: Copy + Drop>(
     alloc: Global,
     rows: &[(K, X)],
 ) -> Result<Vec<X>, OutOfMemory>

@@ -4,7 +4,7 @@ ghost use Rattle.what_if.specs.Holders.{found_before, does_wait_by, waits_by};
 ghost use Rattle.what_if.specs.Waiting.{instance_job};
 
 use crate::site::{Site, Wanted};
-use crate::stays::Holders;
+use crate::standing::Holders;
 use cell_records::{Job, JobName};
 use diego_names::{Name, OutOfMemory};
 use std::alloc::Global;
@@ -20,8 +20,8 @@ fn instance_job(wanted: &Wanted) -> Job
     }
 }
 
-// Whether no cell holds the instance, and it isn't crashed.
-pub(crate) fn does_wait(holders: &Holders, wanted: &Wanted) -> bool
+/// Whether no cell holds the instance, and it isn't crashed.
+pub fn does_wait(holders: &Holders, wanted: &Wanted) -> bool
     ensures { result ≡ does_wait_by holders.now wanted.now }
 {
     holders.holder(&wanted.key).is_none() && !wanted.crashed
@@ -52,8 +52,8 @@ pub(crate) fn waits(alloc: Global, site: &Site, holders: &Holders) -> Result<Vec
     Ok(jobs)
 }
 
-// The cell that holds the job while nothing is lost, by the holders of that time.
-pub(crate) fn held_before(holders: &Holders, job: &JobName) -> Option<Name>
+/// The cell that holds the job while nothing is lost, by the holders of that time.
+pub fn held_before(holders: &Holders, job: &JobName) -> Option<Name>
     ensures { result ≡ found_before holders.now job.now }
 {
     match job {

@@ -1,0 +1,6 @@
+mod Adding
+mod Counting
+mod Told
+mod Named
+mod Darkness
+mod Answered
