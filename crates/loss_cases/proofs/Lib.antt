@@ -2,3 +2,8 @@ mod KeyPlaces
 mod Orders
 mod Survivals
 mod Turning
+mod PlaceOrders
+mod Tries
+mod Growing
+mod Sizes
+mod Filling

@@ -5,15 +5,20 @@
 mod batches;
 mod cells;
 mod each;
+mod fillings;
 mod findings;
 mod fits;
 mod keys;
 mod laws;
 mod left;
 mod losses;
+mod more;
+mod placements;
+mod trials;
 mod turns;
 mod verdicts;
 
 pub use findings::Told;
-pub use laws::turns_survive;
+pub use fits::fit;
+pub use laws::{fits_fill, turns_survive};
 pub use turns::lose_in_turn;
