@@ -1,0 +1,7 @@
+mod Grouping
+mod Changing
+mod Sums
+mod Slots
+mod Amounts
+mod Leveling
+mod NextSites
