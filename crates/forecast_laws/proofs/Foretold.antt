@@ -17,11 +17,11 @@ use Rattle.converge_round.specs.Places.{placements}
 use Rattle.converge_round.proofs.Public.{jobs_differ, open_answers}
 use Rattle.diego_names.specs.Order.{name_order}
 use Rattle.diego_names.proofs.Public.{IsKeyOrder-name_order}
+use Rattle.round_theorem.proofs.Public.{differ_pairs, one_of_name}
 use Rattle.what_if.specs.Plans.{jobs_of_loss, plan, stands_before}
 use Rattle.what_if.specs.Stays.{open_cells}
 use Rattle.what_if.specs.Waiting.{waits}
 use Rattle.what_if.specs.declared.site.Site.{Site}
-use Rattle.what_if.proofs.Differing.{differ-by}
 use Rattle.forecast_laws.specs.Plans.{PlansAreRounds}
 use Rattle.forecast_laws.proofs.Alike.{table-of_same}
 
@@ -42,12 +42,14 @@ plan_is_round by now line s s' r h site lost reads =
     let rows = rows_seen h.opened.view in
     let valid : IsValid p.rows = subst IsValid (sym placed.rows_are) placed.valid in
     let answers : AreAnswers p.roomy = open_answers rows h.opened.reps h.opens.hearing.got p.roomy h.opens.heard.apart placed.open_are in
-    let named = jobs_differ p.rows valid in
     let apart : AllPairs (λ a b. a ≢ b) (map (λ (s : Stand). s.cell) (map stand_of p.roomy)) = subst (AllPairs (λ a b. a ≢ b)) (names_read p.roomy) answers.differ in
     let stands : stands_before site lost ≡ stands_of p.roomy =
-    table-of_same name_order (λ (s : Stand). s.cell) IsKeyOrder-name_order (map stand_of (open_cells site lost)) (map stand_of p.roomy) apart reads.cells in
-    let turns : AllPairs (λ a b. a ≢ b) (map turn_of (jobs p.rows)) = differ-by (λ (j : Job). j.job) turn_of same_turn (jobs p.rows) named in
+    table-of_same name_order (λ (s : Stand). s.cell) IsKeyOrder-name_order (map stand_of (open_cells site lost)) (map stand_of p.roomy)
+    (one_of_name (λ (s : Stand). s.cell) (map stand_of p.roomy) (differ_pairs (map (λ (s : Stand). s.cell) (map stand_of p.roomy)) apart))
+    reads.cells in
     let order : jobs_of_loss site lost ≡ in_order (jobs p.rows) =
-    table-of_same turn_order turn_of IsKeyOrder-turn_order (waits site lost) (jobs p.rows) turns reads.jobs in
+    table-of_same turn_order turn_of IsKeyOrder-turn_order (waits site lost) (jobs p.rows)
+    (λ a b in_a in_b turns. one_of_name (λ (j : Job). j.job) (jobs p.rows) (differ_pairs (map (λ (j : Job). j.job) (jobs p.rows)) (jobs_differ p.rows valid)) a b in_a in_b
+    (same_turn a b turns)) reads.jobs in
     placed.placed ∙ ap (λ (q : Rows). placements q p.roomy) (sym placed.rows_are)
     ∙ one_auction site lost p.rows p.roomy stands order

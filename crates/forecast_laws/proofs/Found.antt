@@ -10,8 +10,8 @@ use Rattle.cell_records.specs.declared.job_name.JobName.{JobName}
 use Rattle.converge_laws.proofs.Public.{from_filter, from_map, inside_filter}
 use Rattle.converge_round.specs.Places.{unplaced}
 use Rattle.forecast_records.specs.declared.verdict.Verdict.TheVariants.{Room}
-use Rattle.round_completeness.proofs.Whole.{complete-round}
-use Rattle.round_theorem.proofs.Converges.{complete-converges}
+use Rattle.round_completeness.specs.Completeness.{RoundsThatNothingDisturbsAreComplete}
+use Rattle.round_theorem.specs.Complete.{CompleteRoundsConverge}
 use Rattle.what_if.specs.Plans.{displaced_left, if_none, jobs_left, jobs_of_loss, left_of, stands_before}
 use Rattle.what_if.specs.Verdicts.{short_if, verdict_of}
 use Rattle.what_if.specs.Waiting.{is_displaced, waits}
@@ -62,9 +62,9 @@ displaced_found by now line s s' r h site lost reads room j moved inside =
     inside_filter (λ (x : Job). is_displaced site x.job) (left_of site lost) l.0 l.1 (ap (is_displaced site) l.2 ∙ is) in
     nothing_inside l.0 (subst (λ (js : List Job). Contains js l.0) none left)
 
-pub ends_well : RoomMakesRoundsComplete
-ends_well by now line s s' r h site lost reads none u =
-    let complete = complete-round by now line s s' r h (record {
+pub ends_well : RoundsThatNothingDisturbsAreComplete → CompleteRoundsConverge → RoomMakesRoundsComplete
+ends_well completes converges by now line s s' r h site lost reads none u =
+    let complete = completes by now line s s' r h (record {
       names = u.names;
       answer = u.answer;
       wire = u.wire;
@@ -72,4 +72,4 @@ ends_well by now line s s' r h site lost reads none u =
       placed = nothing_waits by now line s s' r h site lost reads none;
       room = u.room;
     }) in
-    record { complete = complete; converged = complete-converges by now line s s' r h u.names complete }
+    record { complete = complete; converged = converges by now line s s' r h u.names complete }

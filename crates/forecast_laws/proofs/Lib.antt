@@ -1,3 +1,6 @@
 mod Alike
 mod Foretold
 mod Found
+mod RowsRead
+mod CellsRead
+mod SiteRead

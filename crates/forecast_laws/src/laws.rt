@@ -1,6 +1,11 @@
-//! The laws. These functions do nothing: they are there for what they ensure.
+//! The laws. These functions do nothing: they are there for what they ensure. Where one calls a law, it follows
+//! from that law.
 ghost use Rattle.forecast_laws.specs.Plans.{PlansAreRounds};
+ghost use Rattle.forecast_laws.specs.Records.{RecordsReadTheSite};
 ghost use Rattle.forecast_laws.specs.Rooms.{DisplacedJobsFindRoom, RoomLeavesNothingWaiting, RoomMakesRoundsComplete, RoundsLeaveWhatPlansLeave};
+
+use round_completeness::{rounds_auction_what_is_left, rounds_that_nothing_disturbs_are_complete};
+use round_theorem::complete_rounds_converge;
 
 /// Where a round reads what the site says with these cells lost, it places each job just where the
 /// plan does.
@@ -28,4 +33,15 @@ pub fn displaced_jobs_find_room()
 /// all is as it should be.
 pub fn room_makes_rounds_complete()
     ensures { RoomMakesRoundsComplete }
-{}
+{
+    rounds_that_nothing_disturbs_are_complete();
+    complete_rounds_converge();
+}
+
+/// Where the names of the reps differ, a round reads the site if its rows and the answers of the
+/// cells are as the site says with these cells lost.
+pub fn records_read_the_site()
+    ensures { RecordsReadTheSite }
+{
+    rounds_auction_what_is_left();
+}

@@ -4,6 +4,6 @@
 mod laws;
 
 pub use laws::{
-    displaced_jobs_find_room, plans_are_rounds, room_leaves_nothing_waiting,
+    displaced_jobs_find_room, plans_are_rounds, records_read_the_site, room_leaves_nothing_waiting,
     room_makes_rounds_complete, rounds_leave_what_plans_leave,
 };
