@@ -1,68 +1,53 @@
 -- The cells that a round places on are the open ones of the site.
-use Rattle.std.proofs.Common.{◌≡◌, ℕ, Bool, true, false, cond, not, ◌&&◌, List, map, filter_map, Some, None, refl, sym, ap, subst, ◌∙◌}
-use Rattle.std.specs.List.{Contains}
-use Rattle.auctioneer.specs.Stands.{stand_of}
-use Rattle.auctioneer.specs.declared.stand.Stand.{Stand}
+use Rattle.std.proofs.Common.{◌≡◌, ℕ, Bool, true, false, cond, not, ◌&&◌, List, [], ◌∷◌, filter, filter_map, Some, None, refl}
+use Rattle.std.specs.List.{AllZip, cons_option}
 use Rattle.bbs_model.specs.declared.rows.Rows.{Rows}
 use Rattle.cell_records.specs.declared.answer.Answer.{Answer}
-use Rattle.converge_laws.proofs.Public.{from_filter, from_map, inside_filter, inside_map}
+use Rattle.converge_laws.proofs.Public.{from_filter, inside_filter}
 use Rattle.converge_round.specs.Places.{is_being_emptied}
-use Rattle.converge_round.proofs.Public.{from_kept}
 use Rattle.diego_names.specs.declared.instance.Instance.{Instance}
 use Rattle.round_completeness.specs.Left.{left_open, less_all}
 use Rattle.what_if.specs.Stays.{is_lost, is_open, open_cells}
 use Rattle.what_if.specs.declared.site.Site.{Site}
-use Rattle.forecast_laws.specs.Plans.{HaveTheSame}
-use Rattle.forecast_laws.specs.Records.{AreAnswersOf, TellsOf}
-use Rattle.forecast_laws.proofs.Alike.{kept_inside, some_one}
+use Rattle.forecast_laws.specs.Plans.{HaveTheSame, IsReadAs}
+use Rattle.forecast_laws.specs.Records.{AreAnswersOf, IsAnswered}
 
--- an auction reads the same of both
-read_alike : (c x : Answer) → TellsOf c x → stand_of x ≡ stand_of c
-read_alike c x h = λ i. record {
-  cell = h.cell i;
-  zone = h.zone i;
-  tag = h.tag i;
-  totals = h.totals i;
-  free = h.free i;
-  jobs = h.jobs i;
+both_true : (a b : Bool) → (a && b) ≡ true → (a ≡ true) × (b ≡ true)
+both_true true b e = (refl, e)
+both_true false b e = absurd cc
+
+-- whether the cell is not being emptied
+abbrev pub stays_in : Answer → Bool
+stays_in c = not c.evacuating
+
+-- one cell more, which both leave out or neither does
+one_left : (gone : List (List ℕ × Instance)) (c x : Answer) (cs xs : List Answer) (e b : Bool) → b ≡ e → IsReadAs c (less_all gone x) → AllZip IsReadAs cs xs
+    → AllZip IsReadAs (cond (not e) (c ∷ cs) cs) (cons_option (cond b None (Some (less_all gone x))) xs)
+one_left gone c x cs xs true true same alike rest = rest
+one_left gone c x cs xs false false same alike rest = (alike, rest)
+one_left gone c x cs xs true false same alike rest = absurd cc
+one_left gone c x cs xs false true same alike rest = absurd cc
+
+-- of cells with their answers those stay that aren't being emptied, with what is left of the answers
+pub left_alike : (rows : Rows) (gone : List (List ℕ × Instance)) (cs got : List Answer) → AllZip (IsAnswered rows gone) cs got
+    → AllZip IsReadAs (filter stays_in cs) (filter_map (left_open rows gone) got)
+left_alike rows gone [] [] h = tt
+left_alike rows gone [] (x ∷ got) h = absurd h
+left_alike rows gone (c ∷ cs) [] h = absurd h
+left_alike rows gone (c ∷ cs) (x ∷ got) h =
+    one_left gone c x (filter stays_in cs) (filter_map (left_open rows gone) got) c.evacuating (is_being_emptied rows x.cell) h.0.emptied h.0.alike
+    (left_alike rows gone cs got h.1)
+
+-- and these are the open ones
+pub open_same : (site : Site) (lost : List (List ℕ)) (rows : Rows) (gone : List (List ℕ × Instance)) (got : List Answer) (are : AreAnswersOf site lost rows gone got)
+    → HaveTheSame (open_cells site lost) (filter stays_in are.cells)
+open_same site lost rows gone got are = record {
+  there = λ c inside.
+      let f = from_filter (is_open lost) site.cells c inside in
+      let both = both_true (not (is_lost lost c.cell)) (not c.evacuating) f.1 in
+      inside_filter stays_in are.cells c (are.kept_are.there c (inside_filter (λ x. not (is_lost lost x.cell)) site.cells c f.0 both.0)) both.1;
+  back = λ c inside.
+      let f = from_filter stays_in are.cells c inside in
+      let g = from_filter (λ x. not (is_lost lost x.cell)) site.cells c (are.kept_are.back c f.0) in
+      inside_filter (is_open lost) site.cells c g.0 (λ i. g.1 i && f.1 i);
 }
-
--- a cell that is open is neither lost nor being emptied
-neither : (a b : Bool) → (not a && not b) ≡ true → (a ≡ false) × (b ≡ false)
-neither true b e = absurd cc
-neither false true e = absurd cc
-neither false false e = (refl, refl)
-
--- what is left of a cell is its answer less what was stopped, and the cell isn't being emptied
-left_from : (b : Bool) (x y : Answer) → cond b None (Some x) ≡ Some y → (b ≡ false) × (x ≡ y)
-left_from true x y e = absurd cc
-left_from false x y e = (refl, some_one x y e)
-
-module _ (site : Site) (lost : List (List ℕ)) (rows : Rows) (gone : List (List ℕ × Instance)) (got : List Answer) (are : AreAnswersOf site lost rows gone got) where
-  abbrev left : List Answer
-  left = filter_map (left_open rows gone) got
-
-  cell_there : (s : Stand) → Contains (map stand_of (open_cells site lost)) s → Contains (map stand_of left) s
-  cell_there s inside =
-      let c = from_map stand_of (open_cells site lost) s inside in
-      let f = from_filter (is_open lost) site.cells c.0 c.1 in
-      let n = neither (is_lost lost c.0.cell) c.0.evacuating f.1 in
-      let x = are.there c.0 f.0 n.0 in
-      let is : left_open rows gone x.0 ≡ Some (less_all gone x.0) =
-      ap (λ (b : Bool). cond b None (Some (less_all gone x.0))) (x.2.emptied ∙ n.1) in
-      subst (Contains (map stand_of left)) (read_alike c.0 (less_all gone x.0) x.2.tells ∙ c.2)
-      (inside_map stand_of left (less_all gone x.0) (kept_inside (left_open rows gone) got x.0 (less_all gone x.0) x.1 is))
-
-  cell_back : (s : Stand) → Contains (map stand_of left) s → Contains (map stand_of (open_cells site lost)) s
-  cell_back s inside =
-      let y = from_map stand_of left s inside in
-      let x = from_kept (left_open rows gone) got y.0 y.1 in
-      let n = left_from (is_being_emptied rows x.0.cell) (less_all gone x.0) y.0 x.2 in
-      let c = are.back x.0 x.1 in
-      let staying : c.0.evacuating ≡ false = sym c.2.emptied ∙ n.0 in
-      let opened : is_open lost c.0 ≡ true = λ i. not (c.2.kept i) && not (staying i) in
-      subst (Contains (map stand_of (open_cells site lost))) (sym (read_alike c.0 (less_all gone x.0) c.2.tells) ∙ ap stand_of n.1 ∙ y.2)
-      (inside_map stand_of (open_cells site lost) c.0 (inside_filter (is_open lost) site.cells c.0 c.1 opened))
-
-  pub cells_read : HaveTheSame (map stand_of (open_cells site lost)) (map stand_of left)
-  cells_read = record { there = cell_there; back = cell_back }

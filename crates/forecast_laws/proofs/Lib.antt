@@ -1,4 +1,5 @@
 mod Alike
+mod AlikeAuctions
 mod Foretold
 mod Found
 mod RowsRead

@@ -1,7 +1,6 @@
 -- When the records of a board and the answers of its cells are as the site says with cells lost.
-use Rattle.std.specs.Prelude.{◌≡◌, ℕ, ◌<◌, Bool, true, false, List, Some, filter_map}
-use Rattle.std.specs.List.{Contains}
-use Rattle.auctioneer.specs.Stands.{jobs_of}
+use Rattle.std.specs.Prelude.{◌≡◌, ℕ, ◌<◌, Bool, true, false, not, List, Some, filter, filter_map}
+use Rattle.std.specs.List.{AllZip, Contains}
 use Rattle.bbs_model.specs.Tables.{find_actual, find_desired}
 use Rattle.bbs_model.specs.Work.{wants}
 use Rattle.bbs_model.specs.declared.rows.Rows.{Rows}
@@ -24,7 +23,7 @@ use Rattle.round_completeness.specs.Left.{less_all}
 use Rattle.what_if.specs.Stays.{is_held, is_lost}
 use Rattle.what_if.specs.declared.site.Site.{Site}
 use Rattle.what_if.specs.declared.site.Wanted.{Wanted}
-use Rattle.forecast_laws.specs.Plans.{HaveTheSame, ReadsTheSite}
+use Rattle.forecast_laws.specs.Plans.{HaveTheSame, IsReadAs, ReadsTheSite}
 
 -- the process of a wanted instance is desired with so many instances, and with the amounts that the site says
 pub record IsDesired (rows : Rows) (w : Wanted) : Type 0 where
@@ -60,30 +59,20 @@ pub record AreRowsOf (site : Site) (lost : List (List ℕ)) (rows : Rows) : Type
   -- the PENDING tasks are those that wait in the site, with their amounts
   pub pending : HaveTheSame site.pending (filter_map task_job rows.tasks)
 
--- an answer says of a cell all that the site has of it and an auction reads
-pub record TellsOf (c x : Answer) : Type 0 where
-  pub cell : x.cell ≡ c.cell
-  pub zone : x.zone ≡ c.zone
-  pub tag : x.tag ≡ c.tag
-  pub totals : x.totals ≡ c.totals
-  -- what is free is what the site has as free
-  pub free : x.free ≡ c.free
-  -- the containers that have not ended are those that the site has, in its order
-  pub jobs : jobs_of x.containers ≡ jobs_of c.containers
-
--- a cell of the site that isn't lost, and an answer less what was stopped on the cell; the board knows that the cell is
--- being emptied just where the site does
-pub record IsAnswered (lost : List (List ℕ)) (rows : Rows) (gone : List (List ℕ × Instance)) (c x : Answer) : Type 0 where
-  pub kept : is_lost lost c.cell ≡ false
-  pub tells : TellsOf c (less_all gone x)
+-- a cell of the site, and what it answered less what was stopped on it; the board knows that the cell is being emptied
+-- just where the site does
+pub record IsAnswered (rows : Rows) (gone : List (List ℕ × Instance)) (c x : Answer) : Type 0 where
+  pub alike : IsReadAs c (less_all gone x)
   pub emptied : is_being_emptied rows x.cell ≡ c.evacuating
 
 -- the cells that answered are just those of the site that aren't lost
 pub record AreAnswersOf (site : Site) (lost : List (List ℕ)) (rows : Rows) (gone : List (List ℕ × Instance))
     (got : List Answer) : Type 0 where
-  pub there : (c : Answer) → Contains site.cells c → is_lost lost c.cell ≡ false →
-      (x : Answer) × Contains got x × IsAnswered lost rows gone c x
-  pub back : (x : Answer) → Contains got x → (c : Answer) × Contains site.cells c × IsAnswered lost rows gone c x
+  -- those of the site, in the order in which they answered
+  pub cells : List Answer
+  pub kept_are : HaveTheSame (filter (λ c. not (is_lost lost c.cell)) site.cells) cells
+  -- each with its answer
+  pub answered : AllZip (IsAnswered rows gone) cells got
 
 -- the records of a board, as a round reads them for its auction, and what cells answered, less what was stopped, are
 -- those of the site with these cells lost

@@ -2,7 +2,8 @@
 //! from that law.
 ghost use Rattle.forecast_laws.specs.Plans.{PlansAreRounds};
 ghost use Rattle.forecast_laws.specs.Records.{RecordsReadTheSite};
-ghost use Rattle.forecast_laws.specs.Rooms.{DisplacedJobsFindRoom, RoomLeavesNothingWaiting, RoomMakesRoundsComplete, RoundsLeaveWhatPlansLeave};
+ghost use Rattle.forecast_laws.specs.Rooms.{DisplacedJobsFindRoom, RoomLeavesNothingWaiting};
+ghost use Rattle.forecast_laws.specs.Rooms.{RoomMakesRoundsComplete, RoundsLeaveWhatPlansLeave};
 
 use round_completeness::{rounds_auction_what_is_left, rounds_that_nothing_disturbs_are_complete};
 use round_theorem::complete_rounds_converge;
