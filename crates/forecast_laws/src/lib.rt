@@ -1,0 +1,9 @@
+//! A plan of headroom foretells the round of the board.
+#![tactic(auto)]
+
+mod laws;
+
+pub use laws::{
+    displaced_jobs_find_room, plans_are_rounds, records_read_the_site, room_leaves_nothing_waiting,
+    room_makes_rounds_complete, rounds_leave_what_plans_leave,
+};
