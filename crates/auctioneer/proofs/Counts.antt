@@ -121,7 +121,7 @@ module _ (place : Place) where
       (sum_by_push (λ (x : JobName). cond (is_of other x) 1 0) s.jobs job.job)
 
   -- the places with a job more on one of the cells
-  count_at-set : (stands : List Stand) (at : ℕ) (s : Stand) (job : Job) (other : JobName) (name : List ℕ) → at < length stands → s ≡ get_or stands at s → count_at place (set stands at (with_job job s)) other name ≡ count_at place stands other name + counts_for job.job (place_of place s) other name
+  pub count_at-set : (stands : List Stand) (at : ℕ) (s : Stand) (job : Job) (other : JobName) (name : List ℕ) → at < length stands → s ≡ get_or stands at s → count_at place (set stands at (with_job job s)) other name ≡ count_at place stands other name + counts_for job.job (place_of place s) other name
   count_at-set stands at s job other name inside is =
       let sums = sum_by-set (held_at place other name) stands at (with_job job s) s inside in
       let more = held_at-with_job job s other name in

@@ -10,5 +10,6 @@ pub mod SpotOrders
 pub mod SpotLists
 pub mod Refusals
 pub mod Offers
-pub mod Groups
+pub mod SpotRanges
+pub mod Walks
 pub mod Public

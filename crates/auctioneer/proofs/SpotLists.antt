@@ -1,46 +1,54 @@
 -- The spots of the cells, one after the other.
-use Rattle.std.proofs.Common.{◌≡◌, ℕ, zero, suc, ◌+◌, ◌-◌, ◌*◌, ◌/◌, ◌<◌, ◌≤◌, true, false, cond, eqb, List, [], ◌∷◌, ◌++◌, length, set, get_or, refl, sym, ap, subst, ◌∙◌, inl, inr, arith}
-use Rattle.std.specs.Result.{OnOk, OnErr}
-use Rattle.std.specs.declared.result.Result.{Result}
-use Rattle.std.specs.declared.result.Result.TheVariants.{Ok, Err}
+use Rattle.std.proofs.Common.{◌≡◌, ℕ, zero, suc, ◌-◌, ◌*◌, ◌/◌, ◌<◌, ◌≤◌, true, false, cond, eqb, List, [], ◌∷◌, ◌++◌, length, set, get_or, count_by, sum_by, is_some, Bool, refl, sym, ap, subst, ◌∙◌, inl, inr, arith}
+use Rattle.std.specs.Option.{IfSome}
 use Rattle.std.proofs.Math.Nat.{div-mul-le_self}
 use Rattle.std.proofs.lemmas.Nat.{le-div}
 use Rattle.std.proofs.lemmas.Bool.{cases_lt, cases_eq, eqb-false}
-use Rattle.std.proofs.lemmas.List.{length-append, length-set, get_or_append_left, get_or_push, get_or_default, get_or-set_same, get_or-set_other}
+use Rattle.std.proofs.lemmas.List.Sums.{sum_by_push}
+use Rattle.std.proofs.lemmas.List.{length-append, length-set, get_or_append_left, get_or_push, get_or_default, get_or_read, get_or-set_same, get_or-set_other}
 use Rattle.cell_records.specs.declared.job.Job.{Job}
 use Rattle.auction_scoring.specs.Score.{used_share}
-use Rattle.auctioneer.specs.Spots.{load_in, IsGroupOf, AreSpots}
-use Rattle.auctioneer.specs.Stands.{with_job}
-use Rattle.auctioneer.specs.declared.spots.Group.{Group}
+use Rattle.diego_names.specs.declared.key.Key.{Key}
+use Rattle.cell_records.specs.declared.job_name.JobName.{JobName}
+use Rattle.cell_records.specs.declared.job_name.JobName.TheVariants.{Lrp, Task}
+use Rattle.auctioneer.specs.Spots.{load_in, IsGroupOf, AreFirstSpots, AreSpotsFor, IsOrderOf, IsRanking, IsSpotOf}
+use Rattle.auctioneer.specs.Stands.{same_name, is_of, held_of, in_zone, with_job}
+use Rattle.auctioneer.specs.declared.groups.Group.{Group}
 use Rattle.auctioneer.specs.declared.spots.Spot.{Spot}
+use Rattle.auctioneer.specs.declared.spots.Spots.{Spots}
 use Rattle.auctioneer.specs.declared.stand.Stand.{Stand}
+use Rattle.auctioneer.specs.declared.tally.Place.TheVariants.{Zone}
+use Rattle.auctioneer.proofs.Counts.{count_at-set}
 
-pub AreSpots-nil : AreSpots [] [] []
-AreSpots-nil = record {
+pub AreFirstSpots-nil : AreFirstSpots [] [] []
+AreFirstSpots-nil = record {
   all = refl;
   cell = λ k p below. absurd (omega arith);
+  zone = λ k p below. absurd (omega arith);
+  on = λ k p below. absurd (omega arith);
   load = λ k s p below. absurd (omega arith);
   group = λ k s p below. absurd (omega arith);
 }
 
 -- a cell more
-pub AreSpots-push : (groups more : List Group) (stands : List Stand) (spots : List Spot) (s : Stand) (spot : Spot) → AreSpots groups stands spots → ((x : Stand) (n : ℕ) → IsGroupOf groups x n → IsGroupOf more x n) → spot.cell ≡ length spots → spot.load ≤ load_in s → IsGroupOf more s spot.group → AreSpots more (stands ++ s ∷ []) (spots ++ spot ∷ [])
-AreSpots-push groups more stands spots s spot h kept cell load group =
+pub AreFirstSpots-push : (groups more : List Group) (stands : List Stand) (spots : List Spot) (s : Stand) (spot : Spot) → AreFirstSpots groups stands spots → ((x : Stand) (n : ℕ) → IsGroupOf groups x n → IsGroupOf more x n) → spot.cell ≡ length spots → spot.in_zone ≡ 0 → spot.on_cell ≡ 0 → spot.load ≤ load_in s → IsGroupOf more s spot.group → AreFirstSpots more (stands ++ s ∷ []) (spots ++ spot ∷ [])
+AreFirstSpots-push groups more stands spots s spot h kept cell zone on load group =
     let old_spot = λ (k : ℕ) (p : Spot) (below : k < length spots). get_or_append_left spots (spot ∷ []) p k below in
     let new_spot = λ (k : ℕ) (p : Spot) (here : length spots ≡ k). get_or_push spots spot p k here in
     let old_stand = λ (k : ℕ) (x : Stand) (below : k < length stands). get_or_append_left stands (s ∷ []) x k below in
     let new_stand = λ (k : ℕ) (x : Stand) (here : length stands ≡ k). get_or_push stands s x k here in
     let pushed = length-append stands (s ∷ []) in
     let pushed_spots = length-append spots (spot ∷ []) in
+    let last = λ (k : ℕ) (p : Spot) (below : k < length (spots ++ spot ∷ [])) (C : Spot → ℕ) (n : ℕ → ℕ) (old : k < length spots → C (get_or spots k p) ≡ n k) (new : C spot ≡ n (length spots)).
+    elim (cases_lt k (length spots)) as (λ t. C (get_or (spots ++ spot ∷ []) k p) ≡ n k) [
+      | (inl lt) ↦ ap C (old_spot k p lt) ∙ old lt
+      | (inr ge) ↦ let here : length spots ≡ k = omega (arith, pushed_spots) in ap C (new_spot k p here) ∙ new ∙ ap n here
+    ] in
     record {
       all = omega (arith, pushed, pushed_spots, h.all);
-      cell = λ k p below.
-          elim (cases_lt k (length spots)) [
-            | (inl lt) ↦ ap (λ (x : Spot). x.cell) (old_spot k p lt) ∙ h.cell k p lt
-            | (inr ge) ↦
-                let here : length spots ≡ k = omega (arith, pushed_spots) in
-                ap (λ (x : Spot). x.cell) (new_spot k p here) ∙ cell ∙ here
-          ];
+      cell = λ k p below. last k p below (λ x. x.cell) (λ n. n) (h.cell k p) cell;
+      zone = λ k p below. last k p below (λ x. x.in_zone) (λ n. 0) (h.zone k p) zone;
+      on = λ k p below. last k p below (λ x. x.on_cell) (λ n. 0) (h.on k p) on;
       load = λ k x p below.
           elim (cases_lt k (length stands)) [
             | (inl lt) ↦
@@ -88,68 +96,146 @@ load_in-le job s =
       used_share-le s.totals.containers s.free.containers (s.free.containers - 1) (omega arith),
     )
 
--- the spots hold of a cell with a job more
-pub AreSpots-put : (groups : List Group) (stands : List Stand) (spots : List Spot) (at : ℕ) (s : Stand) (job : Job) → AreSpots groups stands spots → at < length stands → s ≡ get_or stands at s → AreSpots groups (set stands at (with_job job s)) spots
-AreSpots-put groups stands spots at s job h inside is =
-    let here : (k : ℕ) (x : Stand) → k ≡ at → get_or (set stands at (with_job job s)) k x ≡ with_job job (get_or stands k s) =
-    λ k x same. ap (λ n. get_or (set stands at (with_job job s)) n x) same ∙ get_or-set_same stands at (with_job job s) x inside ∙ ap (with_job job) (is ∙ ap (λ n. get_or stands n s) (sym same)) in
+-- a spot by load alone serves for each job
+pub IsSpotOf-first : (job : JobName) (groups : List Group) (stands : List Stand) (spots : List Spot) → AreFirstSpots groups stands spots → AreSpotsFor job groups stands spots
+IsSpotOf-first job groups stands spots h = record {
+  all = h.all;
+  each = λ k p below.
+      let within : k < length spots = omega (arith, h.all) in
+      record {
+        cell = h.cell k p within;
+        group = λ s. h.group k s p below;
+        flat = λ g some. h.zone k p within;
+        zone = λ s. omega (arith, h.zone k p within);
+        on = λ s. omega (arith, h.on k p within);
+        load = λ s. h.load k s p below;
+      };
+}
+
+-- a cell scores no less once a job more is on one
+module _ (other : JobName) (groups : List Group) (stands : List Stand) (at : ℕ) (s : Stand) (job : Job) (inside : at < length stands) (is : s ≡ get_or stands at s) where
+  here : (k : ℕ) (x : Stand) → k ≡ at → get_or (set stands at (with_job job s)) k x ≡ with_job job s
+  here k x same = ap (λ n. get_or (set stands at (with_job job s)) n x) same ∙ get_or-set_same stands at (with_job job s) x inside
+
+  was : (k : ℕ) (x : Stand) → k ≡ at → get_or stands k x ≡ s
+  was k x same = ap (λ n. get_or stands n x) same ∙ get_or_default stands at x s inside ∙ sym is
+
+  -- what doesn't fall where a job is put on a cell, at each cell
+  grown : (C : Stand → ℕ) → C s ≤ C (with_job job s) → (k : ℕ) (x : Stand) → C (get_or stands k x) ≤ C (get_or (set stands at (with_job job s)) k x)
+  grown C more k x =
+      elim (cases_eq k at) [
+        | (inl same) ↦ rw (here k x same, was k x same) more
+        | (inr apart) ↦ omega (arith, ap C (get_or-set_other stands at k (with_job job s) x apart))
+      ]
+
+  -- and what stays
+  kept : {X : Type 0} (C : Stand → X) → C s ≡ C (with_job job s) → (k : ℕ) (x : Stand) → C (get_or stands k x) ≡ C (get_or (set stands at (with_job job s)) k x)
+  kept C same_here k x =
+      elim (cases_eq k at) [
+        | (inl same) ↦ ap C (was k x same) ∙ same_here ∙ ap C (sym (here k x same))
+        | (inr apart) ↦ ap C (sym (get_or-set_other stands at k (with_job job s) x apart))
+      ]
+
+  zone_grown : (k : ℕ) (x : Stand) → in_zone stands other (get_or stands k x).zone ≤ in_zone (set stands at (with_job job s)) other (get_or (set stands at (with_job job s)) k x).zone
+  zone_grown k x =
+      let zone = (get_or stands k x).zone in
+      let more = count_at-set Zone stands at s job other zone inside is in
+      let same : in_zone (set stands at (with_job job s)) other zone ≡ in_zone (set stands at (with_job job s)) other (get_or (set stands at (with_job job s)) k x).zone = ap (in_zone (set stands at (with_job job s)) other) (kept (λ (y : Stand). y.zone) refl k x) in
+      omega (arith, more, same)
+
+  held_grown : held_of other s ≤ held_of other (with_job job s)
+  held_grown = omega (arith, sum_by_push (λ (x : JobName). cond (is_of other x) 1 0) s.jobs job.job)
+
+  pub IsSpotOf-put : (k : ℕ) (p : Spot) → IsSpotOf other groups stands k p → IsSpotOf other groups (set stands at (with_job job s)) k p
+  IsSpotOf-put k p h = record {
+    cell = h.cell;
+    group = λ x.
+        let g = h.group x in
+        record {
+          inside = g.inside;
+          tag = λ y. g.tag y ∙ kept (λ (z : Stand). z.tag) refl k x;
+          zone = λ y. subst (λ z. IfSome (get_or groups p.group y).zone (λ zone. zone ≡ z)) (kept (λ (z : Stand). z.zone) refl k x) (g.zone y);
+        };
+    flat = h.flat;
+    zone = λ x. omega (arith, h.zone x, zone_grown k x);
+    on = λ x. omega (arith, h.on x, grown (held_of other) held_grown k x);
+    load = λ x. omega (arith, h.load x, grown load_in (load_in-le job s) k x);
+  }
+
+  pub AreSpotsFor-put : (spots : List Spot) → AreSpotsFor other groups stands spots → AreSpotsFor other groups (set stands at (with_job job s)) spots
+  AreSpotsFor-put spots h = record {
+    all = simp length-set h.all;
+    each = λ k p below. IsSpotOf-put k (get_or spots k p) (h.each k p (simp length-set at below));
+  }
+
+-- the spots with another one of a cell
+pub AreSpotsFor-set : (job : JobName) (groups : List Group) (stands : List Stand) (spots : List Spot) (at : ℕ) (after : Spot) → at < length spots → IsSpotOf job groups stands at after → AreSpotsFor job groups stands spots → AreSpotsFor job groups stands (set spots at after)
+AreSpotsFor-set job groups stands spots at after inside one h = record {
+  all = simp length-set h.all;
+  each = λ k p below.
+      elim (cases_eq k at) [
+        | (inl same) ↦
+            let there : get_or (set spots at after) k p ≡ after = ap (λ n. get_or (set spots at after) n p) same ∙ get_or-set_same spots at after p inside in
+            subst (IsSpotOf job groups stands k) (sym there) (subst (λ n. IsSpotOf job groups stands n after) (sym same) one)
+        | (inr apart) ↦ subst (IsSpotOf job groups stands k) (sym (get_or-set_other spots at k after p apart)) (h.each k p below)
+      ];
+}
+
+-- whether a job is of a process is known by the process
+same_is_of : (a b : Key) → a.process ≡ b.process → (x : JobName) → is_of (Lrp a) x ≡ is_of (Lrp b) x
+same_is_of a b e (Lrp k) = ap (λ n. same_name n k.process) e
+same_is_of a b e (Task t) = refl
+
+-- a spot that serves for an instance serves for each of its process
+pub IsSpotOf-process : (a b : Key) (groups : List Group) (stands : List Stand) (k : ℕ) (p : Spot) → a.process ≡ b.process → IsSpotOf (Lrp a) groups stands k p → IsSpotOf (Lrp b) groups stands k p
+IsSpotOf-process a b groups stands k p e spot =
+    let same : is_of (Lrp a) ≡ is_of (Lrp b) = λ i x. same_is_of a b e x i in
+    let counts : (s : Stand) → held_of (Lrp a) s ≡ held_of (Lrp b) s = λ s. ap (λ (t : JobName → Bool). count_by t s.jobs) same in
+    let zones : (zone : List ℕ) → in_zone stands (Lrp a) zone ≡ in_zone stands (Lrp b) zone = λ zone. ap (λ (c : Stand → ℕ). sum_by (λ s. cond (same_name s.zone zone) (c s) 0) stands) (λ i s. counts s i) in
     record {
-      all = simp length-set h.all;
-      cell = h.cell;
-      load = λ k x p below.
-          let within : k < length stands = simp length-set at below in
-          elim (cases_eq k at) [
-            | (inl same) ↦
-                let old = h.load k s p within in
-                let grown = load_in-le job (get_or stands k s) in
-                let is_here : load_in (get_or (set stands at (with_job job s)) k x) ≡ load_in (with_job job (get_or stands k s)) = ap load_in (here k x same) in
-                omega (arith, old, grown, is_here)
-            | (inr apart) ↦ rw (get_or-set_other stands at k (with_job job s) x apart) (h.load k x p within)
-          ];
-      group = λ k x p below.
-          let within : k < length stands = simp length-set at below in
-          elim (cases_eq k at) [
-            | (inl same) ↦
-                let g = h.group k s p within in
-                rw (here k x same) (record { inside = g.inside; is = g.is })
-            | (inr apart) ↦ rw (get_or-set_other stands at k (with_job job s) x apart) (h.group k x p within)
-          ];
+      cell = spot.cell;
+      group = spot.group;
+      flat = spot.flat;
+      zone = λ s. omega (arith, spot.zone s, zones (get_or stands k s).zone);
+      on = λ s. omega (arith, spot.on s, counts (get_or stands k s));
+      load = spot.load;
     }
 
--- a spot of a load that is no greater than the cell's
-pub AreSpots-moved : (groups : List Group) (stands : List Stand) (spots : List Spot) (at : ℕ) (s : Stand) (spot : Spot) (load : ℕ) → AreSpots groups stands spots → at < length spots → s ≡ get_or stands at s → spot ≡ get_or spots at spot → load ≤ load_in s → AreSpots groups stands (set spots at (record spot { load = load }))
-AreSpots-moved groups stands spots at s spot load h inside is was most =
-    let after : Spot = record spot { load = load } in
-    let here : (k : ℕ) (p : Spot) → k ≡ at → get_or (set spots at after) k p ≡ after =
-    λ k p same. ap (λ n. get_or (set spots at after) n p) same ∙ get_or-set_same spots at after p inside in
-    let before : (k : ℕ) → k ≡ at → spot ≡ get_or spots k spot = λ k same. was ∙ ap (λ n. get_or spots n spot) (sym same) in
-    record {
-      all = simp length-set h.all;
-      cell = λ k p below.
-          let within : k < length spots = simp length-set at below in
-          elim (cases_eq k at) [
-            | (inl same) ↦ ap (λ (x : Spot). x.cell) (here k p same) ∙ ap (λ (x : Spot). x.cell) (before k same) ∙ h.cell k spot within
-            | (inr apart) ↦ ap (λ (x : Spot). x.cell) (get_or-set_other spots at k after p apart) ∙ h.cell k p within
-          ];
-      load = λ k x p below.
-          elim (cases_eq k at) [
-            | (inl same) ↦
-                let same_stand : s ≡ get_or stands k x = is ∙ ap (λ n. get_or stands n s) (sym same) ∙ get_or_default stands k s x below in
-                let there : load ≤ load_in (get_or stands k x) = subst (λ (y : Stand). load ≤ load_in y) same_stand most in
-                rw (here k p same) there
-            | (inr apart) ↦ rw (get_or-set_other spots at k after p apart) (h.load k x p below)
-          ];
-      group = λ k x p below.
-          elim (cases_eq k at) [
-            | (inl same) ↦
-                let g = subst (λ (y : Spot). IsGroupOf groups (get_or stands k x) y.group) (sym (before k same)) (h.group k x spot below) in
-                rw (here k p same) (record { inside = g.inside; is = g.is })
-            | (inr apart) ↦ rw (get_or-set_other spots at k after p apart) (h.group k x p below)
-          ];
-    }
+-- what serves for an instance serves for each of its process
+pub IsRanking-process : (a b : Key) (groups : List Group) (stands : List Stand) (spots : Spots) → a.process ≡ b.process → IsRanking (Lrp a) groups stands spots → IsRanking (Lrp b) groups stands spots
+IsRanking-process a b groups stands spots e h = record {
+  spots = record {
+    all = h.spots.all;
+    each = λ k p below. IsSpotOf-process a b groups stands k (get_or spots.all.items k p) e (h.spots.each k p below);
+  };
+  order = h.order;
+}
 
--- the spots once one was moved there, or stayed
-pub AreSpots-after : {T E : Type 0} (r : Result T E) (groups : List Group) (stands : List Stand) (before after : List Spot) (at load : ℕ) (s : Stand) (d : Spot) → OnOk r ((p : Spot) → after ≡ set before at (record (get_or before at p) { load = load })) → OnErr r (after ≡ before) → AreSpots groups stands before → at < length before → s ≡ get_or stands at s → load ≤ load_in s → AreSpots groups stands after
-AreSpots-after (Ok x) groups stands before after at load s d moved same h inside is most =
-    subst (AreSpots groups stands) (sym (moved d)) (AreSpots-moved groups stands before at s (get_or before at d) load h inside is (get_or_default before at d (get_or before at d) inside) most)
-AreSpots-after (Err e) groups stands before after at load s d moved same h inside is most = subst (AreSpots groups stands) (sym same) h
+-- the spot of a cell with a larger load that is still its own
+pub IsSpotOf-loaded : (job : JobName) (groups : List Group) (stands : List Stand) (k : ℕ) (p : Spot) (stand : Stand) (load : ℕ) → k < length stands → stand ≡ get_or stands k stand → load ≡ load_in stand → IsSpotOf job groups stands k p → IsSpotOf job groups stands k (record p { load = load })
+IsSpotOf-loaded job groups stands k p stand load inside is e h = record {
+  cell = h.cell;
+  group = h.group;
+  flat = h.flat;
+  zone = h.zone;
+  on = h.on;
+  load = λ s. omega (arith, e, ap load_in (get_or_read stands k stand inside is s));
+}
+
+-- the spot of a cell by what it scores now
+pub IsSpotOf-counted : (job other : JobName) (groups : List Group) (stands : List Stand) (at : ℕ) (p : Spot) (stand : Stand) (g : Group) (zone held load : ℕ) → at < length stands → stand ≡ get_or stands at stand → IsSpotOf other groups stands at p → g ≡ get_or groups p.group g → (is_some g.zone ≡ true → zone ≡ 0) → zone ≤ in_zone stands job stand.zone → held ≡ held_of job stand → load ≡ load_in stand → IsSpotOf job groups stands at (record { group = p.group; in_zone = zone; on_cell = held; load = load; cell = at })
+IsSpotOf-counted job other groups stands at p stand g zone held load inside is h known flat upto same full = record {
+  cell = refl;
+  group = h.group;
+  flat = λ d some. flat (ap (λ (x : Group). is_some x.zone) (get_or_read groups p.group g (h.group stand).inside known d) ∙ some);
+  zone = λ s. subst (λ (x : Stand). zone ≤ in_zone stands job x.zone) (get_or_read stands at stand inside is s) upto;
+  on = λ s. omega (arith, same, ap (held_of job) (get_or_read stands at stand inside is s));
+  load = λ s. omega (arith, full, ap load_in (get_or_read stands at stand inside is s));
+}
+
+-- the order with another spot of a cell, which moved there
+pub IsRanking-moved : (job : JobName) (groups : List Group) (stands : List Stand) (old new : Spots) (at : ℕ) (after : Spot) → at < length old.all.items → IsSpotOf job groups stands at after → IsRanking job groups stands old → new.all.items ≡ set old.all.items at after → IsOrderOf new.order (set old.all.items at after) → IsRanking job groups stands new
+IsRanking-moved job groups stands old new at after inside one h set_is order = record {
+  spots = subst (AreSpotsFor job groups stands) (sym set_is) (AreSpotsFor-set job groups stands old.all.items at after inside one h.spots);
+  order = subst (IsOrderOf new.order) (sym set_is) order;
+}

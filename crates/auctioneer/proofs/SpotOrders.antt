@@ -20,12 +20,18 @@ pub IsKeyOrder-spot_order : IsKeyOrder spot_order
 IsKeyOrder-spot_order = record {
   total =
       then_total (on_total (λ p. p.group) nat_cmp_total)
-      (then_total (on_total (λ p. p.load) nat_cmp_total) (on_total (λ p. p.cell) nat_cmp_total));
+      (then_total (on_total (λ p. p.in_zone) nat_cmp_total)
+      (then_total (on_total (λ p. p.on_cell) nat_cmp_total)
+      (then_total (on_total (λ p. p.load) nat_cmp_total) (on_total (λ p. p.cell) nat_cmp_total))));
   exact = λ x y e i.
       let group = both_tie (nat_cmp x.group y.group) _ e in
-      let load = both_tie (nat_cmp x.load y.load) (nat_cmp x.cell y.cell) group.1 in
+      let zone = both_tie (nat_cmp x.in_zone y.in_zone) _ group.1 in
+      let on_cell = both_tie (nat_cmp x.on_cell y.on_cell) _ zone.1 in
+      let load = both_tie (nat_cmp x.load y.load) (nat_cmp x.cell y.cell) on_cell.1 in
       record {
         group = nat_cmp-IsAntisymmetric x.group y.group group.0 i;
+        in_zone = nat_cmp-IsAntisymmetric x.in_zone y.in_zone zone.0 i;
+        on_cell = nat_cmp-IsAntisymmetric x.on_cell y.on_cell on_cell.0 i;
         load = nat_cmp-IsAntisymmetric x.load y.load load.0 i;
         cell = nat_cmp-IsAntisymmetric x.cell y.cell load.1 i;
       };

@@ -1,32 +1,35 @@
 -- What is kept of the cells of an auction.
 use Rattle.std.specs.Prelude.{◌≡◌, ℕ, ◌<◌, true, false, List, length, Option, Some, None, IfSome, slice_index_or}
+use Rattle.diego_names.specs.declared.key.Key.{Key}
 use Rattle.cell_records.specs.declared.job.Job.{Job}
+use Rattle.cell_records.specs.declared.job_name.JobName.{JobName}
+use Rattle.cell_records.specs.declared.job_name.JobName.TheVariants.{Lrp}
 use Rattle.auction_scoring.specs.Order.{is_better}
-use Rattle.auction_scoring.specs.declared.scores.Score.{Score}
 use Rattle.auctioneer.specs.Asked.{AreStands}
 use Rattle.auctioneer.specs.Refused.{AreRefused}
-use Rattle.auctioneer.specs.Spots.{AreSpots, IsOrderOf}
+use Rattle.auctioneer.specs.Spots.{IsRanking}
 use Rattle.auctioneer.specs.Stands.{can_take, score_in}
 use Rattle.auctioneer.specs.Tallies.{HasRoomFor, CountsAt}
 use Rattle.auctioneer.specs.declared.candidate.Candidate.{Candidate}
 use Rattle.auctioneer.specs.declared.field.Field.{Field}
+use Rattle.auctioneer.specs.declared.field.Own.{Own}
+use Rattle.auctioneer.specs.declared.groups.Group.{Group}
 use Rattle.auctioneer.specs.declared.spots.Spot.{Spot}
 use Rattle.auctioneer.specs.declared.stand.Stand.{Stand}
 use Rattle.auctioneer.specs.declared.tally.Place.TheVariants.{Zone, Cell}
 
--- spots, order and tallies are those of the cells, and jobs of the refused sizes fit on none of them
+-- the order serves for the instances of its process
+abbrev pub ServesOwn : List Group → List Stand → Own → Type 0
+ServesOwn groups stands own = (key : Key) → key.process ≡ own.process → IsRanking (Lrp key) groups stands own.spots
+
+-- orders and tallies are those of the cells, one order serves for every job, and jobs of the refused sizes fit nowhere
 pub record IsFieldOf (f : Field) : Type 0 where
   pub sound : AreStands f.stands.items
-  pub spots : AreSpots f.groups.items f.stands.items f.spots.items
-  pub order : IsOrderOf f.order f.spots.items
+  pub common : (job : JobName) → IsRanking job f.groups.items f.stands.items f.common
+  pub own : IfSome f.own (ServesOwn f.groups.items f.stands.items)
   pub zones : CountsAt Zone f.in_zones f.stands.items
   pub cells : CountsAt Cell f.on_cells f.stands.items
   pub refused : AreRefused f.stands.items f.refused.items
-
--- the score has no container of the job's process on the cell, and the load of the spot
-pub record IsAtBound (score : Score) (spot : Spot) : Type 0 where
-  pub none : score.on_cell ≡ 0
-  pub load : score.load ≡ spot.load
 
 -- one container more of the job on the cell at that place is counted without memory
 pub record CanCount (f : Field) (job : Job) (at : ℕ) : Type 0 where
@@ -45,7 +48,8 @@ IsNoWorse stands job None s = can_take job s ≡ false
 IsNoWorse stands job (Some c) s = can_take job s ≡ true → is_better (score_in stands job.job s) c.score ≡ false
 
 -- the best so far is a cell that fits, and no worse than those that were looked at, as their spots say
-pub record IsBestOf (f : Field) (job : Job) (seen : Spot → Type 0) (found : Option Candidate) : Type 0 where
-  pub fitting : IfSome found (IsFitting f.stands.items job)
-  pub no_worse : (k : ℕ) (s : Stand) (p : Spot) → k < length f.stands.items →
-      seen (slice_index_or f.spots.items k p) → IsNoWorse f.stands.items job found (slice_index_or f.stands.items k s)
+pub record IsBestOf (stands : List Stand) (spots : List Spot) (job : Job) (seen : Spot → Type 0) (found : Option Candidate)
+    : Type 0 where
+  pub fitting : IfSome found (IsFitting stands job)
+  pub no_worse : (k : ℕ) (s : Stand) (p : Spot) → k < length stands →
+      seen (slice_index_or spots k p) → IsNoWorse stands job found (slice_index_or stands k s)

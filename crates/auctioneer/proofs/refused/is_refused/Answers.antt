@@ -1,6 +1,5 @@
-use Rattle.std.proofs.Common.{◌≡◌, true, sym, ap, ◌∙◌}
+use Rattle.std.proofs.Common.{sym, ap, ◌∙◌}
 use Rattle.auctioneer.specs.Refused.{asks_as_much}
-use Rattle.auctioneer.specs.declared.refused.Size.{Size}
 use Rattle.auctioneer.proofs.refused.is_refused.Goals as goal
 
 pub returns-then-is_within : goal.returns-then-is_within

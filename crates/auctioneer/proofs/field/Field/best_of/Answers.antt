@@ -1,4 +1,4 @@
-use Rattle.std.proofs.Common.{◌≡◌, None, List, sym, subst}
+use Rattle.std.proofs.Common.{List, sym, subst}
 use Rattle.auctioneer.specs.Refused.{AreRefused}
 use Rattle.auctioneer.specs.declared.refused.Size.{Size}
 use Rattle.auctioneer.proofs.Refusals.{best-from_none}

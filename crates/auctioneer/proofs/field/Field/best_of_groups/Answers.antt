@@ -1,7 +1,7 @@
 use Rattle.std.proofs.Common.{◌≡◌, ◌+◌, ◌<◌, None, MatchOption, sym, subst, ◌∙◌, arith, rules}
 use Rattle.auctioneer.specs.Fields.{IsBestOf}
 use Rattle.auctioneer.specs.Least.{best, IsBestAt}
-use Rattle.auctioneer.proofs.Groups.{best_other_tag, found_best}
+use Rattle.auctioneer.proofs.Walks.{best_other_tag, found_best}
 use Rattle.auctioneer.proofs.field.Field.best_of_groups.Goals.{then-eq, else-eq}
 use Rattle.auctioneer.proofs.field.Field.best_of_groups.Goals as goal
 
@@ -13,15 +13,18 @@ best_in-best-requires-clause-found c = c.loop-group.invariant
 
 pub loop-group-preserved : goal.loop-group-preserved
 loop-group-preserved c =
+    let f = c.args.self.now in
+    let spots = c.args.spots.now in
     elim c.if-eq.branch [
-      | then-eq w ↦ subst (IsBestOf c.args.self.now c.args.job.now (λ p. p.group < c.loop-group.group + 1)) (sym w.best-is) w.best_in-best.ensures
+      | then-eq w ↦ subst (IsBestOf f.stands.items spots.all.items c.args.job.now (λ p. p.group < c.loop-group.group + 1)) (sym w.best-is) w.best_in-best.ensures
       | else-eq w ↦
-          subst (IsBestOf c.args.self.now c.args.job.now (λ p. p.group < c.loop-group.group + 1)) (sym w.best-is)
-          (best_other_tag c.args.self.now c.requires c.args.job.now c.loop-group.group c.index.result.now (omega (arith, c.loop-group-test.true, c.len-group-end.ensures)) c.index.ensures (sym c.eq.ensures ∙ w.if-eq.false) c.loop-group.best c.loop-group.invariant)
+          subst (IsBestOf f.stands.items spots.all.items c.args.job.now (λ p. p.group < c.loop-group.group + 1)) (sym w.best-is)
+          (best_other_tag f c.requires.field c.args.job.now spots c.requires.spots c.loop-group.group c.index.result.now c.index.ensures (sym c.eq.ensures ∙ w.if-eq.false) c.loop-group.best c.loop-group.invariant)
     ]
 
 pub returns : goal.returns
 returns c =
-    let h : MatchOption c.loop-group.best (best c.args.self.now.stands.items c.args.job.now ≡ None) (λ x. IsBestAt c.args.self.now.stands.items c.args.job.now x.at) =
-    found_best c.args.self.now c.requires c.args.job.now c.loop-group.group c.loop-group.best (omega (arith, c.loop-group-test.false, c.len-group-end.ensures)) c.loop-group.invariant in
+    let f = c.args.self.now in
+    let h : MatchOption c.loop-group.best (best f.stands.items c.args.job.now ≡ None) (λ x. IsBestAt f.stands.items c.args.job.now x.at) =
+    found_best f c.requires.field c.args.job.now c.args.spots.now c.requires.spots c.loop-group.group c.loop-group.best (omega (arith, c.loop-group-test.false, c.len-group-end.ensures)) c.loop-group.invariant in
     search (rules, h)

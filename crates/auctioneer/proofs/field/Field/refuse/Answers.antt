@@ -1,4 +1,3 @@
-use Rattle.std.proofs.Common.{sym}
 use Rattle.auctioneer.proofs.Refusals.{none-from_best}
 use Rattle.auctioneer.proofs.field.Field.refuse.Goals as goal
 
@@ -8,8 +7,8 @@ returns-clause-field c =
     let field = c.requires.field in
     record {
       sound = field.sound;
-      spots = field.spots;
-      order = field.order;
+      common = field.common;
+      own = field.own;
       zones = field.zones;
       cells = field.cells;
       refused = c.remember.ensures f.stands.items field.refused (none-from_best f.stands.items c.args.job.now c.requires.none);

@@ -1,23 +1,41 @@
-use Rattle.std.proofs.Common.{◌≡◌, ℕ, ◌<◌, length, List, set, get_or, sym, ap, subst, ◌∙◌, arith}
-use Rattle.std.proofs.lemmas.List.{length-set, get_or_default, get_or-set_same}
+use Rattle.std.proofs.Common.{◌≡◌, ℕ, ◌<◌, length, List, Option, Some, None, set, get_or, sym, ap, subst, ◌∙◌}
+use Rattle.std.proofs.lemmas.List.{get_or_default, get_or-set_same}
+use Rattle.std.specs.Option.{IfSome}
 use Rattle.cell_records.specs.declared.job.Job.{Job}
-use Rattle.auctioneer.specs.Asked.{IsSoundStand}
+use Rattle.cell_records.specs.declared.job_name.JobName.{JobName}
+use Rattle.cell_records.specs.declared.job_name.JobName.TheVariants.{Lrp}
+use Rattle.auctioneer.specs.Asked.{AreStands}
 use Rattle.auctioneer.specs.Refused.{AreRefused}
-use Rattle.auctioneer.specs.Spots.{load_in, AreSpots}
+use Rattle.auctioneer.specs.Fields.{ServesOwn}
+use Rattle.auctioneer.specs.Spots.{IsRanking}
 use Rattle.auctioneer.specs.Stands.{with_job}
 use Rattle.auctioneer.specs.Tallies.{HasRoomFor, Gains, CountsAt}
+use Rattle.auctioneer.specs.declared.field.Own.{Own}
+use Rattle.auctioneer.specs.declared.groups.Group.{Group}
+use Rattle.auctioneer.specs.declared.spots.Spots.{Spots}
 use Rattle.auctioneer.specs.declared.stand.Stand.{Stand}
 use Rattle.auctioneer.specs.declared.tally.Place.TheVariants.{Zone, Cell}
 use Rattle.auctioneer.proofs.Counts.{CountsAt-put, tallied-few}
-use Rattle.auctioneer.proofs.Groups.{first_of}
 use Rattle.auctioneer.proofs.Refusals.{AreRefused-put}
-use Rattle.auctioneer.proofs.SpotLists.{AreSpots-put, AreSpots-after}
-use Rattle.auctioneer.proofs.field.Field.put.Goals as goal
+use Rattle.auctioneer.proofs.SpotLists.{AreSpotsFor-put}
+use Rattle.auctioneer.proofs.field.Field.count_in.Goals as goal
 
 -- the cell with the job on it
 there_with_job : (old new : List Stand) (at : ℕ) (job : Job) (stand : Stand) → at < length old → stand ≡ get_or new at stand → new ≡ set old at (with_job job (get_or old at stand)) → stand ≡ with_job job (get_or old at stand)
 there_with_job old new at job stand inside is changed =
     is ∙ ap (λ (xs : List Stand). get_or xs at stand) changed ∙ get_or-set_same old at (with_job job (get_or old at stand)) stand inside
+
+-- an order serves on where a job is put on a cell
+ranking_put : (stands : List Stand) (groups : List Group) (at : ℕ) (s : Stand) (job : Job) → at < length stands → s ≡ get_or stands at s → (other : JobName) (spots : Spots) → IsRanking other groups stands spots → IsRanking other groups (set stands at (with_job job s)) spots
+ranking_put stands groups at s job inside is other spots h = record {
+  spots = AreSpotsFor-put other groups stands at s job inside is spots.all.items h.spots;
+  order = h.order;
+}
+
+own_put : (own : Option Own) (stands new : List Stand) (groups : List Group) (at : ℕ) (s : Stand) (job : Job) → at < length stands → s ≡ get_or stands at s → new ≡ set stands at (with_job job s) → IfSome own (ServesOwn groups stands) → IfSome own (ServesOwn groups new)
+own_put None stands new groups at s job inside is changed h = tt
+own_put (Some o) stands new groups at s job inside is changed h = λ key same.
+    subst (λ (ss : List Stand). IsRanking (Lrp key) groups ss o.spots) (sym changed) (ranking_put stands groups at s job inside is (Lrp key) o.spots (h key same))
 
 pub add-requires-clause-few : goal.add-requires-clause-few
 add-requires-clause-few c =
@@ -49,26 +67,15 @@ add-requires-2-clause-room c =
     (sym (there_with_job f.stands.items c.place_at.new.stands.items c.args.at c.args.job.now stand inside c.index-stand.ensures (c.in_ok-made.ensures.one stand)))
     (c.in_ok-make_room.ensures.room.cell stand)
 
-pub load_of-requires : goal.load_of-requires
-load_of-requires c =
-    let items = c.make_room.new.self.stands.items in
-    let stand = c.index-stand.result.now in
-    let inside : c.args.at < length items = subst (λ (ss : List Stand). c.args.at < length ss) (sym c.make_room.ensures.stands) c.requires.best.inside in
-    let inside_new : c.args.at < length c.place_at.new.stands.items = subst (λ (ss : List Stand). c.args.at < length ss) (sym (c.in_ok-made.ensures.one stand)) (simp length-set inside) in
-    subst IsSoundStand (sym c.index-stand.ensures) (c.in_ok-made.ensures.sound.each c.args.at stand inside_new)
-
 pub returns-clause-field : goal.returns-clause-field
 returns-clause-field c =
     let f = c.make_room.new.self in
     let field = c.make_room.ensures.field in
     let items = f.stands.items in
-    let spots = f.spots.items in
-    let groups = f.groups.items in
     let at = c.args.at in
     let job = c.args.job.now in
     let stand = c.index-stand.result.now in
     let inside : at < length items = subst (λ (ss : List Stand). at < length ss) (sym c.make_room.ensures.stands) c.requires.best.inside in
-    let inside_spots : at < length spots = omega (arith, field.spots.all) in
     let s : Stand = get_or items at stand in
     let is : s ≡ get_or items at s = get_or_default items at stand s inside in
     let changed : c.place_at.new.stands.items ≡ set items at (with_job job s) = c.in_ok-made.ensures.one stand in
@@ -77,12 +84,8 @@ returns-clause-field c =
     let gains_cell : Gains f.on_cells c.add-2.new.self job.job s.cell = subst (λ (x : Stand). Gains f.on_cells c.add-2.new.self job.job x.cell) here c.add-2.ensures in
     record {
       sound = c.in_ok-made.ensures.sound;
-      spots =
-          AreSpots-after c.move_cell-moved.result groups c.place_at.new.stands.items spots c.move_cell-moved.new.spots.items at c.load_of.result stand (first_of 0)
-          c.move_cell-moved.ensures.spots c.move_cell-moved.ensures.err
-          (subst (λ (ss : List Stand). AreSpots groups ss spots) (sym changed) (AreSpots-put groups items spots at s job field.spots inside is))
-          inside_spots c.index-stand.ensures (omega (arith, c.load_of.ensures));
-      order = c.move_cell-moved.ensures.order;
+      common = λ other. subst (λ (ss : List Stand). IsRanking other f.groups.items ss f.common) (sym changed) (ranking_put items f.groups.items at s job inside is other f.common (field.common other));
+      own = own_put f.own items c.place_at.new.stands.items f.groups.items at s job inside is changed field.own;
       zones =
           subst (CountsAt Zone c.add.new.self) (sym changed)
           (CountsAt-put Zone f.in_zones c.add.new.self items at s job field.zones gains inside is);
@@ -92,4 +95,18 @@ returns-clause-field c =
       refused =
           subst (λ (ss : List Stand). AreRefused ss f.refused.items) (sym changed)
           (AreRefused-put items at s job f.refused.items inside is field.refused);
+    }
+
+pub returns-in_err-made-clause-field : goal.returns-in_err-made-clause-field
+returns-in_err-made-clause-field c =
+    let f = c.make_room.new.self in
+    let field = c.make_room.ensures.field in
+    let same : c.place_at.new.stands.items ≡ f.stands.items = c.in_err-made.ensures.err in
+    record {
+      sound = subst AreStands (sym same) field.sound;
+      common = λ other. subst (λ (ss : List Stand). IsRanking other f.groups.items ss f.common) (sym same) (field.common other);
+      own = subst (λ (ss : List Stand). IfSome f.own (ServesOwn f.groups.items ss)) (sym same) field.own;
+      zones = subst (CountsAt Zone f.in_zones) (sym same) field.zones;
+      cells = subst (CountsAt Cell f.on_cells) (sym same) field.cells;
+      refused = subst (λ (ss : List Stand). AreRefused ss f.refused.items) (sym same) field.refused;
     }
