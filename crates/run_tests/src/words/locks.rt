@@ -96,7 +96,7 @@ fn a_device_call_that_fails_ends_the_lines(rt: HostRuntime) {
     let alloc = rt.alloc();
     let before = opening(&rt, alloc);
     for call in 1..=4 {
-        is_doubt(&rt, alloc, before + call);
+        is_doubt(&rt, alloc, before.saturating_add(call));
     }
 }
 
