@@ -1,6 +1,6 @@
 # shellcheck shell=bash
-# What bin/diego and bin/headroom share, which read this file: how a program is run, and what is said of its end. `name` is
-# what the script that reads it calls itself.
+# What a script that runs a program reads, as bin/diego: how it is run, and what is said of its end. `name` is what the
+# script calls itself.
 
 # One line, whatever stands in it.
 say() {
