@@ -1,5 +1,5 @@
 # shellcheck shell=bash
-# What a script that runs a program reads, as bin/diego: how it is run, and what is said of its end. `name` is what the
+# What bin/diego and bin/headroom read, which run a program: how it is run, and what is said of its end. `name` is what the
 # script calls itself.
 
 # One line, whatever stands in it.

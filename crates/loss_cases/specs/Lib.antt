@@ -4,4 +4,3 @@ pub mod Turns
 pub mod Batches
 pub mod Drains
 pub mod Fits
-pub mod Findings

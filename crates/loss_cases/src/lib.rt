@@ -5,7 +5,6 @@
 mod batches;
 mod cells;
 mod each;
-mod findings;
 mod fits;
 mod keys;
 mod laws;
@@ -14,6 +13,5 @@ mod losses;
 mod turns;
 mod verdicts;
 
-pub use findings::Told;
 pub use laws::turns_survive;
 pub use turns::lose_in_turn;

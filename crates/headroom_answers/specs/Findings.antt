@@ -16,14 +16,18 @@ use Rattle.site_answers.specs.Shows.{shown_of}
 use Rattle.what_if.specs.Sites.{proxy_of, site_of}
 use Rattle.what_if.specs.declared.site.Site.{Site}
 use Rattle.loss_cases.specs.Cases.{each_lost}
-use Rattle.loss_cases.specs.Drains.{drain}
+use Rattle.cell_drains.specs.Drains.{drain}
 use Rattle.loss_cases.specs.Fits.{fit}
 use Rattle.loss_cases.specs.Turns.{turns}
-use Rattle.loss_cases.specs.declared.findings.Told.{Told}
+use Rattle.headroom_answers.specs.declared.told.Told.{Told}
+
+-- the cells of the zones, of which each counts once
+abbrev pub cells_of_zones : Site → List (List ℕ) → List (List ℕ)
+cells_of_zones site zones = flat_map (cells_of_zone site) (table name_order (λ z. z) zones)
 
 -- these cells and those of the zones, by name, each once
 abbrev pub cells_lost : Site → List (List ℕ) → List (List ℕ) → List (List ℕ)
-cells_lost site cells zones = table name_order (λ c. c) (cells ++ flat_map (cells_of_zone site) zones)
+cells_lost site cells zones = table name_order (λ c. c) (cells ++ cells_of_zones site zones)
 
 -- the answer to a question, where the proxy beside an instance takes so much memory
 abbrev pub finding_of : Site → ℕ → Question → Finding
@@ -38,9 +42,10 @@ finding_of site proxy (Fit process instances demand) = Fits (fit site proxy proc
 abbrev pub found_of : Site → ℕ → Asked → Found
 found_of site proxy asked = record { line = asked.line; finding = finding_of site proxy asked.question }
 
--- the notes of a dump, and the answer to each of its questions, in the order of their lines
+-- the answer to each question of a dump, in the order of their lines
+abbrev pub findings_of : Site → Dump → List Found
+findings_of site dump = map (found_of site (proxy_of dump)) dump.questions
+
+-- what a dump tells that is modelled otherwise, and the answer to each of its questions
 abbrev pub told_of : Dump → Told
-told_of dump = record {
-  notes = notes_of dump;
-  found = map (found_of (site_of dump) (proxy_of dump)) dump.questions;
-}
+told_of dump = record { notes = notes_of dump; found = findings_of (site_of dump) dump }

@@ -6,8 +6,8 @@ const FIRST_ROOM: usize = 256;
 
 /// The words, the program's own name first. Whatever its bytes are, that name says nothing of what is
 /// asked, and stands empty where it isn't UTF-8. There are no words at all where a later one isn't,
-/// since no such word is in the grammar.
-pub(crate) fn words<R: Env + AllocGlobal>(rt: &R) -> Result<Vec<String>, AllocError> {
+/// since no such word is in a grammar.
+pub fn words<R: Env + AllocGlobal>(rt: &R) -> Result<Vec<String>, AllocError> {
     let mut words = Vec::new(rt.alloc());
     for number in 0..usize::MAX {
         let Some(bytes) = word(rt, number)? else {
