@@ -14,7 +14,7 @@ use Rattle.row_tables.proofs.Public.{table-from_sorted}
 use Rattle.diego_names.specs.Order.{name_order}
 use Rattle.diego_names.proofs.Public.{IsKeyOrder-name_order}
 use Rattle.cell_records.specs.declared.answer.Answer.{Answer}
-use Rattle.site_answers.specs.Tags.{tag_order}
+use Rattle.site_spread.specs.Groups.{tag_order}
 use Rattle.loss_cases.specs.Cells.{rank_of, rank_order, tagged}
 use Rattle.loss_cases.specs.declared.cells.TaggedCell.{TaggedCell}
 

@@ -11,8 +11,8 @@ use Rattle.forecast_records.specs.declared.verdict.Verdict.{Verdict}
 use Rattle.forecast_records.specs.declared.verdict.Verdict.TheVariants.{Room, Unplaced as IsUnplaced, Short}
 use Rattle.site_answers.specs.Losses.{cells_of_zone, dark_of_many}
 use Rattle.what_if.specs.Plans.{planned}
-use Rattle.site_answers.specs.Spread.{zone_names}
-use Rattle.site_answers.specs.Tags.{tag_order}
+use Rattle.site_spread.specs.Spread.{zone_names}
+use Rattle.site_spread.specs.Groups.{tag_order}
 use Rattle.what_if.specs.Verdicts.{worse}
 use Rattle.what_if.specs.declared.plan.Plan.{Plan}
 use Rattle.what_if.specs.declared.site.Site.{Site}

@@ -8,7 +8,7 @@ use Rattle.diego_names.specs.Order.{name_order}
 use Rattle.cell_records.specs.declared.answer.Answer.{Answer}
 use Rattle.auctioneer.specs.Spots.{load_in}
 use Rattle.auctioneer.specs.Stands.{same_name, stand_of}
-use Rattle.site_answers.specs.Tags.{tag_order}
+use Rattle.site_spread.specs.Groups.{tag_order}
 use Rattle.what_if.specs.declared.site.Site.{Site}
 use Rattle.loss_cases.specs.declared.cells.Rank.{Rank}
 use Rattle.loss_cases.specs.declared.cells.Seat.{Seat}

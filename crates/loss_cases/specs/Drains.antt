@@ -12,7 +12,7 @@ use Rattle.room_facts.specs.Placings.{is_placed}
 use Rattle.room_facts.specs.Rooms.{free_in_all}
 use Rattle.cell_drains.specs.Steps.{after_step}
 use Rattle.what_if.specs.Plans.{planned, stands_before}
-use Rattle.site_answers.specs.Spread.{uneven_in}
+use Rattle.site_spread.specs.Spread.{uneven_in}
 use Rattle.what_if.specs.Stays.{open_cells, same_key, stays}
 use Rattle.site_answers.specs.Sums.{as_sums}
 use Rattle.site_answers.specs.Zones.{zones_then}

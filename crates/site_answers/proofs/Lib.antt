@@ -1,2 +1,6 @@
-mod KeyOrders
-mod Finding
+mod Adding
+mod Counting
+mod Told
+mod Named
+mod Darkness
+mod Answered

@@ -1,7 +1,11 @@
 pub mod Sums
 pub mod Tags
 pub mod Zones
-pub mod Spread
 pub mod Losses
 pub mod Shows
 pub mod Notes
+pub mod Counting
+pub mod Rooms
+pub mod Dark
+pub mod Noting
+pub mod Parts

@@ -12,7 +12,7 @@ use Rattle.forecast_records.specs.declared.losses.Lost.{Lost}
 use Rattle.forecast_records.specs.declared.losses.Move.{Move}
 use Rattle.forecast_records.specs.declared.spread.Uneven.{Uneven}
 use Rattle.what_if.specs.Plans.{plan, left_of, displaced_left, stands_then, unplaced_of, verdict_of_loss}
-use Rattle.site_answers.specs.Spread.{processes, uneven_in}
+use Rattle.site_spread.specs.Spread.{processes, uneven_in}
 use Rattle.what_if.specs.Stays.{is_held, is_lost, open_cells, stays_after}
 use Rattle.site_answers.specs.Tags.{tag_rooms}
 use Rattle.what_if.specs.Waiting.{displaced, does_wait, held_before, waits}

@@ -4,7 +4,7 @@ use Rattle.std.specs.List.{flat_map}
 use Rattle.forecast_records.specs.declared.stock.Shown.{Shown}
 use Rattle.site_answers.specs.Losses.{tasks_on}
 use Rattle.what_if.specs.Plans.{jobs_of_loss, left_of, stands_before, unplaced_of}
-use Rattle.site_answers.specs.Spread.{by_spread, in_one_zone, on_one_cell, processes, uneven_in}
+use Rattle.site_spread.specs.Spread.{by_spread, in_one_zone, on_one_cell, processes, uneven_in}
 use Rattle.what_if.specs.Stays.{open_cells, stays, stays_on}
 use Rattle.site_answers.specs.Tags.{tag_rooms}
 use Rattle.what_if.specs.Verdicts.{verdict_of}

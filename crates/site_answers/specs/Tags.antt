@@ -1,8 +1,5 @@
 -- What waits of each tag, and the room that there is for it.
 use Rattle.std.specs.Prelude.{ℕ, List, ◌++◌, map, filter, length, count_by, sum_by, Option}
-use Rattle.std.specs.Option.{option_cmp}
-use Rattle.std.specs.declared.cmp.Ordering.{Ordering}
-use Rattle.diego_names.specs.Order.{name_order}
 use Rattle.row_tables.specs.Table.{table}
 use Rattle.cell_records.specs.declared.answer.Answer.{Answer}
 use Rattle.cell_records.specs.declared.job.Job.{Job}
@@ -12,12 +9,9 @@ use Rattle.room_facts.specs.Lacks.{has_tag}
 use Rattle.room_facts.specs.Rooms.{free_in_all, of_tag, sums}
 use Rattle.what_if.specs.Plans.{jobs_of_loss, left_of, stands_before}
 use Rattle.site_answers.specs.Sums.{as_sums}
+use Rattle.site_spread.specs.Groups.{tag_order}
 use Rattle.what_if.specs.Verdicts.{verdict_of}
 use Rattle.what_if.specs.declared.site.Site.{Site}
-
--- tags with none first, then by name
-abbrev pub tag_order : Option (List ℕ) → Option (List ℕ) → Ordering
-tag_order = option_cmp name_order
 
 -- the tags of cells that told their state, and of jobs that wait, each once
 abbrev pub tags_of : List Answer → List Job → List (Option (List ℕ))

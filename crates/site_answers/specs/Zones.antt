@@ -1,38 +1,21 @@
 -- What the cells of each zone and tag have.
-use Rattle.std.specs.Prelude.{ℕ, Bool, ◌&&◌, List, map, filter, length, Option}
+use Rattle.std.specs.Prelude.{List, map, filter, length}
 use Rattle.std.specs.List.{flat_map}
-use Rattle.std.specs.Option.{option_eq}
-use Rattle.std.specs.Ordering.{on, then_cmp}
-use Rattle.std.specs.declared.cmp.Ordering.{Ordering}
-use Rattle.diego_names.specs.Order.{name_order}
 use Rattle.row_tables.specs.Table.{table}
 use Rattle.cell_records.specs.declared.answer.Answer.{Answer}
-use Rattle.auctioneer.specs.Stands.{same_name}
 use Rattle.auctioneer.specs.declared.stand.Stand.{Stand}
 use Rattle.forecast_records.specs.declared.stock.ZoneNow.{ZoneNow}
 use Rattle.forecast_records.specs.declared.stock.ZoneThen.{ZoneThen}
 use Rattle.forecast_records.specs.declared.stock.ZoneTotals.{ZoneTotals}
 use Rattle.what_if.specs.Stays.{stays_on}
 use Rattle.site_answers.specs.Sums.{most_of, sums_of}
-use Rattle.site_answers.specs.Tags.{tag_order}
-use Rattle.site_answers.specs.declared.group.Group.{Group}
+use Rattle.site_spread.specs.Groups.{group_of, group_order, is_in}
+use Rattle.site_spread.specs.declared.group.Group.{Group}
 use Rattle.what_if.specs.declared.site.Site.{Site}
-
--- by zone, then by tag
-abbrev pub group_order : Group → Group → Ordering
-group_order = then_cmp (on (λ g. g.zone) name_order) (on (λ g. g.tag) tag_order)
-
--- the zone and the tag of a cell
-abbrev pub group_of : Answer → Group
-group_of c = record { zone = c.zone; tag = c.tag }
 
 -- the zones and tags of the cells that told their state, each once
 abbrev pub groups_of : Site → List Group
 groups_of site = table group_order (λ g. g) (map group_of site.cells)
-
--- whether a zone and a tag are those
-abbrev pub is_in : Group → List ℕ → Option (List ℕ) → Bool
-is_in g zone tag = same_name g.zone zone && option_eq same_name g.tag tag
 
 -- the cells of the zone and the tag
 abbrev pub cells_in : Site → Group → List Answer

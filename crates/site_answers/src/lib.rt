@@ -1,10 +1,24 @@
 //! What stands and waits, what a loss does, and what a dump tells that is modelled otherwise: answers as data.
 #![tactic(auto)]
 
-mod group;
-mod processes;
+mod amounts;
+mod cell_counts;
+mod dark;
+mod losing;
+mod notes;
+mod showing;
+mod stands;
+mod tags;
 mod zone_cells;
+mod zones;
 
-pub use group::Group;
-pub use processes::zone_names;
+pub use dark::dark_of_many;
+pub use losing::{lose, lose_in};
+pub use notes::notes_of;
+pub use showing::show;
+pub use stands::stays_after;
 pub use zone_cells::cells_of_zone;
+pub use zones::{zones_now, zones_then};
+
+#[cfg(test)]
+mod tests;

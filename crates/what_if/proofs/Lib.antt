@@ -3,12 +3,12 @@ pub mod Names
 pub mod Differing
 pub mod Rows
 pub mod Finding
-mod Agreeing
-mod Open
+pub mod Agreeing
+pub mod Open
 pub mod Holding
 mod Turns
-mod Bare
-mod Few
+pub mod Bare
+pub mod Few
 mod Planned
 mod Parts
 mod VerdictLemmas

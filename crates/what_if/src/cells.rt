@@ -12,8 +12,8 @@ use diego_names::{List, Name, OutOfMemory};
 use std::alloc::Global;
 use std::collections::HashSet;
 
-// Names that are looked up often.
-pub(crate) fn set_of(alloc: Global, names: &[Name]) -> Result<HashSet<Name>, OutOfMemory>
+/// Names that are looked up often.
+pub fn set_of(alloc: Global, names: &[Name]) -> Result<HashSet<Name>, OutOfMemory>
     ensures { IfOk result (λ set. (name : List ℕ) → contains same_name set name ≡ is_lost names.now name) }
 {
     let mut set = HashSet::new(alloc);
@@ -23,15 +23,15 @@ pub(crate) fn set_of(alloc: Global, names: &[Name]) -> Result<HashSet<Name>, Out
     Ok(set)
 }
 
-// Whether the cell is lost.
-pub(crate) fn is_lost(lost: &[Name], cell: &Name) -> bool
+/// Whether the cell is lost. It costs a look at each that is.
+pub fn is_lost(lost: &[Name], cell: &Name) -> bool
     ensures { result ≡ is_lost lost.now cell.now }
 {
     lost.iter().any(|name| *name == *cell)
 }
 
-// Whether work may stand and go there.
-pub(crate) fn is_open(lost: &[Name], answer: &Answer) -> bool
+/// Whether work may stand and go there with these cells lost.
+pub fn is_open(lost: &[Name], answer: &Answer) -> bool
     ensures { result ≡ is_open lost.now answer.now }
 {
     !is_lost(lost, &answer.cell) && !answer.evacuating

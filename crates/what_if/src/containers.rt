@@ -18,8 +18,8 @@ use diego_names::{Instance, Key, List, OutOfMemory};
 use dump_lines::{CellState, InstanceOnCell, TaskOnCell};
 use std::alloc::Global;
 
-// The instance that is meant.
-pub(crate) fn key_of(instance: &InstanceOnCell) -> Key
+/// The instance that is meant.
+pub fn key_of(instance: &InstanceOnCell) -> Key
     ensures { result ≡ key_of instance.now }
 {
     Key {

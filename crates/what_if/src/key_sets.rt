@@ -8,8 +8,8 @@ use std::alloc::Global;
 use std::collections::HashSet;
 use std::hash::Hash;
 
-// The keys, each once.
-pub(crate) fn key_set<K: Eq + Hash + Copy + Drop>(
+/// The keys, each once.
+pub fn key_set<K: Eq + Hash + Copy + Drop>(
     alloc: Global,
     keys: &[K],
 ) -> Result<HashSet<K>, OutOfMemory>

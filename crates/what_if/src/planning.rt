@@ -37,8 +37,8 @@ pub struct Scene<'a> {
     pub after: &'a Holders,
 }
 
-// Those of the jobs that a cell held while nothing was lost.
-fn held_jobs(alloc: Global, jobs: &[Job], before: &Holders) -> Result<Vec<Job>, OutOfMemory>
+/// Those of the jobs that a cell held while nothing was lost, by the holders of that time.
+pub fn held_jobs(alloc: Global, jobs: &[Job], before: &Holders) -> Result<Vec<Job>, OutOfMemory>
     ensures { IfOk result (λ held. held.items
         ≡ filter (λ j. is_some (found_before before.now j.job)) jobs.now) }
 {

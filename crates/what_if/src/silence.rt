@@ -13,8 +13,8 @@ use dump_reader::Dump;
 use std::alloc::Global;
 use std::collections::{HashMap, HashSet};
 
-// The cells that told their state.
-pub(crate) fn told_cells(alloc: Global, states: &[CellState]) -> Result<Vec<Name>, OutOfMemory>
+/// The cells that told their state, in the order of their lines.
+pub fn told_cells(alloc: Global, states: &[CellState]) -> Result<Vec<Name>, OutOfMemory>
     ensures { IfOk result (λ cells. cells.items ≡ map (λ s. s.place.cell) states.now) }
 {
     let cells = states.iter().map(|state| state.place.cell).collect(alloc)?;
@@ -38,8 +38,8 @@ fn places_outside(
     Ok(list)
 }
 
-// The cells that are listed and told no state.
-pub(crate) fn silent_of(alloc: Global, dump: &Dump) -> Result<Vec<Place>, OutOfMemory>
+/// The cells that are listed and told no state.
+pub fn silent_of(alloc: Global, dump: &Dump) -> Result<Vec<Place>, OutOfMemory>
     ensures { IfOk result (λ places. places.items ≡ silent_of dump.now) }
 {
     let told = told_cells(alloc, dump.states.items())?;
@@ -48,8 +48,8 @@ pub(crate) fn silent_of(alloc: Global, dump: &Dump) -> Result<Vec<Place>, OutOfM
     Ok(list)
 }
 
-// Whether a row in this state has a container.
-pub(crate) fn has_started(state: &RowState) -> bool
+/// Whether a row in this state has a container.
+pub fn has_started(state: &RowState) -> bool
     ensures { result ≡ has_started state.now }
 {
     match state {

@@ -36,8 +36,8 @@ fn pending_of(alloc: Global, tasks: &[TaskRow]) -> Result<Vec<Job>, OutOfMemory>
     Ok(jobs)
 }
 
-// Whether there is a row.
-pub(crate) fn is_some_row(rows: &[DesiredRow]) -> bool
+/// Whether there is a row.
+pub fn is_some_row(rows: &[DesiredRow]) -> bool
     ensures { result ≡ is_some_row rows.now }
 {
     !rows.is_empty()

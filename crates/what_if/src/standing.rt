@@ -19,7 +19,8 @@ use diego_names::{Key, Name, OutOfMemory};
 use std::alloc::Global;
 use std::collections::{HashMap, HashSet};
 
-fn has_ended(state: &ContainerState) -> bool
+/// Whether a container in this state ended by itself.
+pub fn has_ended(state: &ContainerState) -> bool
     ensures { result ≡ has_ended state.now }
 {
     match state {
@@ -38,7 +39,8 @@ pub fn instance_in(job: &JobName) -> Option<Key>
     }
 }
 
-fn stay_at(cell: &Name, zone: &Name, key: Key) -> Stay
+/// An instance on that cell of that zone.
+pub fn stay_at(cell: &Name, zone: &Name, key: Key) -> Stay
     ensures { result ≡ stay_at cell.now zone.now key }
 {
     Stay {

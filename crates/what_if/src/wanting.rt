@@ -227,8 +227,8 @@ fn by_key(alloc: Global, list: &[Wanted]) -> Result<Vec<Wanted>, OutOfMemory>
     Ok(made)
 }
 
-// What is wanted, by key.
-pub(crate) fn wanted_of(alloc: Global, dump: &Dump) -> Result<Vec<Wanted>, OutOfMemory>
+/// What is wanted, by key.
+pub fn wanted_of(alloc: Global, dump: &Dump) -> Result<Vec<Wanted>, OutOfMemory>
     ensures { IfOk result (λ wanted. wanted.items ≡ wanted_of dump.now) }
 {
     let marked = marks_of(alloc, dump)?;

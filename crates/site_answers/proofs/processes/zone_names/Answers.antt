@@ -1,7 +1,0 @@
-use Rattle.std.proofs.Common.{ℕ, List, ap, ◌∙◌}
-use Rattle.diego_names.specs.Order.{name_order}
-use Rattle.row_tables.specs.Table.{table}
-use Rattle.site_answers.proofs.processes.zone_names.Goals as goal
-
-pub returns : goal.returns
-returns c = c.in_ok-names.ensures ∙ ap (table name_order (λ (z : List ℕ). z)) (c.deref.ensures.value ∙ c.in_ok-zones.ensures)

@@ -1,0 +1,4 @@
+pub mod KeyOrders
+pub mod Counting
+mod Finding
+mod Looking

@@ -1,0 +1,4 @@
+pub mod Groups
+pub mod Spread
+pub mod Spots
+pub mod Together
