@@ -14,3 +14,4 @@ mod Chains
 mod Copies
 mod Moved
 mod Keeping
+mod Whole

@@ -53,9 +53,9 @@ fn step_from(alloc: Global, number: u64, batch: &Batch, plan: &Plan) -> Result<S
 // A drain so far: the site that its last step leaves, the steps, and the jobs that they placed.
 #[derive(Drop)]
 pub(crate) struct Course {
-    site: Site,
-    steps: List<Step>,
-    moved: Vec<JobName>,
+    pub(crate) site: Site,
+    pub(crate) steps: List<Step>,
+    pub(crate) moved: Vec<JobName>,
 }
 
 // The plan with the batch lost.
@@ -100,7 +100,7 @@ fn take_step(
 }
 
 // Empties the batches, one after another.
-fn take_all(alloc: Global, site: Site, batches: &[Batch]) -> Result<Course, OutOfMemory>
+pub(crate) fn take_all(alloc: Global, site: Site, batches: &[Batch]) -> Result<Course, OutOfMemory>
     requires { IsReady site }
     ensures { IfOk result (λ course. TakesAll site batches.now course) }
 {

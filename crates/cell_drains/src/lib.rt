@@ -4,6 +4,7 @@
 mod batches;
 mod changes;
 mod counts;
+mod drained;
 mod drains;
 mod groups;
 mod laws;
@@ -13,6 +14,7 @@ mod seats;
 mod sites;
 mod steps;
 
+pub use drained::drain;
 pub use laws::{
     batches_are_of_one_kind, drains_are_chains, no_cell_goes_twice, steps_keep_the_wanted,
 };
