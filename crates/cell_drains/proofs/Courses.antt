@@ -15,6 +15,7 @@ use Rattle.forecast_records.specs.declared.drains.Step.{Step}
 use Rattle.room_facts.specs.Rooms.{amounts_of}
 use Rattle.room_facts.specs.declared.sums.Sums.{Sums}
 use Rattle.room_facts.proofs.Lists.{sum_by-ones}
+use Rattle.site_answers.specs.Sums.{as_sums}
 use Rattle.what_if.specs.Plans.{jobs_of_loss, planned, stands_before, stands_from}
 use Rattle.what_if.specs.Sites.{IsSite}
 use Rattle.what_if.specs.Stays.{is_open, open_cells}
@@ -23,7 +24,7 @@ use Rattle.what_if.specs.declared.site.Site.{Site}
 use Rattle.what_if.proofs.Differing.{sum-table}
 use Rattle.what_if.proofs.Lists.{shorter}
 use Rattle.cell_drains.specs.Courses.{TakesStep}
-use Rattle.cell_drains.specs.Drains.{as_sums, jobs_moved, site_then, step_from, steps_from}
+use Rattle.cell_drains.specs.Drains.{jobs_moved, site_then, step_from, steps_from}
 use Rattle.cell_drains.specs.Moves.{placed_in}
 use Rattle.cell_drains.specs.declared.batches.Batch.{Batch}
 use Rattle.cell_drains.specs.declared.drains.Course.{Course}

@@ -1,13 +1,12 @@
 -- What happens where cells are emptied in batches. What a step leaves is what the next one begins with.
 use Rattle.std.specs.Prelude.{ℕ, ◌+◌, ◌==◌, Bool, true, false, not, List, [], ◌∷◌, ◌++◌, filter, fold, length, count_by}
-use Rattle.cell_records.specs.declared.amounts.Amounts.{Amounts}
 use Rattle.cell_records.specs.declared.job_name.JobName.{JobName}
 use Rattle.forecast_records.specs.declared.drains.Step.{Step}
 use Rattle.forecast_records.specs.declared.verdict.Verdict.{Verdict}
 use Rattle.forecast_records.specs.declared.verdict.Verdict.TheVariants.{Room, Unplaced, Short}
 use Rattle.room_facts.specs.Lacks.{has_tag}
 use Rattle.room_facts.specs.Rooms.{free_in_all}
-use Rattle.room_facts.specs.declared.sums.Sums.{Sums}
+use Rattle.site_answers.specs.Sums.{as_sums}
 use Rattle.what_if.specs.Plans.{planned}
 use Rattle.what_if.specs.Verdicts.{worse}
 use Rattle.what_if.specs.declared.plan.Plan.{Plan}
@@ -15,10 +14,6 @@ use Rattle.what_if.specs.declared.site.Site.{Site}
 use Rattle.cell_drains.specs.Moves.{placed_in}
 use Rattle.cell_drains.specs.Steps.{after_step}
 use Rattle.cell_drains.specs.declared.batches.Batch.{Batch}
-
--- the amounts as sums of 64 bits
-abbrev pub as_sums : Amounts → Sums
-as_sums a = record { memory = a.memory; disk = a.disk; containers = a.containers }
 
 -- the step that this plan is
 abbrev pub step_from : ℕ → Batch → Plan → Step

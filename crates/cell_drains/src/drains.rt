@@ -1,10 +1,11 @@
 //! What happens where cells are emptied in batches.
 ghost use Rattle.std.specs.Prelude.{◌≡◌, ◌≤◌, ◌^◌, length, filter, IfOk, OnOk};
 ghost use Rattle.cell_drains.specs.Courses.{IsReady, TakesAll, TakesStep};
-ghost use Rattle.cell_drains.specs.Drains.{as_sums, step_from};
+ghost use Rattle.cell_drains.specs.Drains.{step_from};
 ghost use Rattle.room_facts.specs.Lacks.{has_tag};
 ghost use Rattle.room_facts.specs.Rooms.{free_in_all};
 ghost use Rattle.cell_drains.specs.Steps.{after_step};
+ghost use Rattle.site_answers.specs.Sums.{as_sums};
 ghost use Rattle.what_if.specs.Plans.{planned};
 ghost use Rattle.what_if.specs.Sites.{IsSite};
 
