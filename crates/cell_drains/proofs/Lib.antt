@@ -1,3 +1,6 @@
+mod SeatOrders
+mod Seating
+mod Cutting
 mod Grouping
 mod Changing
 mod Sums
@@ -5,3 +8,10 @@ mod Slots
 mod Amounts
 mod Leveling
 mod NextSites
+mod Times
+mod Courses
+mod Chains
+mod Copies
+mod Moved
+mod Keeping
+mod Whole

@@ -4,13 +4,12 @@ ghost use Rattle.std.specs.List.{filter_map};
 ghost use Rattle.cell_drains.specs.Changes.{task_in, task_left, waits_by, IsChange};
 
 use crate::groups::Groups;
-use crate::name_sets::set_of;
 use auctioneer::Placement;
 use cell_records::JobName;
 use diego_names::{Name, OutOfMemory};
 use std::alloc::Global;
 use std::collections::HashSet;
-use what_if::Plan;
+use what_if::{Plan, set_of};
 
 // What a step changes, as it is looked up.
 #[derive(Drop)]

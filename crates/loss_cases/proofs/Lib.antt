@@ -1,8 +1,8 @@
-mod KeyPlaces
+mod PlaceOrders
 mod Orders
 mod Survivals
 mod Turning
-mod PlaceOrders
+mod Alone
 mod Tries
 mod Growing
 mod Sizes

@@ -1,8 +1,8 @@
 -- Of jobs of one size all find room, or it is shown that not all can.
-use Rattle.std.proofs.Common.{◌≡◌, ℕ, ◌+◌, ◌<◌, ◌≤◌, Bool, true, false, ◌||◌, cond, leb, ltb, min, List, [], ◌∷◌, length, Option, Some, None, refl, sym, ap, ◌∙◌, arith}
+use Rattle.std.proofs.Common.{◌≡◌, ℕ, ◌+◌, ◌<◌, ◌≤◌, Bool, true, cond, leb, ltb, min, List, [], ◌∷◌, length, Option, Some, None, sym, ap, ◌∙◌, arith}
 use Rattle.std.specs.List.{All, count_by, list_any}
 use Rattle.std.proofs.lemmas.Bool.{and_from, le-leb, lt-leb, lt-ltb, or_left}
-use Rattle.std.proofs.lemmas.List.Elements.{All-cons, All-contains, All-head, All-nil, All-tail}
+use Rattle.std.proofs.lemmas.List.Elements.{All-cons, All-contains, All-head, All-tail}
 use Rattle.std.proofs.lemmas.List.Sums.{sum_by-cons}
 use Rattle.cell_records.specs.declared.job.Job.{Job}
 use Rattle.auctioneer.specs.Auction.{auction_from, placement_on, stands_with}
@@ -10,10 +10,9 @@ use Rattle.auctioneer.specs.Least.{best}
 use Rattle.auctioneer.specs.declared.placement.Placement.{Placement}
 use Rattle.auctioneer.specs.declared.placement.Placement.TheVariants.{On, NoRoom}
 use Rattle.auctioneer.specs.declared.stand.Stand.{Stand}
-use Rattle.forecast_records.specs.declared.verdict.Verdict.{Verdict}
-use Rattle.forecast_records.specs.declared.verdict.Verdict.TheVariants.{Room, Unplaced, Short}
+use Rattle.forecast_records.specs.declared.verdict.Verdict.TheVariants.{Room, Short}
 use Rattle.room_facts.specs.Placings.{IsAlike, is_placed}
-use Rattle.room_facts.specs.Rooms.{as_large, is_as_large, is_for, is_short, of_tag, room_for, exceeds, sums, free_in_all}
+use Rattle.room_facts.specs.Rooms.{as_large, is_as_large, is_for, is_short, room_for}
 use Rattle.room_facts.proofs.Lists.{sum_by-filter, sum_by-ones}
 use Rattle.room_facts.proofs.Names.{test_from_tag}
 use Rattle.what_if.specs.Plans.{if_none, jobs_left}

@@ -1,5 +1,5 @@
 -- One more instance is tried, and the first one that finds no room is kept.
-use Rattle.std.proofs.Common.{◌≡◌, ◌≤◌, ◌^◌, Bool, List, [], ◌∷◌, ◌++◌, cond, not, length, if◌then◌else◌, Option, Some, None, refl, ap, ◌∙◌}
+use Rattle.std.proofs.Common.{◌≡◌, ◌≤◌, ◌^◌, List, [], ◌∷◌, ◌++◌, cond, not, length, if◌then◌else◌, Option, Some, None, refl, ap, ◌∙◌}
 use Rattle.std.proofs.lemmas.List.{append-nil, append_assoc, length-map}
 use Rattle.std.specs.Option.{option_or}
 use Rattle.cell_records.specs.declared.job.Job.{Job}

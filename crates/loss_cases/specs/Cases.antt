@@ -1,5 +1,5 @@
 -- The losses that are tried each alone, and what each does.
-use Rattle.std.specs.Prelude.{◌≡◌, ℕ, ◌==◌, Bool, true, false, not, List, [], ◌∷◌, ◌++◌, map, filter, fold, length, count_by, Option}
+use Rattle.std.specs.Prelude.{ℕ, ◌==◌, Bool, true, false, not, List, [], ◌∷◌, ◌++◌, map, filter, fold, length, count_by, Option}
 use Rattle.diego_names.specs.Order.{name_order}
 use Rattle.row_tables.specs.Table.{table}
 use Rattle.dump_lines.specs.declared.question.Each.{Each}
@@ -18,7 +18,6 @@ use Rattle.what_if.specs.declared.plan.Plan.{Plan}
 use Rattle.what_if.specs.declared.site.Site.{Site}
 use Rattle.loss_cases.specs.Cells.{by_name, tagged_cells, with_tag}
 use Rattle.loss_cases.specs.declared.cells.TaggedCell.{TaggedCell}
-use Rattle.loss_cases.specs.declared.each.Tried.{Tried}
 use Rattle.loss_cases.specs.declared.losses.Loss.{Loss}
 
 -- how many displaced jobs are without room
@@ -70,13 +69,13 @@ cell_names site = table name_order (λ c. c) (map (λ c. c.cell) site.cells ++ m
 abbrev pub each_zone : Site → List Loss
 each_zone site = map (zone_loss site) (zone_names site)
 
+-- each of the cells
+abbrev pub alone : List (List ℕ) → List Loss
+alone cells = map (λ c. cells_loss (c ∷ [])) cells
+
 -- each cell, by name
 abbrev pub each_cell : Site → List Loss
-each_cell site = map (λ c. cells_loss (c ∷ [])) (cell_names site)
-
--- each of the cells
-abbrev pub alone : List TaggedCell → List Loss
-alone cells = map (λ c. cells_loss (c.cell ∷ [])) cells
+each_cell site = alone (cell_names site)
 
 -- the cell with each of the others that has its tag
 abbrev pub pairs_with : TaggedCell → List TaggedCell → List Loss
@@ -101,7 +100,7 @@ can_go_alone site = filter (goes_alone site) (by_name (tagged_cells site))
 
 -- each cell that told its state, then each two of one tag of which either can go alone
 abbrev pub each_pair : Site → List Loss
-each_pair site = alone (by_name (tagged_cells site)) ++ pairs_in (can_go_alone site)
+each_pair site = alone (map (λ c. c.cell) (by_name (tagged_cells site))) ++ pairs_in (can_go_alone site)
 
 -- the losses that are tried
 abbrev pub losses_of : Site → Each → List Loss
@@ -153,8 +152,3 @@ each_of of cases = each_from of (map (λ c. c.verdict) cases) (filter (is_told o
 -- what happens where each goes alone
 abbrev pub each_lost : Site → Each → EachLost
 each_lost site of = each_of of (map (case_of site) (losses_of site of))
-
--- these cases were tried
-pub record HasTried (of : Each) (cases : List Case) (tried : Tried) : Type 0 where
-  pub verdicts : tried.verdicts.items ≡ map (λ c. c.verdict) cases
-  pub told : tried.told ≡ filter (is_told of) cases

@@ -11,7 +11,6 @@ use Rattle.auctioneer.specs.Stands.{same_name, stand_of}
 use Rattle.site_spread.specs.Groups.{tag_order}
 use Rattle.what_if.specs.declared.site.Site.{Site}
 use Rattle.loss_cases.specs.declared.cells.Rank.{Rank}
-use Rattle.loss_cases.specs.declared.cells.Seat.{Seat}
 use Rattle.loss_cases.specs.declared.cells.TaggedCell.{TaggedCell}
 
 -- a cell with its zone, its tag and how full it is, as an auction has it
@@ -34,15 +33,6 @@ rank_of c = record { load = record { 0 = c.load }; cell = c.cell }
 abbrev pub rank_order : Rank → Rank → Ordering
 rank_order = then_cmp (on (λ r. r.load.0) (flip_args nat_cmp)) (on (λ r. r.cell) name_order)
 
--- what decides which of the cells is updated first
-abbrev pub seat_of : TaggedCell → Seat
-seat_of c = record { tag = c.tag; zone = c.zone; cell = c.cell }
-
--- by tag, then by zone, then by name
-abbrev pub seat_order : Seat → Seat → Ordering
-seat_order =
-    then_cmp (on (λ s. s.tag) tag_order) (then_cmp (on (λ s. s.zone) name_order) (on (λ s. s.cell) name_order))
-
 -- the fullest first
 abbrev pub by_load : List TaggedCell → List TaggedCell
 by_load cells = table rank_order rank_of cells
@@ -50,10 +40,6 @@ by_load cells = table rank_order rank_of cells
 -- by name
 abbrev pub by_name : List TaggedCell → List TaggedCell
 by_name cells = table name_order (λ c. c.cell) cells
-
--- by tag, zone and name
-abbrev pub by_seat : List TaggedCell → List TaggedCell
-by_seat cells = table seat_order seat_of cells
 
 -- the cell of that name, if it is one of them
 abbrev pub cell_of_name : List TaggedCell → List ℕ → Option TaggedCell

@@ -15,10 +15,10 @@ ghost use Rattle.loss_cases.specs.Cells.{
 };
 ghost use Rattle.what_if.specs.Sites.{IsSite};
 
-use crate::keys::table_of_keys;
 use auction_scoring::{CellView, score};
 use cell_records::Answer;
 use diego_names::{Name, OutOfMemory};
+use site_spread::keys_in_order;
 use std::alloc::Global;
 use std::cmp::Reverse;
 use what_if::Site;
@@ -37,14 +37,6 @@ pub(crate) struct TaggedCell {
 #[derive(Clone, Copy, PartialEq, Eq, PartialOrd, Ord)]
 pub(crate) struct Rank {
     load: Reverse<u32>,
-    cell: Name,
-}
-
-// What decides which cell is updated first: the first of these in which two cells differ.
-#[derive(Clone, Copy, PartialEq, Eq, PartialOrd, Ord)]
-pub(crate) struct Seat {
-    tag: Option<Name>,
-    zone: Name,
     cell: Name,
 }
 
@@ -160,7 +152,7 @@ pub(crate) fn tags_of(alloc: Global, cells: &[TaggedCell]) -> Result<Vec<Option<
     for cell in cells {
         tags.push(cell.tag)?;
     }
-    table_of_keys(alloc, tags.as_slice())
+    keys_in_order(alloc, tags.as_slice())
 }
 
 // Those with the tag.

@@ -10,10 +10,10 @@ ghost use Rattle.loss_cases.specs.Fits.{
   zones_filled,
 };
 
-use crate::keys::table_of_keys;
 use auctioneer::Stand;
 use diego_names::{Name, OutOfMemory};
 use forecast_records::{Filled, ZoneCount};
+use site_spread::keys_in_order;
 use std::alloc::Global;
 use what_if::table_of;
 
@@ -123,7 +123,7 @@ pub(crate) fn zones_filled(alloc: Global, filled: &[Filled]) -> Result<Vec<ZoneC
     ensures { IfOk result (λ counts. counts.items ≡ zones_filled filled.now) }
 {
     let told = zones_of(alloc, filled)?;
-    let zones = table_of_keys(alloc, told.as_slice())?;
+    let zones = keys_in_order(alloc, told.as_slice())?;
     let mut counts = Vec::new(alloc);
     for zone in &zones {
         counts.push(zone_filled(filled, *zone))?;

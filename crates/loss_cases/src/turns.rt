@@ -1,8 +1,10 @@
 //! How many cells of each tag can go one after another.
-ghost use Rattle.std.specs.Prelude.{◌≡◌, not, IfOk, map};
+ghost use Rattle.std.specs.Prelude.{◌≡◌, [], not, IfOk, map};
 ghost use Rattle.std.specs.List.{find};
+ghost use Rattle.what_if.specs.Holders.{IsHolders};
 ghost use Rattle.what_if.specs.Plans.{planned};
 ghost use Rattle.what_if.specs.Sites.{IsSite};
+ghost use Rattle.what_if.specs.Stays.{stays};
 ghost use Rattle.loss_cases.specs.Turns.{
   all_went,
   in_turn,
@@ -25,7 +27,7 @@ use diego_names::{List, Name, OutOfMemory};
 use dump_lines::TurnOrder;
 use forecast_records::{Turn, TurnWord, TurnsTaken, Unplaced, Verdict};
 use std::alloc::Global;
-use what_if::{Site, plan_of};
+use what_if::{Holders, Scene, Site, holders_of, plan_in};
 
 fn word_of(order: &TurnOrder) -> TurnWord
     ensures { result ≡ word_of order.now }
@@ -86,11 +88,25 @@ pub(crate) struct Leaves {
     verdict: Verdict,
 }
 
-fn left_by(alloc: Global, site: &Site, lost: &[Name]) -> Result<Leaves, OutOfMemory>
-    requires { IsSite site.now }
+// It is known which cells hold what while nothing is lost.
+fn left_by(
+    alloc: Global,
+    site: &Site,
+    before: &Holders,
+    lost: &[Name],
+) -> Result<Leaves, OutOfMemory>
+    requires site { IsSite site.now }
+    requires before { IsHolders (stays site.now []) before.now }
     ensures { IfOk result (λ left. left ≡ left_by (planned site.now lost.now)) }
 {
-    let plan = plan_of(alloc, site, lost)?;
+    let after = holders_of(alloc, site, lost)?;
+    let scene = Scene {
+        site,
+        lost,
+        before,
+        after: &after,
+    };
+    let plan = plan_in(alloc, &scene)?;
     let without = plan.without_room.items();
     Ok(Leaves {
         unplaced: displaced_left_in(without),
@@ -124,10 +140,12 @@ fn one_too_many(
 fn turn_of(
     alloc: Global,
     site: &Site,
+    before: &Holders,
     tag: Option<Name>,
     cells: &[TaggedCell],
 ) -> Result<Turn, OutOfMemory>
-    requires { IsSite site.now }
+    requires site { IsSite site.now }
+    requires before { IsHolders (stays site.now []) before.now }
     ensures { IfOk result (λ turn. turn ≡ turn_of site.now tag cells.now) }
 {
     let count = cells.len() as u64;
@@ -135,7 +153,7 @@ fn turn_of(
     for cell in cells {
         let survived = gone.len() as u64;
         gone.push(cell.cell)?;
-        let left = left_by(alloc, site, gone.items())?;
+        let left = left_by(alloc, site, before, gone.items())?;
         if left.unplaced > 0 {
             return Ok(one_too_many(tag, count, survived, gone, left));
         }
@@ -144,15 +162,21 @@ fn turn_of(
 }
 
 // How many cells of each tag can go, by tag.
-fn turns_in(alloc: Global, site: &Site, cells: &[TaggedCell]) -> Result<List<Turn>, OutOfMemory>
-    requires { IsSite site.now }
+fn turns_in(
+    alloc: Global,
+    site: &Site,
+    before: &Holders,
+    cells: &[TaggedCell],
+) -> Result<List<Turn>, OutOfMemory>
+    requires site { IsSite site.now }
+    requires before { IsHolders (stays site.now []) before.now }
     ensures { IfOk result (λ turns. turns ≡ turns_in site.now cells.now) }
 {
     let tags = tags_of(alloc, cells)?;
     let mut turns = List::new(alloc);
     for tag in &tags {
         let own = with_tag(alloc, *tag, cells)?;
-        turns.push(turn_of(alloc, site, *tag, own.as_slice())?)?;
+        turns.push(turn_of(alloc, site, before, *tag, own.as_slice())?)?;
     }
     Ok(turns)
 }
@@ -213,7 +237,8 @@ pub fn lose_in_turn(
     ensures { IfOk result (λ taken. taken ≡ turns site.now order.now at_least) }
 {
     let cells = in_turn(alloc, site, order)?;
-    let turns = turns_in(alloc, site, cells.as_slice())?;
+    let before = holders_of(alloc, site, &[])?;
+    let turns = turns_in(alloc, site, &before, cells.as_slice())?;
     let survived = least_survived(turns.items());
     let verdict = verdict_of(at_least, turns.items());
     Ok(TurnsTaken {

@@ -1,4 +1,4 @@
-use Rattle.std.proofs.Common.{◌≡◌, ℕ, ◌<◌, ◌≤◌, ◌^◌, List, [], length, sym, ap, subst, ◌∙◌}
+use Rattle.std.proofs.Common.{ℕ, ◌<◌, ◌^◌, List, [], length, sym, ap, subst, ◌∙◌}
 use Rattle.cell_records.specs.declared.job.Job.{Job}
 use Rattle.auctioneer.specs.Stands.{stands_of}
 use Rattle.auctioneer.specs.declared.stand.Stand.{Stand}

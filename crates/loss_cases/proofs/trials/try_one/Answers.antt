@@ -1,12 +1,10 @@
-use Rattle.std.proofs.Common.{◌≤◌, ◌^◌, Bool, cond, not, List, [], ◌∷◌, ◌++◌, Option, Some, length, sym, ap, subst, ◌∙◌}
+use Rattle.std.proofs.Common.{◌≤◌, ◌^◌, Bool, cond, not, List, [], ◌∷◌, ◌++◌, Some, length, sym, ap, subst, ◌∙◌}
 use Rattle.std.specs.Option.{option_or}
 use Rattle.cell_records.specs.declared.job.Job.{Job}
 use Rattle.auctioneer.specs.Auction.{placement_on}
 use Rattle.auctioneer.specs.Least.{best}
 use Rattle.auctioneer.specs.declared.placement.Placement.{Placement}
 use Rattle.auctioneer.specs.declared.stand.Stand.{Stand}
-use Rattle.forecast_records.specs.declared.unplaced.Unplaced.{Unplaced}
-use Rattle.room_facts.specs.Placings.{is_placed}
 use Rattle.what_if.specs.Plans.{is_left}
 use Rattle.loss_cases.specs.Fits.{told_at}
 use Rattle.loss_cases.proofs.Tries.{few_next, first_at_turn, if_left, not_placed}
