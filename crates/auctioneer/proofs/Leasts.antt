@@ -65,15 +65,21 @@ later x xs y (k, lt, at) = (suc k, omega arith, at)
 
 module _ (stands : List Stand) (job : Job) where
   -- the first cell and the others
-  none_better : (s : Stand) (ss : List Stand) (a : Stand) → (can_take job s ≡ true → is_better (score_in stands job.job s) (score_in stands job.job a) ≡ false) → ((b : Stand) → Contains ss b → can_take job b ≡ true → is_better (score_in stands job.job b) (score_in stands job.job a) ≡ false) → (b : Stand) → Contains (s ∷ ss) b → can_take job b ≡ true → is_better (score_in stands job.job b) (score_in stands job.job a) ≡ false
+  none_better : (s : Stand) (ss : List Stand) (a : Stand)
+      → (can_take job s ≡ true → is_better (score_in stands job.job s) (score_in stands job.job a) ≡ false)
+      → ((b : Stand) → Contains ss b → can_take job b ≡ true
+      → is_better (score_in stands job.job b) (score_in stands job.job a) ≡ false) → (b : Stand) → Contains (s ∷ ss) b
+      → can_take job b ≡ true → is_better (score_in stands job.job b) (score_in stands job.job a) ≡ false
   none_better s ss a first rest b inside =
       elim (contains_cases s ss b inside) [
-        | (inl at) ↦ subst (λ (x : Stand). can_take job x ≡ true → is_better (score_in stands job.job x) (score_in stands job.job a) ≡ false) at first
+        | (inl at) ↦ subst (λ (x : Stand). can_take job x ≡ true
+            → is_better (score_in stands job.job x) (score_in stands job.job a) ≡ false) at first
         | (inr there) ↦ rest b there
       ]
 
   -- a cell that doesn't fit changes nothing
-  skip : (s : Stand) (ss : List Stand) (o : Option Stand) → can_take job s ≡ false → IsLeastOrNone stands job ss o → IsLeastOrNone stands job (s ∷ ss) o
+  skip : (s : Stand) (ss : List Stand) (o : Option Stand) → can_take job s ≡ false → IsLeastOrNone stands job ss o
+      → IsLeastOrNone stands job (s ∷ ss) o
   skip s ss None unfit h = λ b inside.
       elim (contains_cases s ss b inside) [
         | (inl at) ↦ subst (λ (x : Stand). can_take job x ≡ false) at unfit
@@ -86,24 +92,30 @@ module _ (stands : List Stand) (job : Job) where
   }
 
   -- a cell that fits is the least, or the least of the others is
-  join : (s : Stand) (ss : List Stand) (o : Option Stand) → can_take job s ≡ true → IsLeastOrNone stands job ss o → IsLeastOrNone stands job (s ∷ ss) (better_one stands job s o)
+  join : (s : Stand) (ss : List Stand) (o : Option Stand) → can_take job s ≡ true → IsLeastOrNone stands job ss o
+      → IsLeastOrNone stands job (s ∷ ss) (better_one stands job s o)
   join s ss None fit h = record {
     inside = (0, omega arith, refl);
     fits = fit;
-    least = none_better s ss s (λ fits. never_better_than_itself (score_in stands job.job s)) (λ b there fits. let no : can_take job b ≡ false = h b there in cc);
+    least = none_better s ss s (λ fits. never_better_than_itself (score_in stands job.job s))
+        (λ b there fits. let no : can_take job b ≡ false = h b there in cc);
   }
   join s ss (Some c) fit h =
-      elim (is_better (score_in stands job.job c) (score_in stands job.job s)) as (λ t. is_better (score_in stands job.job c) (score_in stands job.job s) ≡ t → IsLeastOrNone stands job (s ∷ ss) (cond t (Some c) (Some s))) [
+      elim (is_better (score_in stands job.job c) (score_in stands job.job s)) as
+      (λ t. is_better (score_in stands job.job c) (score_in stands job.job s) ≡ t
+      → IsLeastOrNone stands job (s ∷ ss) (cond t (Some c) (Some s))) [
         | true ↦ λ e. record {
           inside = later s ss c h.inside;
           fits = h.fits;
-          least = none_better s ss c (λ fits. better_is_no_worse (score_in stands job.job c) (score_in stands job.job s) e) h.least;
+          least = none_better s ss c (λ fits. better_is_no_worse (score_in stands job.job c)
+              (score_in stands job.job s) e) h.least;
         }
         | false ↦ λ e. record {
           inside = (0, omega arith, refl);
           fits = fit;
           least = none_better s ss s (λ fits. never_better_than_itself (score_in stands job.job s))
-              (λ b there fits. no_better_chain (score_in stands job.job b) (score_in stands job.job c) (score_in stands job.job s) (h.least b there fits) e);
+              (λ b there fits. no_better_chain (score_in stands job.job b) (score_in stands job.job c)
+              (score_in stands job.job s) (h.least b there fits) e);
         }
       ] refl
 
@@ -111,13 +123,15 @@ module _ (stands : List Stand) (job : Job) where
   pub best_in-IsLeast : (ss : List Stand) → IsLeastOrNone stands job ss (best_in stands job ss)
   best_in-IsLeast [] = λ b h. absurd (omega (arith, h.1))
   best_in-IsLeast (s ∷ ss) =
-      elim (can_take job s) as (λ t. can_take job s ≡ t → IsLeastOrNone stands job (s ∷ ss) (cond t (better_one stands job s (best_in stands job ss)) (best_in stands job ss))) [
+      elim (can_take job s) as (λ t. can_take job s ≡ t → IsLeastOrNone stands job (s ∷ ss)
+      (cond t (better_one stands job s (best_in stands job ss)) (best_in stands job ss))) [
         | true ↦ λ e. join s ss (best_in stands job ss) e (best_in-IsLeast ss)
         | false ↦ λ e. skip s ss (best_in stands job ss) e (best_in-IsLeast ss)
       ] refl
 
 -- cells of one name are one
-pub same_stand : (ss : List Stand) → IsRising name_order (λ s. s.cell) ss → (a b : Stand) → Contains ss a → Contains ss b → a.cell ≡ b.cell → a ≡ b
+pub same_stand : (ss : List Stand) → IsRising name_order (λ s. s.cell) ss → (a b : Stand) → Contains ss a
+    → Contains ss b → a.cell ≡ b.cell → a ≡ b
 same_stand ss rising a b (i, hi, ai) (j, hj, bj) e =
     let pairs = pairs-from_rising ss rising in
     elim (cases_order i j) [
@@ -129,13 +143,18 @@ same_stand ss rising a b (i, hi, ai) (j, hj, bj) e =
     ]
 
 -- where names differ, what is least is the best
-pub best-from_least : (stands : List Stand) (job : Job) (o : Option Stand) → IsRising name_order (λ s. s.cell) stands → IsLeastOrNone stands job stands o → best stands job ≡ o
+pub best-from_least : (stands : List Stand) (job : Job) (o : Option Stand) → IsRising name_order (λ s. s.cell) stands
+    → IsLeastOrNone stands job stands o → best stands job ≡ o
 best-from_least stands job o rising h = one (best_in stands job stands) o (best_in-IsLeast stands job stands) h
   where
     one : (p q : Option Stand) → IsLeastOrNone stands job stands p → IsLeastOrNone stands job stands q → p ≡ q
     one None None g h = refl
-    one None (Some b) g h = let no : can_take job b ≡ false = g b h.inside in let yes : can_take job b ≡ true = h.fits in cc
-    one (Some a) None g h = let no : can_take job a ≡ false = h a g.inside in let yes : can_take job a ≡ true = g.fits in cc
+    one None (Some b) g h = let no : can_take job b ≡ false = g b h.inside in let yes : can_take job b ≡ true =
+        h.fits in cc
+    one (Some a) None g h = let no : can_take job a ≡ false = h a g.inside in let yes : can_take job a ≡ true =
+        g.fits in cc
     one (Some a) (Some b) g h =
-        let score : score_in stands job.job a ≡ score_in stands job.job b = same_score (score_in stands job.job a) (score_in stands job.job b) (h.least a g.inside g.fits) (g.least b h.inside h.fits) in
+        let score : score_in stands job.job a ≡ score_in stands job.job b =
+        same_score (score_in stands job.job a) (score_in stands job.job b) (h.least a g.inside g.fits)
+        (g.least b h.inside h.fits) in
         ap Some (same_stand stands rising a b g.inside h.inside (ap (λ (k : Score). k.cell) score))

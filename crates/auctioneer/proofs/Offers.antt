@@ -26,26 +26,32 @@ use Rattle.auctioneer.proofs.Leasts.{better_is_worse, better_is_no_worse, no_bet
 
 module _ (stands : List Stand) (job : Job) where
   -- the better of two cells that fit is one
-  pub IsFitting-better : (found : Option Candidate) (c : Candidate) → IfSome found (IsFitting stands job) → IsFitting stands job c → IsFitting stands job (better_candidate found c)
+  pub IsFitting-better : (found : Option Candidate) (c : Candidate) → IfSome found (IsFitting stands job)
+      → IsFitting stands job c → IsFitting stands job (better_candidate found c)
   IsFitting-better None c h fits = fits
   IsFitting-better (Some f) c h fits =
       elim (is_better f.score c.score) as (λ b. IsFitting stands job (cond b f c)) [ true ↦ h | false ↦ fits ]
 
   -- no worse than before
-  pub no_worse_kept : (found : Option Candidate) (c : Candidate) (s : Stand) → IsNoWorse stands job found s → IsNoWorse stands job (Some (better_candidate found c)) s
+  pub no_worse_kept : (found : Option Candidate) (c : Candidate) (s : Stand) → IsNoWorse stands job found s
+      → IsNoWorse stands job (Some (better_candidate found c)) s
   no_worse_kept None c s h = λ fits. cc
   no_worse_kept (Some f) c s h = λ fits.
-      elim (is_better f.score c.score) as (λ b. is_better f.score c.score ≡ b → is_better (score_in stands job.job s) (cond b f c).score ≡ false) [
+      elim (is_better f.score c.score) as (λ b. is_better f.score c.score ≡ b
+      → is_better (score_in stands job.job s) (cond b f c).score ≡ false) [
         | true ↦ λ e. h fits
         | false ↦ λ e. no_better_chain (score_in stands job.job s) f.score c.score (h fits) e
       ] refl
 
   -- no worse than what the new one is no worse than
-  pub no_worse_new : (found : Option Candidate) (c : Candidate) (s : Stand) → is_better (score_in stands job.job s) c.score ≡ false → IsNoWorse stands job (Some (better_candidate found c)) s
+  pub no_worse_new : (found : Option Candidate) (c : Candidate) (s : Stand)
+      → is_better (score_in stands job.job s) c.score ≡ false → IsNoWorse stands job (Some (better_candidate found c)) s
   no_worse_new None c s h = λ fits. h
   no_worse_new (Some f) c s h = λ fits.
-      elim (is_better f.score c.score) as (λ b. is_better f.score c.score ≡ b → is_better (score_in stands job.job s) (cond b f c).score ≡ false) [
-        | true ↦ λ e. no_better_chain (score_in stands job.job s) c.score f.score h (better_is_no_worse f.score c.score e)
+      elim (is_better f.score c.score) as (λ b. is_better f.score c.score ≡ b
+      → is_better (score_in stands job.job s) (cond b f c).score ≡ false) [
+        | true ↦ λ e. no_better_chain (score_in stands job.job s) c.score f.score h
+            (better_is_no_worse f.score c.score e)
         | false ↦ λ e. h
       ] refl
 
@@ -55,14 +61,18 @@ module _ (stands : List Stand) (job : Job) where
   no_worse_unfit (Some c) s e = λ fits. cc
 
   -- nor is one in a zone with more containers
-  pub no_worse_ahead : (c : Candidate) (s : Stand) → c.score.in_zone < in_zone stands job.job s.zone → IsNoWorse stands job (Some c) s
+  pub no_worse_ahead : (c : Candidate) (s : Stand) → c.score.in_zone < in_zone stands job.job s.zone
+      → IsNoWorse stands job (Some c) s
   no_worse_ahead c s below = λ fits.
-      elim (is_better (score_in stands job.job s) c.score) as (λ b. is_better (score_in stands job.job s) c.score ≡ b → b ≡ false) [
-        | true ↦ λ e. let most = emptier_zone c.score (score_in stands job.job s) (better_is_no_worse (score_in stands job.job s) c.score e) in absurd (omega (arith, most))
+      elim (is_better (score_in stands job.job s) c.score) as
+      (λ b. is_better (score_in stands job.job s) c.score ≡ b → b ≡ false) [
+        | true ↦ λ e. let most = emptier_zone c.score (score_in stands job.job s)
+            (better_is_no_worse (score_in stands job.job s) c.score e) in absurd (omega (arith, most))
         | false ↦ λ e. refl
       ] refl
 
-pub not_above_then : (o p : Ordering) → is_gt o ≡ false → (o ≡ Equal → is_gt p ≡ false) → is_gt (ordering_then o p) ≡ false
+pub not_above_then : (o p : Ordering) → is_gt o ≡ false → (o ≡ Equal → is_gt p ≡ false)
+    → is_gt (ordering_then o p) ≡ false
 not_above_then Less p h k = refl
 not_above_then Equal p h k = k refl
 not_above_then Greater p h k = h
@@ -79,20 +89,27 @@ not_above a b le =
     ]
 
 -- in one zone a cell without the process is no worse than those of a larger load, or of a later name
-pub later_is_no_better : (a b : Score) → a.in_zone ≡ b.in_zone → a.on_cell ≡ 0 → is_gt (ordering_then (nat_cmp a.load b.load) (name_order a.cell b.cell)) ≡ false → is_better b a ≡ false
+pub later_is_no_better : (a b : Score) → a.in_zone ≡ b.in_zone → a.on_cell ≡ 0
+    → is_gt (ordering_then (nat_cmp a.load b.load) (name_order a.cell b.cell)) ≡ false → is_better b a ≡ false
 later_is_no_better a b zone none later =
     better_is_worse b a
     ∙ not_above_then (nat_cmp a.in_zone b.in_zone) _ (not_above a.in_zone b.in_zone (omega arith)) (λ e.
     not_above_then (nat_cmp a.on_cell b.on_cell) _ (not_above a.on_cell b.on_cell (omega arith)) (λ f. later))
 
 -- a cell that fits, with its score by the counts that are kept
-pub IsFitting-counted : (stands : List Stand) (job : Job) (at : ℕ) (d : Stand) (zone cell : ℕ) (score : Score) → AreStands stands → at < length stands → d ≡ get_or stands at d → zone ≡ in_zone stands job.job d.zone → cell ≡ count_at Cell stands job.job d.cell → score ≡ score_of (view_of d zone cell) → can_take job d ≡ true → IsFitting stands job (record { at = at; score = score })
+pub IsFitting-counted : (stands : List Stand) (job : Job) (at : ℕ) (d : Stand) (zone cell : ℕ) (score : Score)
+    → AreStands stands → at < length stands → d ≡ get_or stands at d → zone ≡ in_zone stands job.job d.zone
+    → cell ≡ count_at Cell stands job.job d.cell → score ≡ score_of (view_of d zone cell) → can_take job d ≡ true
+    → IsFitting stands job (record { at = at; score = score })
 IsFitting-counted stands job at d zone cell score sound inside is in_zone_is on_cell_is scored fits = record {
   inside = inside;
   score = λ s.
       let same : d ≡ get_or stands at s = get_or_read stands at d inside is s in
-      let here : zone ≡ in_zone stands job.job (get_or stands at s).zone = in_zone_is ∙ ap (λ (x : Stand). in_zone stands job.job x.zone) same in
-      let held : cell ≡ held_of job.job (get_or stands at s) = on_cell_is ∙ ap (λ (x : Stand). count_at Cell stands job.job x.cell) same ∙ held-from_count job.job stands at s sound.rising inside in
+      let here : zone ≡ in_zone stands job.job (get_or stands at s).zone =
+      in_zone_is ∙ ap (λ (x : Stand). in_zone stands job.job x.zone) same in
+      let held : cell ≡ held_of job.job (get_or stands at s) =
+      on_cell_is ∙ ap (λ (x : Stand). count_at Cell stands job.job x.cell) same ∙ held-from_count job.job stands at
+      s sound.rising inside in
       scored ∙ (λ i. score_of (view_of (same i) (here i) (held i)));
   fits = λ s. subst (λ (x : Stand). can_take job x ≡ true) (get_or_read stands at d inside is s) fits;
 }

@@ -26,34 +26,43 @@ test_from_same a b e = (slice_eq-Decides Decides-eqb a b (same_name a b) refl).1
 
 pub other_from_test : (a b : List ℕ) → a ≢ b → same_name a b ≡ false
 other_from_test a b apart =
-    elim (same_name a b) as (λ t. same_name a b ≡ t → t ≡ false) [ true ↦ λ e. absurd (apart (same_from_test a b e)) | false ↦ λ e. refl ] refl
+    elim (same_name a b) as (λ t. same_name a b ≡ t → t ≡ false)
+    [ true ↦ λ e. absurd (apart (same_from_test a b e)) | false ↦ λ e. refl ] refl
 
 -- a name below another is another
 pub below_is_other : (a b : List ℕ) → name_order a b ≡ Less → a ≢ b
 below_is_other a b less e =
-    let tie : name_order a b ≡ Equal = subst (λ c. name_order a c ≡ Equal) e (tied_itself IsKeyOrder-name_order.total a) in
+    let tie : name_order a b ≡ Equal = subst (λ c. name_order a c ≡ Equal) e
+    (tied_itself IsKeyOrder-name_order.total a) in
     cc
 
 -- where no cell has the name, nothing changes
-placed-none : (job : Job) (cell : List ℕ) (ss : List Stand) → All (λ s. same_name s.cell cell ≡ false) ss → placed job cell ss ≡ ss
+placed-none : (job : Job) (cell : List ℕ) (ss : List Stand) → All (λ s. same_name s.cell cell ≡ false) ss
+    → placed job cell ss ≡ ss
 placed-none job cell [] h = refl
 placed-none job cell (s ∷ ss) h =
     ap (λ b. cond b (with_job job s) s ∷ placed job cell ss) (All-head (λ s. same_name s.cell cell ≡ false) s ss h)
     ∙ ap (λ xs. s ∷ xs) (placed-none job cell ss (All-tail (λ s. same_name s.cell cell ≡ false) s ss h))
 
 -- of cells in the order of their names, one place changes
-pub placed-set : (job : Job) (ss : List Stand) (at : ℕ) (s : Stand) → IsRising name_order (λ s. s.cell) ss → at < length ss → s ≡ get_or ss at s → set ss at (with_job job s) ≡ placed job s.cell ss
+pub placed-set : (job : Job) (ss : List Stand) (at : ℕ) (s : Stand) → IsRising name_order (λ s. s.cell) ss
+    → at < length ss → s ≡ get_or ss at s → set ss at (with_job job s) ≡ placed job s.cell ss
 placed-set job [] at s h below is = absurd (omega arith)
 placed-set job (y ∷ ys) zero s h below is =
-    let above : All (λ z. name_order y.cell z.cell ≡ Less) ys = All-above name_order (λ s. s.cell) y.cell ys (below_rest name_order (λ s. s.cell) y ys h) in
+    let above : All (λ z. name_order y.cell z.cell ≡ Less) ys =
+    All-above name_order (λ s. s.cell) y.cell ys (below_rest name_order (λ s. s.cell) y ys h) in
     let others : All (λ z. same_name z.cell s.cell ≡ false) ys =
-    λ k d lt. other_from_test (get_or ys k d).cell s.cell (λ e. below_is_other y.cell (get_or ys k d).cell (above k d lt) (ap (λ (x : Stand). x.cell) (sym is) ∙ sym e)) in
+    λ k d lt. other_from_test (get_or ys k d).cell s.cell
+    (λ e. below_is_other y.cell (get_or ys k d).cell (above k d lt) (ap (λ (x : Stand). x.cell) (sym is) ∙ sym e))
+    in
     let here : same_name y.cell s.cell ≡ true = test_from_same y.cell s.cell (ap (λ (x : Stand). x.cell) (sym is)) in
     ap (λ (x : Stand). with_job job x ∷ ys) is ∙ ap (λ xs. with_job job y ∷ xs) (sym (placed-none job s.cell ys others))
     ∙ ap (λ b. cond b (with_job job y) y ∷ placed job s.cell ys) (sym here)
 placed-set job (y ∷ ys) (suc i) s h below is =
-    let above : All (λ z. name_order y.cell z.cell ≡ Less) ys = All-above name_order (λ s. s.cell) y.cell ys (below_rest name_order (λ s. s.cell) y ys h) in
-    let apart : y.cell ≢ s.cell = λ e. below_is_other y.cell (get_or ys i s).cell (above i s (omega arith)) (e ∙ ap (λ (x : Stand). x.cell) is) in
+    let above : All (λ z. name_order y.cell z.cell ≡ Less) ys =
+    All-above name_order (λ s. s.cell) y.cell ys (below_rest name_order (λ s. s.cell) y ys h) in
+    let apart : y.cell ≢ s.cell = λ e. below_is_other y.cell (get_or ys i s).cell (above i s (omega arith))
+    (e ∙ ap (λ (x : Stand). x.cell) is) in
     ap (λ xs. y ∷ xs) (placed-set job ys i s (IsRising-tail name_order (λ s. s.cell) y ys h) (omega arith) is)
     ∙ ap (λ b. cond b (with_job job y) y ∷ placed job s.cell ys) (sym (other_from_test y.cell s.cell apart))
 
@@ -85,7 +94,8 @@ IsSound-with_job job s room sound = record {
 }
 
 -- each name is below those after it
-pub pairs-from_rising : (ss : List Stand) → IsRising name_order (λ s. s.cell) ss → AllPairs (λ a b. name_order a.cell b.cell ≡ Less) ss
+pub pairs-from_rising : (ss : List Stand) → IsRising name_order (λ s. s.cell) ss
+    → AllPairs (λ a b. name_order a.cell b.cell ≡ Less) ss
 pairs-from_rising [] h i j d lt below = absurd (omega arith)
 pairs-from_rising (s ∷ ss) h zero zero d lt below = absurd (omega arith)
 pairs-from_rising (s ∷ ss) h zero (suc j) d lt below =
@@ -95,14 +105,16 @@ pairs-from_rising (s ∷ ss) h (suc i) (suc j) d lt below =
     pairs-from_rising ss (IsRising-tail name_order (λ s. s.cell) s ss h) i j d (omega arith) (omega arith)
 
 -- a change at one place that keeps the name keeps all names
-names-set : (ss : List Stand) (at : ℕ) (s : Stand) → s.cell ≡ (get_or ss at s).cell → (k : ℕ) (d : Stand) → (get_or (set ss at s) k d).cell ≡ (get_or ss k d).cell
+names-set : (ss : List Stand) (at : ℕ) (s : Stand) → s.cell ≡ (get_or ss at s).cell → (k : ℕ) (d : Stand)
+    → (get_or (set ss at s) k d).cell ≡ (get_or ss k d).cell
 names-set [] at s e k d = refl
 names-set (y ∷ ys) zero s e zero d = e
 names-set (y ∷ ys) zero s e (suc k) d = refl
 names-set (y ∷ ys) (suc i) s e zero d = refl
 names-set (y ∷ ys) (suc i) s e (suc k) d = names-set ys i s e k d
 
-pub AreStands-set : (ss : List Stand) (at : ℕ) (s : Stand) → s.cell ≡ (get_or ss at s).cell → IsSoundStand s → AreStands ss → AreStands (set ss at s)
+pub AreStands-set : (ss : List Stand) (at : ℕ) (s : Stand) → s.cell ≡ (get_or ss at s).cell → IsSoundStand s
+    → AreStands ss → AreStands (set ss at s)
 AreStands-set ss at s e sound h = record {
   few = simp length-set h.few;
   rising =

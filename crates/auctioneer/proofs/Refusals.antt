@@ -16,7 +16,8 @@ use Rattle.auctioneer.proofs.Leasts.{best_in-IsLeast, best-from_least}
 use Rattle.auctioneer.proofs.Placings.{same_from_test, HasRoom, HasRoom-can_take}
 
 -- a job with the cell's tag fits where there is room
-can_take-HasRoom : (job : Job) (s : Stand) → option_eq (pointwise nat_eq) job.tag s.tag ≡ true → HasRoom job s → can_take job s ≡ true
+can_take-HasRoom : (job : Job) (s : Stand) → option_eq (pointwise nat_eq) job.tag s.tag ≡ true → HasRoom job s
+    → can_take job s ≡ true
 can_take-HasRoom job s tag room =
     let memory = le-leb job.memory s.free.memory room.memory in
     let disk = le-leb job.disk s.free.disk room.disk in
@@ -34,14 +35,16 @@ tag_from_test (Some a) None e = absurd cc
 tag_from_test (Some a) (Some b) e = ap Some (same_from_test a b e)
 
 -- where it would follow that a job that doesn't fit does, it doesn't
-unfit : (job other : Job) (s t : Stand) → (can_take job s ≡ true → can_take other t ≡ true) → can_take other t ≡ false → can_take job s ≡ false
+unfit : (job other : Job) (s t : Stand) → (can_take job s ≡ true → can_take other t ≡ true) → can_take other t ≡ false
+    → can_take job s ≡ false
 unfit job other s t follows none =
     elim (can_take job s) as (λ b. can_take job s ≡ b → b ≡ false) [
       | true ↦ λ yes. let also : can_take other t ≡ true = follows yes in absurd cc
       | false ↦ λ e. refl
     ] refl
 
-pub NoneFits-more : (stands : List Stand) (job other : Job) → asks_as_much job (size_of other) ≡ true → NoneFits other stands → NoneFits job stands
+pub NoneFits-more : (stands : List Stand) (job other : Job) → asks_as_much job (size_of other) ≡ true
+    → NoneFits other stands → NoneFits job stands
 NoneFits-more stands job other asks none b there =
     let first = and_parts _ _ asks in
     let second = and_parts _ _ first.1 in
@@ -59,24 +62,30 @@ unfit_later job other s none =
     unfit other other (with_job job s) s (λ yes.
     let room = HasRoom-can_take other (with_job job s) yes in
     can_take-HasRoom other s (tag_in other (with_job job s) yes)
-    (record { memory = omega (arith, room.memory); disk = omega (arith, room.disk); slot = omega (arith, room.slot) })) none
+    (record { memory = omega (arith, room.memory); disk = omega (arith, room.disk); slot = omega (arith, room.slot) }))
+    none
 
-NoneFits-put : (stands : List Stand) (at : ℕ) (s : Stand) (job other : Job) → at < length stands → s ≡ get_or stands at s → NoneFits other stands → NoneFits other (set stands at (with_job job s))
+NoneFits-put : (stands : List Stand) (at : ℕ) (s : Stand) (job other : Job) → at < length stands
+    → s ≡ get_or stands at s → NoneFits other stands → NoneFits other (set stands at (with_job job s))
 NoneFits-put stands at s job other inside is none b there =
     let k = there.0 in
     let within : k < length stands = simp length-set at there.1 in
     elim (cases_eq k at) [
       | (inl same) ↦
-          let here : b ≡ with_job job s = sym there.2 ∙ ap (λ n. get_or (set stands at (with_job job s)) n b) same ∙ get_or-set_same stands at (with_job job s) b inside in
+          let here : b ≡ with_job job s = sym there.2 ∙ ap (λ n. get_or (set stands at (with_job job s)) n b) same ∙
+          get_or-set_same stands at (with_job job s) b inside in
           ap (can_take other) here ∙ unfit_later job other s (none s (at, inside, sym is))
       | (inr apart) ↦ none b (k, within, sym (get_or-set_other stands at k (with_job job s) b apart) ∙ there.2)
     ]
 
 -- the sizes that fit nowhere fit nowhere once a job is placed
-pub AreRefused-put : (stands : List Stand) (at : ℕ) (s : Stand) (job : Job) (refused : List Size) → at < length stands → s ≡ get_or stands at s → AreRefused stands refused → AreRefused (set stands at (with_job job s)) refused
-AreRefused-put stands at s job refused inside is h = λ k d below other asks. NoneFits-put stands at s job other inside is (h k d below other asks)
+pub AreRefused-put : (stands : List Stand) (at : ℕ) (s : Stand) (job : Job) (refused : List Size) → at < length stands
+    → s ≡ get_or stands at s → AreRefused stands refused → AreRefused (set stands at (with_job job s)) refused
+AreRefused-put stands at s job refused inside is h = λ k d below other asks.
+    NoneFits-put stands at s job other inside is (h k d below other asks)
 
-pub best-from_none : (stands : List Stand) (job : Job) → IsRising name_order (λ s. s.cell) stands → NoneFits job stands → best stands job ≡ None
+pub best-from_none : (stands : List Stand) (job : Job) → IsRising name_order (λ s. s.cell) stands → NoneFits job stands
+    → best stands job ≡ None
 best-from_none stands job rising none = best-from_least stands job None rising none
 
 pub none-from_best : (stands : List Stand) (job : Job) → best stands job ≡ None → NoneFits job stands

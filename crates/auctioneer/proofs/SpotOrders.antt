@@ -47,18 +47,22 @@ pub spot_from_test : (a b : Spot) → is_at (spot_order a) b ≡ true → a ≡ 
 spot_from_test a b e = IsKeyOrder-spot_order.exact a b (tied (spot_order a b) e)
 
 pub test_from_spot : (a b : Spot) → a ≡ b → is_at (spot_order a) b ≡ true
-test_from_spot a b e = ap is_eq (subst (λ (x : Spot). spot_order a x ≡ Equal) e (tied_itself IsKeyOrder-spot_order.total a))
+test_from_spot a b e = ap is_eq (subst (λ (x : Spot). spot_order a x ≡ Equal) e
+    (tied_itself IsKeyOrder-spot_order.total a))
 
 -- a cell's spot is its place's
 abbrev pub AreCellsOf : List Spot → Type 0
 AreCellsOf spots = (k : ℕ) (p : Spot) → k < length spots → (get_or spots k p).cell ≡ k
 
 -- a set that was made of spots
-pub IsOrderOf-made : (order : BTreeSet Spot) (spots : List Spot) → AreCellsOf spots → IsFromIterResult spot_order spots order → IsOrderOf order spots
+pub IsOrderOf-made : (order : BTreeSet Spot) (spots : List Spot) → AreCellsOf spots
+    → IsFromIterResult spot_order spots order → IsOrderOf order spots
 IsOrderOf-made order spots cells made =
-    let there = λ (q : Spot) (e : contains spot_order order q ≡ true). (btree_set_contains_from_list IsKeyOrder-spot_order.total IsKeyOrder-spot_order.exact spots order made q).0 e in
+    let there = λ (q : Spot) (e : contains spot_order order q ≡ true).
+    (btree_set_contains_from_list IsKeyOrder-spot_order.total IsKeyOrder-spot_order.exact spots order made q).0 e in
     record {
-      all = λ k p below. (btree_set_contains_from_list IsKeyOrder-spot_order.total IsKeyOrder-spot_order.exact spots order made (get_or spots k p)).1 (Contains-get_or spots k p below);
+      all = λ k p below. (btree_set_contains_from_list IsKeyOrder-spot_order.total IsKeyOrder-spot_order.exact spots
+          order made (get_or spots k p)).1 (Contains-get_or spots k p below);
       inside = λ q e.
           let at = there q e in
           let cell : q.cell ≡ at.0 = sym (ap (λ (x : Spot). x.cell) at.2) ∙ cells at.0 q at.1 in
@@ -70,12 +74,18 @@ IsOrderOf-made order spots cells made =
     }
 
 -- a set into which one spot was put, and from which another of the same cell was then taken
-module _ (order mid new : BTreeSet Spot) (spots : List Spot) (at : ℕ) (before after : Spot) (inside : at < length spots) (cells : AreCellsOf spots) (was : before ≡ get_or spots at before) (cell : after.cell ≡ before.cell) (other : before ≢ after) (inserted : (q : Spot) → contains spot_order mid q ≡ cond (is_at (spot_order after) q) true (contains spot_order order q)) (removed : (q : Spot) → contains spot_order new q ≡ cond (is_at (spot_order before) q) false (contains spot_order mid q)) (h : IsOrderOf order spots) where
+module _ (order mid new : BTreeSet Spot) (spots : List Spot) (at : ℕ) (before after : Spot) (inside : at < length spots)
+    (cells : AreCellsOf spots) (was : before ≡ get_or spots at before) (cell : after.cell ≡ before.cell)
+    (other : before ≢ after) (inserted : (q : Spot) → contains spot_order mid q
+    ≡ cond (is_at (spot_order after) q) true (contains spot_order order q))
+    (removed : (q : Spot) → contains spot_order new q ≡ cond (is_at (spot_order before) q) false
+    (contains spot_order mid q)) (h : IsOrderOf order spots) where
   there : after.cell ≡ at
   there = cell ∙ ap (λ (x : Spot). x.cell) was ∙ cells at before inside
 
   -- another spot than the old one is there if it was put in
-  kept : (q : Spot) → before ≢ q → contains spot_order new q ≡ cond (is_at (spot_order after) q) true (contains spot_order order q)
+  kept : (q : Spot) → before ≢ q → contains spot_order new q
+      ≡ cond (is_at (spot_order after) q) true (contains spot_order order q)
   kept q apart =
       let no : is_at (spot_order before) q ≡ false =
       elim (is_at (spot_order before) q) as (λ t. is_at (spot_order before) q ≡ t → t ≡ false) [
@@ -92,14 +102,23 @@ module _ (order mid new : BTreeSet Spot) (spots : List Spot) (at : ℕ) (before 
       ∙ elim (is_at (spot_order after) q) as (λ t. cond t true true ≡ true) [ true ↦ refl | false ↦ refl ]
 
   -- each spot is the new one, or one of before and not the old one
-  came : (q : Spot) → contains spot_order new q ≡ true → (after ≡ q) ⊎ ((contains spot_order order q ≡ true) × (before ≢ q))
+  came : (q : Spot) → contains spot_order new q ≡ true → (after ≡ q)
+      ⊎ ((contains spot_order order q ≡ true) × (before ≢ q))
   came q e =
-      elim (is_at (spot_order before) q) as (λ t. is_at (spot_order before) q ≡ t → cond t false (contains spot_order mid q) ≡ true → (after ≡ q) ⊎ ((contains spot_order order q ≡ true) × (before ≢ q))) [
+      elim (is_at (spot_order before) q) as (λ t. is_at (spot_order before) q ≡ t
+      → cond t false (contains spot_order mid q) ≡ true → (after ≡ q)
+      ⊎ ((contains spot_order order q ≡ true) × (before ≢ q))) [
         | true ↦ λ yes f. absurd cc
         | false ↦ λ no f.
-            elim (is_at (spot_order after) q) as (λ t. is_at (spot_order after) q ≡ t → cond t true (contains spot_order order q) ≡ true → (after ≡ q) ⊎ ((contains spot_order order q ≡ true) × (before ≢ q))) [
+            elim (is_at (spot_order after) q) as (λ t. is_at (spot_order after) q ≡ t
+            → cond t true (contains spot_order order q) ≡ true
+            → (after ≡ q) ⊎ ((contains spot_order order q ≡ true) × (before ≢ q))) [
               | true ↦ λ yes g. inl (spot_from_test after q yes)
-              | false ↦ λ off g. inr (g, λ same. let yes : is_at (spot_order before) q ≡ true = test_from_spot before q same in absurd cc)
+              | false ↦ λ off g. inr (
+                g,
+                λ same. let yes : is_at (spot_order before) q ≡ true =
+                    test_from_spot before q same in absurd cc,
+              )
             ] refl (sym (inserted q) ∙ f)
       ] refl (sym (removed q) ∙ e)
 
@@ -108,12 +127,16 @@ module _ (order mid new : BTreeSet Spot) (spots : List Spot) (at : ℕ) (before 
     all = λ k p below.
         elim (cases_eq k at) [
           | (inl same) ↦
-              let here : get_or (set spots at after) k p ≡ after = ap (λ n. get_or (set spots at after) n p) same ∙ get_or-set_same spots at after p inside in
-              ap (contains spot_order new) here ∙ kept after other ∙ ap (λ t. cond t true (contains spot_order order after)) (test_from_spot after after refl)
+              let here : get_or (set spots at after) k p ≡ after =
+              ap (λ n. get_or (set spots at after) n p) same ∙ get_or-set_same spots at after p inside in
+              ap (contains spot_order new) here ∙ kept after other ∙ ap
+              (λ t. cond t true (contains spot_order order after)) (test_from_spot after after refl)
           | (inr apart) ↦
               let within : k < length spots = simp length-set at below in
-              let here : get_or (set spots at after) k p ≡ get_or spots k p = get_or-set_other spots at k after p apart in
-              ap (contains spot_order new) here ∙ stays (get_or spots k p) (h.all k p within) (λ e. apart (sym (cells k p within) ∙ e))
+              let here : get_or (set spots at after) k p ≡ get_or spots k p =
+              get_or-set_other spots at k after p apart in
+              ap (contains spot_order new) here ∙ stays (get_or spots k p) (h.all k p within)
+              (λ e. apart (sym (cells k p within) ∙ e))
         ];
     inside = λ q e.
         let within : q.cell < length spots =
@@ -128,7 +151,8 @@ module _ (order mid new : BTreeSet Spot) (spots : List Spot) (at : ℕ) (before 
               let cell_q : q.cell ≡ at = sym (ap (λ (x : Spot). x.cell) same) ∙ there in
               ap (λ n. get_or (set spots at after) n q) cell_q ∙ get_or-set_same spots at after q inside ∙ same
           | (inr old) ↦
-              let apart : q.cell ≢ at = λ f. old.1 (get_or_read spots at before inside was q ∙ ap (λ n. get_or spots n q) (sym f) ∙ h.is q old.0) in
+              let apart : q.cell ≢ at = λ f. old.1 (get_or_read spots at before inside was q ∙ ap
+              (λ n. get_or spots n q) (sym f) ∙ h.is q old.0) in
               get_or-set_other spots at q.cell after q apart ∙ h.is q old.0
         ];
   }

@@ -63,7 +63,8 @@ none_before number q e =
     ]
 
 -- what is between belongs to the group
-pub group_between : (number : ℕ) (q : Spot) → is_gt (spot_order (first_of number) q) ≡ false → spot_order q (first_of (number + 1)) ≡ Less → q.group ≡ number
+pub group_between : (number : ℕ) (q : Spot) → is_gt (spot_order (first_of number) q) ≡ false
+    → spot_order q (first_of (number + 1)) ≡ Less → q.group ≡ number
 group_between number q from upto =
     let above : number ≤ q.group = le_from_not_gt number q.group (first_not_above (nat_cmp number q.group) _ from) in
     elim (first_less (nat_cmp q.group (number + 1)) (in_group q (first_of (number + 1))) upto) [
@@ -72,7 +73,8 @@ group_between number q from upto =
     ]
 
 -- an order that isn't above stays so where its second number grows
-pub not_above_up : (a b most : ℕ) (o p : Ordering) → b ≤ most → is_gt (ordering_then (nat_cmp a b) o) ≡ false → (is_gt o ≡ false → is_gt p ≡ false) → is_gt (ordering_then (nat_cmp a most) p) ≡ false
+pub not_above_up : (a b most : ℕ) (o p : Ordering) → b ≤ most → is_gt (ordering_then (nat_cmp a b) o) ≡ false
+    → (is_gt o ≡ false → is_gt p ≡ false) → is_gt (ordering_then (nat_cmp a most) p) ≡ false
 not_above_up a b most o p up e next =
     elim (cases_lt a most) [
       | (inl lt) ↦ ap (λ t. is_gt (ordering_then t p)) (cmp_below a most lt)

@@ -42,7 +42,8 @@ IsKeyOrder-turn_order = record {
 -- no instance has the class of tasks
 not_of_tasks : (n : ℕ) → ◌≡◌ {A = ℕ} (cond (eqb n 0) 0 2) 1 → ⊥
 not_of_tasks n =
-    elim (eqb n 0) as (λ b. ◌≡◌ {A = ℕ} (cond b 0 2) 1 → ⊥) [ true ↦ λ e. absurd (omega arith) | false ↦ λ e. absurd (omega arith) ]
+    elim (eqb n 0) as (λ b. ◌≡◌ {A = ℕ} (cond b 0 2) 1 → ⊥)
+    [ true ↦ λ e. absurd (omega arith) | false ↦ λ e. absurd (omega arith) ]
 
 same_job : (a b : JobName) → class_of a ≡ class_of b → job_name a ≡ job_name b → index_of a ≡ index_of b → a ≡ b
 same_job (Lrp a) (Lrp b) c n i = λ k. Lrp (record { process = n k; index = i k })
@@ -55,15 +56,19 @@ pub same_turn : (a b : Job) → turn_of a ≡ turn_of b → a.job ≡ b.job
 same_turn a b e = same_job a.job b.job (ap (λ t. t.class) e) (ap (λ t. t.name) e) (ap (λ t. t.index) e)
 
 -- what tells elements apart by one thing tells them apart by another that shows it
-pub unlike_by : {X A B : Type 0} (f : X → A) (g : X → B) → ((x y : X) → g x ≡ g y → f x ≡ f y) → (xs : List X) → AllPairs (λ a b. a ≢ b) (map f xs) → AllPairs (λ a b. a ≢ b) (map g xs)
+pub unlike_by : {X A B : Type 0} (f : X → A) (g : X → B) → ((x y : X) → g x ≡ g y → f x ≡ f y) → (xs : List X)
+    → AllPairs (λ a b. a ≢ b) (map f xs) → AllPairs (λ a b. a ≢ b) (map g xs)
 unlike_by f g shows [] h i j d lt below e = absurd (omega arith)
 unlike_by f g shows (x ∷ xs) h i j d lt below e =
     let here : j < length (x ∷ xs) = simp length-map at below in
     let there : j < length (map f (x ∷ xs)) = simp length-map here in
-    let same : g (get_or (x ∷ xs) i x) ≡ g (get_or (x ∷ xs) j x) = sym (get_or-map g (x ∷ xs) i x d (omega arith)) ∙ e ∙ get_or-map g (x ∷ xs) j x d here in
+    let same : g (get_or (x ∷ xs) i x) ≡ g (get_or (x ∷ xs) j x) =
+    sym (get_or-map g (x ∷ xs) i x d (omega arith)) ∙ e ∙ get_or-map g (x ∷ xs) j x d here in
     h i j (f x) lt there
-    (get_or-map f (x ∷ xs) i x (f x) (omega arith) ∙ shows (get_or (x ∷ xs) i x) (get_or (x ∷ xs) j x) same ∙ sym (get_or-map f (x ∷ xs) j x (f x) here))
+    (get_or-map f (x ∷ xs) i x (f x) (omega arith) ∙ shows (get_or (x ∷ xs) i x) (get_or (x ∷ xs) j x) same ∙ sym
+    (get_or-map f (x ∷ xs) j x (f x) here))
 
-pub turns_differ : (jobs : List Job) → AllPairs (λ a b. a ≢ b) (map (λ j. j.job) jobs) → AllPairs (λ a b. a ≢ b) (map turn_of jobs)
+pub turns_differ : (jobs : List Job) → AllPairs (λ a b. a ≢ b) (map (λ j. j.job) jobs)
+    → AllPairs (λ a b. a ≢ b) (map turn_of jobs)
 turns_differ jobs h =
     unlike_by (λ j. j.job) turn_of same_turn jobs h

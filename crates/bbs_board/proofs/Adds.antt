@@ -21,18 +21,21 @@ pub record AddsBehind (ok : Bool) (rows : Rows) (c : Command) (p q : Past) : Typ
   pub reads : ReadsAs before p
   pub leads : LeadsTo before rows
   pub after : LeadsTo (with_payload (spelled c) before) (rows_after rows c)
-  pub each : (image : Image) → ImagesSince q p.clock image → OpensTo before image ⊎ OpensTo (with_payload (spelled c) before) image
+  pub each : (image : Image) → ImagesSince q p.clock image
+      → OpensTo before image ⊎ OpensTo (with_payload (spelled c) before) image
   pub done : ok ≡ true → (image : Image) → Images q image → OpensTo (with_payload (spelled c) before) image
 
 -- ---- readings
 
 abbrev reading_of : Area → ℕ → ℕ → List ℕ → List (List ℕ) → Reading
-reading_of area version generation head payloads = record { area = area; version = version; generation = generation; head = head; payloads = payloads }
+reading_of area version generation head payloads = record
+    { area = area; version = version; generation = generation; head = head; payloads = payloads }
 
 -- an image is opened in one way
 pub same_reading : (image : Image) (r s : Reading) → OpensTo r image → OpensTo s image → r ≡ s
 same_reading image r s one two =
-    let same = opens_once image r.area s.area r.version s.version r.generation s.generation r.head s.head r.payloads s.payloads None None _ _ one two in
+    let same = opens_once image r.area s.area r.version s.version r.generation s.generation r.head s.head r.payloads
+    s.payloads None None _ _ one two in
     ap (λ (a : Area). reading_of a r.version r.generation r.head r.payloads) same.area_is
     ∙ ap (λ (v : ℕ). reading_of s.area v r.generation r.head r.payloads) same.version_is
     ∙ ap (λ (g : ℕ). reading_of s.area s.version g r.head r.payloads) same.generation_is
@@ -45,8 +48,14 @@ room_there rows r short = ap (λ (b : Bool). if b then compacted rows r else r) 
 pub room_made : (rows : Rows) (r : Reading) → is_due r ≡ true → with_room rows r ≡ compacted rows r
 room_made rows r due = ap (λ (b : Bool). if b then compacted rows r else r) due
 
-opens_with : (rows : Rows) (r s : Reading) (image : Image) → r ≡ s → OpensTo s image → LeadsTo s rows → OpensWith rows r image
-opens_with rows r s image same opens leads = record { opens = subst (λ (x : Reading). OpensTo x image) (sym same) opens; leads = subst (λ (x : Reading). LeadsTo x rows) (sym same) leads }
+opens_with : (rows : Rows) (r s : Reading) (image : Image) → r ≡ s → OpensTo s image → LeadsTo s rows
+    → OpensWith rows r image
+opens_with rows r s image same opens leads = record {
+  opens =
+      subst (λ (x : Reading). OpensTo x image) (sym same) opens;
+  leads =
+      subst (λ (x : Reading). LeadsTo x rows) (sym same) leads;
+}
 
 -- ---- a command that is stored
 
@@ -54,34 +63,45 @@ module _ (ok : Bool) (rows : Rows) (c : Command) (p q : Past) where
   -- behind what was read
   pub stores_short : AddsBehind ok rows c p q → ((r : Reading) → ReadsAs r p → is_due r ≡ false) → Stores ok rows c p q
   stores_short a short =
-      let same : stored_behind rows c a.before ≡ with_payload (spelled c) a.before = ap (with_payload (spelled c)) (room_there rows a.before (short a.before a.reads)) in
+      let same : stored_behind rows c a.before ≡ with_payload (spelled c) a.before =
+      ap (with_payload (spelled c)) (room_there rows a.before (short a.before a.reads)) in
       record {
         extends = a.extends;
         before = a.before;
         reads = a.reads;
         leads = a.leads;
-        each = λ image images. ⊎_elim (λ old. inl old) (λ new. inr (inr (opens_with (rows_after rows c) (stored_behind rows c a.before) (with_payload (spelled c) a.before) image same new a.after))) (a.each image images);
-        done = λ is image images. opens_with (rows_after rows c) (stored_behind rows c a.before) (with_payload (spelled c) a.before) image same (a.done is image images) a.after;
+        each = λ image images. ⊎_elim (λ old. inl old) (λ new.
+            inr (inr (opens_with (rows_after rows c) (stored_behind rows c a.before)
+            (with_payload (spelled c) a.before) image same new a.after))) (a.each image images);
+        done = λ is image images. opens_with (rows_after rows c) (stored_behind rows c a.before)
+            (with_payload (spelled c) a.before) image same (a.done is image images) a.after;
       }
 
   -- behind a checkpoint
-  module _ (s : Past) (extends : Extends p q) (m : Compacts true rows p q) (a : AddsBehind ok rows c q s) (due : (r : Reading) → ReadsAs r p → is_due r ≡ true) where
+  module _ (s : Past) (extends : Extends p q) (m : Compacts true rows p q) (a : AddsBehind ok rows c q s)
+      (due : (r : Reading) → ReadsAs r p → is_due r ≡ true) where
     there : OpensWith rows (compacted rows m.before) (content q)
     there = m.done refl (content q) (q.possible q.clock)
 
     room : with_room rows m.before ≡ a.before
-    room = room_made rows m.before (due m.before m.reads) ∙ same_reading (content q) (compacted rows m.before) a.before there.opens a.reads
+    room = room_made rows m.before (due m.before m.reads) ∙ same_reading (content q)
+        (compacted rows m.before) a.before there.opens a.reads
 
     stored : stored_behind rows c m.before ≡ with_payload (spelled c) a.before
     stored = ap (with_payload (spelled c)) room
 
-    early_image : (image : Image) → OpensTo m.before image ⊎ OpensWith rows (compacted rows m.before) image → IsOnTheWay rows c m.before image
+    early_image : (image : Image) → OpensTo m.before image ⊎ OpensWith rows (compacted rows m.before) image
+        → IsOnTheWay rows c m.before image
     early_image image (inl old) = inl old
-    early_image image (inr moved) = inr (inl (opens_with rows (with_room rows m.before) (compacted rows m.before) image (room_made rows m.before (due m.before m.reads)) moved.opens moved.leads))
+    early_image image (inr moved) = inr (inl (opens_with rows (with_room rows m.before) (compacted rows m.before) image
+        (room_made rows m.before (due m.before m.reads)) moved.opens moved.leads))
 
-    late_image : (image : Image) → OpensTo a.before image ⊎ OpensTo (with_payload (spelled c) a.before) image → IsOnTheWay rows c m.before image
-    late_image image (inl moved) = inr (inl (opens_with rows (with_room rows m.before) a.before image room moved a.leads))
-    late_image image (inr new) = inr (inr (opens_with (rows_after rows c) (stored_behind rows c m.before) (with_payload (spelled c) a.before) image stored new a.after))
+    late_image : (image : Image) → OpensTo a.before image ⊎ OpensTo (with_payload (spelled c) a.before) image
+        → IsOnTheWay rows c m.before image
+    late_image image (inl moved) = inr (inl (opens_with rows
+        (with_room rows m.before) a.before image room moved a.leads))
+    late_image image (inr new) = inr (inr (opens_with (rows_after rows c) (stored_behind rows c m.before)
+        (with_payload (spelled c) a.before) image stored new a.after))
 
     pub stores_moved : Stores ok rows c p s
     stores_moved = record {
@@ -89,18 +109,22 @@ module _ (ok : Bool) (rows : Rows) (c : Command) (p q : Past) where
       before = m.before;
       reads = m.reads;
       leads = m.leads;
-      each = λ image images. ⊎_elim (λ early. early_image image (m.each image early)) (λ late. late_image image (a.each image late)) (images_split q s p.clock image a.extends images);
-      done = λ is image images. opens_with (rows_after rows c) (stored_behind rows c m.before) (with_payload (spelled c) a.before) image stored (a.done is image images) a.after;
+      each = λ image images. ⊎_elim (λ early. early_image image (m.each image early))
+          (λ late. late_image image (a.each image late)) (images_split q s p.clock image a.extends images);
+      done = λ is image images. opens_with (rows_after rows c) (stored_behind rows c m.before)
+          (with_payload (spelled c) a.before) image stored (a.done is image images) a.after;
     }
 
 -- a checkpoint before it failed
-pub stores_unmoved : (rows : Rows) (c : Command) (p q : Past) → Extends p q → Compacts false rows p q → ((r : Reading) → ReadsAs r p → is_due r ≡ true) → Stores false rows c p q
+pub stores_unmoved : (rows : Rows) (c : Command) (p q : Past) → Extends p q → Compacts false rows p q
+    → ((r : Reading) → ReadsAs r p → is_due r ≡ true) → Stores false rows c p q
 stores_unmoved rows c p q extends m due = record {
   extends = extends;
   before = m.before;
   reads = m.reads;
   leads = m.leads;
   each = λ image images. ⊎_elim (λ old. inl old)
-      (λ moved. inr (inl (opens_with rows (with_room rows m.before) (compacted rows m.before) image (room_made rows m.before (due m.before m.reads)) moved.opens moved.leads))) (m.each image images);
+      (λ moved. inr (inl (opens_with rows (with_room rows m.before) (compacted rows m.before) image
+      (room_made rows m.before (due m.before m.reads)) moved.opens moved.leads))) (m.each image images);
   done = λ never. absurd (cc (never));
 }

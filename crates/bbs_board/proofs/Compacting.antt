@@ -31,8 +31,10 @@ header_calm Nothing own = refl
 header_calm Frame own = absurd (cc)
 header_calm Header own = refl
 
-module _ {D : Type 0} (told : D → Option Past) (v0 v1 : JournalView D) (base : Rows) (log : List Item) (marks : List ℕ) (since : ℕ) (calm : v0.waiting ≡ Nothing) (stands : StandsOn told base log marks since v0)
-    (some : (0 < v0.frames) ⊎ (v0.version ≡ 1)) (fits : FitsHead newest (replay_log base log)) (small : length (head_spelled newest (replay_log base log)) < 2 ^ 32) where
+module _ {D : Type 0} (told : D → Option Past) (v0 v1 : JournalView D) (base : Rows) (log : List Item) (marks : List ℕ)
+    (since : ℕ) (calm : v0.waiting ≡ Nothing) (stands : StandsOn told base log marks since v0)
+    (some : (0 < v0.frames) ⊎ (v0.version ≡ 1)) (fits : FitsHead newest (replay_log base log))
+    (small : length (head_spelled newest (replay_log base log)) < 2 ^ 32) where
   abbrev new : List ℕ
   new = head_spelled newest (replay_log base log)
 
@@ -40,75 +42,113 @@ module _ {D : Type 0} (told : D → Option Past) (v0 v1 : JournalView D) (base :
   Here = Holds base log marks since v0.area v0.version v0.generation v0.end v0.frames Nothing v0.gate
 
   here : ForSome (told v0.disk) Here
-  here = subst (λ (w : Waiting). ForSome (told v0.disk) (Holds base log marks since v0.area v0.version v0.generation v0.end v0.frames w v0.gate)) calm stands
+  here = subst (λ (w : Waiting). ForSome (told v0.disk) (Holds base log marks since v0.area v0.version v0.generation
+      v0.end v0.frames w v0.gate)) calm stands
 
   lead_at : (p : Past) → Here p → LeadsOn v0.area v0.generation new (replay_log base log)
-  lead_at p h = leads base log marks since v0.area v0.version v0.generation v0.end v0.frames Nothing v0.gate p h some fits small
+  lead_at p h = leads base log marks since v0.area v0.version v0.generation v0.end v0.frames Nothing v0.gate p h some
+      fits small
 
-  switches_at : (ok : Bool) (p q : Past) (h : Here p) → SwitchesAll ok v0.area v0.version v0.generation v1.waiting v1.gate new p q → Switches ok v0.area v0.version v0.generation h.head h.payloads v1.waiting v1.gate new p q
+  switches_at : (ok : Bool) (p q : Past) (h : Here p) → SwitchesAll ok v0.area v0.version v0.generation v1.waiting
+      v1.gate new p q → Switches ok v0.area v0.version v0.generation h.head h.payloads v1.waiting v1.gate new p q
   switches_at ok p q h all =
       all h.gate h.head h.payloads v0.end h.is_open h.goes_with (lead_at p h).goes_with
-      (calm_ready base log marks since v0.area v0.version v0.generation v0.end v0.frames v0.gate p q h new (lead_at p h))
+      (calm_ready base log marks since v0.area v0.version v0.generation v0.end v0.frames v0.gate p q h new
+      (lead_at p h))
 
-  switched_there : KnowsAfterSwitch true (length new) v0 v1 → Goes (told v0.disk) (told v1.disk) (SwitchesAll true v0.area v0.version v0.generation v1.waiting v1.gate new) → StandsWith told base log marks since v0 v1
+  switched_there : KnowsAfterSwitch true (length new) v0 v1
+      → Goes (told v0.disk) (told v1.disk) (SwitchesAll true v0.area v0.version v0.generation v1.waiting v1.gate new)
+      → StandsWith told base log marks since v0 v1
   switched_there goes_on goes =
       let made = goes_on.made refl in
-      let both = by_step (told v0.disk) (told v1.disk) (SwitchesAll true v0.area v0.version v0.generation v1.waiting v1.gate new) Here (Holds base log marks since (other v0.area) newest (v0.generation + 1) (23 + length new) 0 Nothing Loose)
+      let both = by_step (told v0.disk) (told v1.disk) (SwitchesAll true v0.area v0.version v0.generation v1.waiting
+      v1.gate new) Here (Holds base log marks since (other v0.area) newest (v0.generation + 1)
+      (23 + length new) 0 Nothing Loose)
       (λ p q j all h.
-      let s = switches_at true p q h all in
-      (s.extends, holds_there base log marks since v0.area v0.version v0.generation v0.end v0.frames v0.gate p q h new (lead_at p h) true v1.waiting v1.gate s refl))
+      let s = switches_at true p q h all in (
+        s.extends,
+        holds_there base log marks since v0.area v0.version v0.generation v0.end v0.frames v0.gate p q h new
+            (lead_at p h) true v1.waiting v1.gate s refl,
+      ))
       goes here in
       record {
         extends = both.0;
-        stands = standing told base log marks since v1 (other v0.area) newest (v0.generation + 1) (23 + length new) 0 Nothing Loose
-            (ap (λ (v : JournalView D). v.area) made) (ap (λ (v : JournalView D). v.version) made) (ap (λ (v : JournalView D). v.generation) made) (ap (λ (v : JournalView D). v.end) made) (ap (λ (v : JournalView D). v.frames) made)
+        stands = standing told base log marks since v1 (other v0.area) newest (v0.generation + 1)
+            (23 + length new) 0 Nothing Loose
+            (ap (λ (v : JournalView D). v.area) made) (ap (λ (v : JournalView D). v.version) made)
+            (ap (λ (v : JournalView D). v.generation) made) (ap (λ (v : JournalView D). v.end) made)
+            (ap (λ (v : JournalView D). v.frames) made)
             (ap (λ (v : JournalView D). v.waiting) made) (ap (λ (v : JournalView D). v.gate) made) both.1;
       }
 
-  switched_here : KnowsAfterSwitch false (length new) v0 v1 → Goes (told v0.disk) (told v1.disk) (SwitchesAll false v0.area v0.version v0.generation v1.waiting v1.gate new) → StandsWith told base log marks since v0 v1
+  switched_here : KnowsAfterSwitch false (length new) v0 v1
+      → Goes (told v0.disk) (told v1.disk) (SwitchesAll false v0.area v0.version v0.generation v1.waiting v1.gate new)
+      → StandsWith told base log marks since v0 v1
   switched_here goes_on goes =
       let failed = goes_on.failed refl in
-      let both = by_step (told v0.disk) (told v1.disk) (SwitchesAll false v0.area v0.version v0.generation v1.waiting v1.gate new) Here (Holds base log marks since v0.area v0.version v0.generation v0.end v0.frames v1.waiting v1.gate)
+      let both = by_step (told v0.disk) (told v1.disk) (SwitchesAll false v0.area v0.version v0.generation v1.waiting
+      v1.gate new) Here (Holds base log marks since v0.area v0.version v0.generation v0.end v0.frames v1.waiting
+      v1.gate)
       (λ p q j all h.
-      let s = switches_at false p q h all in
-      (s.extends, holds_here base log marks since v0.area v0.version v0.generation v0.end v0.frames v0.gate p q h new (lead_at p h) false v1.waiting v1.gate s refl (header_calm v1.waiting failed.waiting)))
+      let s = switches_at false p q h all in (
+        s.extends,
+        holds_here base log marks since v0.area v0.version v0.generation v0.end v0.frames v0.gate p q h new
+            (lead_at p h) false v1.waiting v1.gate s refl (header_calm v1.waiting failed.waiting),
+      ))
       goes here in
       record {
         extends = both.0;
-        stands = standing told base log marks since v1 v0.area v0.version v0.generation v0.end v0.frames v1.waiting v1.gate failed.stays.area failed.stays.version failed.stays.generation failed.end failed.frames refl refl both.1;
+        stands = standing told base log marks since v1 v0.area v0.version v0.generation v0.end v0.frames v1.waiting
+            v1.gate failed.stays.area failed.stays.version failed.stays.generation failed.end failed.frames refl refl
+            both.1;
       }
 
-  switched : (ok : Bool) → KnowsAfterSwitch ok (length new) v0 v1 → Goes (told v0.disk) (told v1.disk) (SwitchesAll ok v0.area v0.version v0.generation v1.waiting v1.gate new) → StandsWith told base log marks since v0 v1
+  switched : (ok : Bool) → KnowsAfterSwitch ok (length new) v0 v1
+      → Goes (told v0.disk) (told v1.disk) (SwitchesAll ok v0.area v0.version v0.generation v1.waiting v1.gate new)
+      → StandsWith told base log marks since v0 v1
   switched true goes_on goes = switched_there goes_on goes
   switched false goes_on goes = switched_here goes_on goes
 
-  compacted_so : (ok : Bool) → Goes (told v0.disk) (told v1.disk) (SwitchesAll ok v0.area v0.version v0.generation v1.waiting v1.gate new) → Goes (told v0.disk) (told v1.disk) (Compacts ok (replay_log base log))
+  compacted_so : (ok : Bool) → Goes (told v0.disk) (told v1.disk)
+      (SwitchesAll ok v0.area v0.version v0.generation v1.waiting v1.gate new)
+      → Goes (told v0.disk) (told v1.disk) (Compacts ok (replay_log base log))
   compacted_so ok goes =
-      goes_weaker (told v0.disk) (told v1.disk) (SwitchesAll ok v0.area v0.version v0.generation v1.waiting v1.gate new) (Compacts ok (replay_log base log))
+      goes_weaker (told v0.disk) (told v1.disk) (SwitchesAll ok v0.area v0.version v0.generation v1.waiting v1.gate new)
+      (Compacts ok (replay_log base log))
       (λ p q i j all.
       let h = here p i in
-      compacts_by base log marks since v0.area v0.version v0.generation v0.end v0.frames v0.gate p h q ok v1.waiting v1.gate some (lead_at p h) (switches_at ok p q h all)) goes
+      compacts_by base log marks since v0.area v0.version v0.generation v0.end v0.frames v0.gate p h q ok v1.waiting
+      v1.gate some (lead_at p h) (switches_at ok p q h all)) goes
 
 module _ {D : Type 0} (told : D → Option Past) where
   -- a switch where nothing waits
-  pub moves_switched : (v0 v1 : JournalView D) (ok : Bool) (head : List ℕ) → v0.waiting ≡ Nothing → length head < 2 ^ 32 → KnowsAfterSwitch ok (length head) v0 v1
-      → Goes (told v0.disk) (told v1.disk) (SwitchesAll ok v0.area v0.version v0.generation v1.waiting v1.gate head) → MovesOn told ok head v0 v1
+  pub moves_switched : (v0 v1 : JournalView D) (ok : Bool) (head : List ℕ) → v0.waiting ≡ Nothing → length head < 2 ^ 32
+      → KnowsAfterSwitch ok (length head) v0 v1
+      → Goes (told v0.disk) (told v1.disk) (SwitchesAll ok v0.area v0.version v0.generation v1.waiting v1.gate head)
+      → MovesOn told ok head v0 v1
   moves_switched v0 v1 ok head calm small goes_on goes base log marks since lawful stands some fits is =
-      let few : length (head_spelled newest (replay_log base log)) < 2 ^ 32 = subst (λ (l : List ℕ). length l < 2 ^ 32) is small in
-      let on : KnowsAfterSwitch ok (length (head_spelled newest (replay_log base log))) v0 v1 = subst (λ (l : List ℕ). KnowsAfterSwitch ok (length l) v0 v1) is goes_on in
-      let all = subst (λ (l : List ℕ). Goes (told v0.disk) (told v1.disk) (SwitchesAll ok v0.area v0.version v0.generation v1.waiting v1.gate l)) is goes in (
+      let few : length (head_spelled newest (replay_log base log)) < 2 ^ 32 =
+      subst (λ (l : List ℕ). length l < 2 ^ 32) is small in
+      let on : KnowsAfterSwitch ok (length (head_spelled newest (replay_log base log))) v0 v1 =
+      subst (λ (l : List ℕ). KnowsAfterSwitch ok (length l) v0 v1) is goes_on in
+      let all = subst (λ (l : List ℕ). Goes (told v0.disk) (told v1.disk)
+      (SwitchesAll ok v0.area v0.version v0.generation v1.waiting v1.gate l)) is goes in (
         switched told v0 v1 base log marks since calm stands some fits few ok on all,
         λ idle. compacted_so told v0 v1 base log marks since calm stands some fits few ok all,
       )
 
   -- behind a mend
-  pub moves_then : (v0 v1 v2 : JournalView D) (ok : Bool) (head : List ℕ) → Settles true v0 v1 → StillStands told v0 v1 → MovesOn told ok head v1 v2 → MovesOn told ok head v0 v2
+  pub moves_then : (v0 v1 v2 : JournalView D) (ok : Bool) (head : List ℕ) → Settles true v0 v1 → StillStands told v0 v1
+      → MovesOn told ok head v1 v2 → MovesOn told ok head v0 v2
   moves_then v0 v1 v2 ok head settles still moves base log marks since lawful stands some fits is =
       let first = still base log marks since lawful stands in
       let frames : v1.frames ≡ v0.frames = settles.frames in
-      let second = moves base log marks since lawful first.stands (⊎_elim (λ frame. inl (omega (arith, frame, frames))) (λ old. inr (settles.stays.version ∙ old)) some) fits is in (
+      let second = moves base log marks since lawful first.stands
+      (⊎_elim (λ frame. inl (omega (arith, frame, frames))) (λ old. inr (settles.stays.version ∙ old)) some) fits is
+      in (
         record {
-          extends = goes_then (told v0.disk) (told v1.disk) (told v2.disk) Extends Extends Extends (λ p q r i j k a b. extends_then p q r a b) first.extends second.0.extends;
+          extends = goes_then (told v0.disk) (told v1.disk) (told v2.disk) Extends Extends Extends
+              (λ p q r i j k a b. extends_then p q r a b) first.extends second.0.extends;
           stands = second.0.stands;
         },
         λ idle.
@@ -118,7 +158,8 @@ module _ {D : Type 0} (told : D → Option Past) where
       )
 
   -- the mend before it failed
-  pub moves_not : (v0 v1 : JournalView D) (head : List ℕ) → Settles false v0 v1 → StillStands told v0 v1 → MovesOn told false head v0 v1
+  pub moves_not : (v0 v1 : JournalView D) (head : List ℕ) → Settles false v0 v1 → StillStands told v0 v1
+      → MovesOn told false head v0 v1
   moves_not v0 v1 head settles still base log marks since lawful stands some fits is = (
     still base log marks since lawful stands,
     λ idle. absurd (let never = (settles.idle (calm_nothing v0.waiting idle)).0 in cc),
@@ -145,7 +186,8 @@ module _ {D : Type 0} (v0 v1 v2 : JournalView D) (whole : v0.broken ≡ false) w
         version = ap (λ (v : JournalView D). v.version) made;
         frames = ap (λ (v : JournalView D). v.frames) made;
         waits = λ is. ap (λ (v : JournalView D). is_waiting v.waiting) made;
-        frame = λ is. absurd (let never : frame_waits v2.waiting ≡ false = ap (λ (v : JournalView D). frame_waits v.waiting) made in cc);
+        frame = λ is. absurd (let never : frame_waits v2.waiting ≡ false =
+            ap (λ (v : JournalView D). frame_waits v.waiting) made in cc);
         generation = ap (λ (v : JournalView D). v.generation) made ∙ ap (λ (n : ℕ). n + 1) settles.stays.generation;
       }
 

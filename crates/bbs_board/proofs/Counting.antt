@@ -20,7 +20,8 @@ use Rattle.bbs_model.specs.declared.rows.Rows.{Rows}
 use Rattle.bbs_board.specs.Room.{row_count, most_rows, places_left, calls_for}
 
 module _ {K X : Type 0} (R : K → K → Ordering) (key : X → K) where
-  few_by : (o : Ordering) (a b c : List X) (n : ℕ) → length a ≤ n → length b ≤ n → length c ≤ n → length (by_order o a b c) ≤ n
+  few_by : (o : Ordering) (a b c : List X) (n : ℕ) → length a ≤ n → length b ≤ n → length c ≤ n
+      → length (by_order o a b c) ≤ n
   few_by Less a b c n less same more = less
   few_by Equal a b c n less same more = same
   few_by Greater a b c n less same more = more
@@ -29,7 +30,8 @@ module _ {K X : Type 0} (R : K → K → Ordering) (key : X → K) where
   few-put r [] = omega arith
   few-put r (x ∷ xs) =
       let rest = few-put r xs in
-      few_by (R (key r) (key x)) (r ∷ x ∷ xs) (r ∷ xs) (x ∷ put_row R key r xs) (length (x ∷ xs) + 1) (omega arith) (omega arith) (omega (arith, rest))
+      few_by (R (key r) (key x)) (r ∷ x ∷ xs) (r ∷ xs) (x ∷ put_row R key r xs) (length (x ∷ xs) + 1) (omega arith)
+      (omega arith) (omega (arith, rest))
 
   few_if : (b : Bool) (xs ys : List X) (n : ℕ) → length xs ≤ n → length ys ≤ n → length (cond b xs ys) ≤ n
   few_if true xs ys n one two = one
@@ -39,7 +41,8 @@ module _ {K X : Type 0} (R : K → K → Ordering) (key : X → K) where
   few-without k [] = omega arith
   few-without k (x ∷ xs) =
       let rest = few-without k xs in
-      few_if (eq_by_cmp R k (key x)) (without_row R key k xs) (x ∷ without_row R key k xs) (length (x ∷ xs)) (omega (arith, rest)) (omega (arith, rest))
+      few_if (eq_by_cmp R k (key x)) (without_row R key k xs) (x ∷ without_row R key k xs) (length (x ∷ xs))
+      (omega (arith, rest)) (omega (arith, rest))
 
 few_with : (rows : Rows) (r : Row) → row_count (with_row rows r) ≤ row_count rows + 1
 few_with rows (row.Desired d) = let few = few-put name_order process_of d rows.desired in omega (arith, few)
@@ -49,11 +52,14 @@ few_with rows (row.Cell c) = let few = few-put name_order cell_name_of c rows.ce
 few_with rows (row.Domain d) = let few = few-put name_order domain_name_of d rows.domains in omega (arith, few)
 
 few_without : (rows : Rows) (r : Row) → row_count (without_place_of rows r) ≤ row_count rows
-few_without rows (row.Desired d) = let few = few-without name_order process_of d.process rows.desired in omega (arith, few)
-few_without rows (row.Actual a) = let few = few-without place_order place_of (a.key, a.presence) rows.actual in omega (arith, few)
+few_without rows (row.Desired d) = let few = few-without name_order process_of d.process rows.desired in
+    omega (arith, few)
+few_without rows (row.Actual a) = let few = few-without place_order place_of (a.key, a.presence) rows.actual in
+    omega (arith, few)
 few_without rows (row.Task t) = let few = few-without name_order task_name_of t.name rows.tasks in omega (arith, few)
 few_without rows (row.Cell c) = let few = few-without name_order cell_name_of c.cell rows.cells in omega (arith, few)
-few_without rows (row.Domain d) = let few = few-without name_order domain_name_of d.domain rows.domains in omega (arith, few)
+few_without rows (row.Domain d) = let few = few-without name_order domain_name_of d.domain rows.domains in
+    omega (arith, few)
 
 few_edited : (rows : Rows) (edit : Edit) → row_count (edited rows edit) ≤ row_count rows + 1
 few_edited rows (Put r) = few_with rows r
@@ -89,10 +95,12 @@ pub some_places : (r i p : ℕ) → 0 < calls_for r i p → 0 < p
 some_places r i p some = omega (arith, some)
 
 -- what is left for heads after a command
-pub places_kept : (p p' : ℕ) (rows rows' : Rows) → p ≤ p' → row_count rows' ≤ row_count rows + 2 → places_left p rows ≤ places_left p' rows' + 2
+pub places_kept : (p p' : ℕ) (rows rows' : Rows) → p ≤ p' → row_count rows' ≤ row_count rows + 2
+    → places_left p rows ≤ places_left p' rows' + 2
 places_kept p p' rows rows' more few = left_more most_rows p p' (row_count rows) (row_count rows') more few
   where
-    left_more : (top p p' r r' : ℕ) → p ≤ p' → r' ≤ r + 2 → (p - (r + 1)) + 2 ^ 32 * (p - top) ≤ (p' - (r' + 1)) + 2 ^ 32 * (p' - top) + 2
+    left_more : (top p p' r r' : ℕ) → p ≤ p' → r' ≤ r + 2
+        → (p - (r + 1)) + 2 ^ 32 * (p - top) ≤ (p' - (r' + 1)) + 2 ^ 32 * (p' - top) + 2
     left_more top p p' r r' more few = omega (arith, more, few)
 
 -- and where the rows stay
@@ -103,5 +111,7 @@ places_more p p' rows more = left_more most_rows p p' (row_count rows) more
     left_more top p p' r more = omega (arith, more)
 
 -- where the rows stay and only the places are more
-pub calls_kept : (r i p p' : ℕ) (rows : Rows) → p ≤ p' → calls_for r i (places_left p rows) ≤ calls_for r i (places_left p' rows)
-calls_kept r i p p' rows more = calls_more r i (places_left p rows) r i (places_left p' rows) (omega arith) (omega arith) (places_more p p' rows more)
+pub calls_kept : (r i p p' : ℕ) (rows : Rows) → p ≤ p'
+    → calls_for r i (places_left p rows) ≤ calls_for r i (places_left p' rows)
+calls_kept r i p p' rows more = calls_more r i (places_left p rows) r i (places_left p' rows) (omega arith)
+    (omega arith) (places_more p p' rows more)

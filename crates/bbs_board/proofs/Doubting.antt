@@ -28,7 +28,8 @@ pub no_doubts : (xs ys : List Item) → doubts_in (xs ++ ys) ≡ 0 → (doubts_i
 no_doubts xs ys none = let parts = doubts-append xs ys in (omega (arith, none, parts), omega (arith, none, parts))
 
 -- a call that adds a doubt has met a fault, and no call takes one back
-pub rose_more : (log : List Item) (ok : Bool) (by : ℕ) (c : Command) (faults before after : ℕ) → RoseForEach (doubts_in log) faults before → HasCause (not ok) before after
+pub rose_more : (log : List Item) (ok : Bool) (by : ℕ) (c : Command) (faults before after : ℕ)
+    → RoseForEach (doubts_in log) faults before → HasCause (not ok) before after
     → RoseForEach (doubts_in (log ++ item_of ok by c ∷ [])) faults after
 rose_more log true by c faults before after rose cause =
     let later = cause.later in

@@ -34,12 +34,15 @@ use Rattle.bbs_board.proofs.Storing.{adds_behind, reads_due, goes_both}
 
 -- ---- whether a checkpoint is due
 
-pub by_tests : (due : Bool) (generation top : ℕ) → due && nat_lt generation top ≡ true → (due ≡ true) × (generation < top)
+pub by_tests : (due : Bool) (generation top : ℕ) → due && nat_lt generation top ≡ true
+    → (due ≡ true) × (generation < top)
 by_tests true generation top is = (refl, grind (arith, nat_tests))
 by_tests false generation top is = absurd (cc (is))
 
-pub not_by_tests : (due : Bool) (generation top : ℕ) → due && nat_lt generation top ≡ false → generation < top → due ≡ false
-not_by_tests true generation top is low = absurd (let over : top ≤ generation = grind (arith, nat_tests) in omega (arith, over, low))
+pub not_by_tests : (due : Bool) (generation top : ℕ) → due && nat_lt generation top ≡ false → generation < top
+    → due ≡ false
+not_by_tests true generation top is low = absurd (let over : top ≤ generation = grind (arith, nat_tests) in
+    omega (arith, over, low))
 not_by_tests false generation top is low = refl
 
 some_by_tests : (frames version : ℕ) → nat_le 4096 frames || version == 1 ≡ true → (0 < frames) ⊎ (version ≡ 1)
@@ -51,7 +54,8 @@ short_by_tests frames version is = (grind (arith, nat_tests), λ old. grind (ari
 long_by_tests : (frames version : ℕ) → nat_le 4096 frames || version == 1 ≡ true → frames < 4096 → version ≡ newest → ⊥
 long_by_tests frames version is short new = grind (arith, nat_tests)
 
-never_by_tests : (frames version generation top : ℕ) → frames < 4096 → version ≡ newest → (nat_le 4096 frames || version == 1) && nat_lt generation top ≡ false
+never_by_tests : (frames version generation top : ℕ) → frames < 4096 → version ≡ newest
+    → (nat_le 4096 frames || version == 1) && nat_lt generation top ≡ false
 never_by_tests frames version generation top short new = grind (arith, nat_tests)
 
 module _ {D : Type 0} (j : JournalView D) where
@@ -82,7 +86,8 @@ module _ {D : Type 0} (j : JournalView D) where
   short_not_due short new = never_by_tests j.frames j.version j.generation (2 ^ 64 - 1) short new
 
 -- it is due as it was before
-pub due_same : {D : Type 0} (v w : JournalView D) → w.frames ≡ v.frames → w.version ≡ v.version → w.generation ≡ v.generation → wants_checkpoint w ≡ wants_checkpoint v
+pub due_same : {D : Type 0} (v w : JournalView D) → w.frames ≡ v.frames → w.version ≡ v.version
+    → w.generation ≡ v.generation → wants_checkpoint w ≡ wants_checkpoint v
 due_same v w frames version generation =
     ap (λ (n : ℕ). (nat_le 4096 n || w.version == 1) && nat_lt w.generation (2 ^ 64 - 1)) frames
     ∙ ap (λ (n : ℕ). (nat_le 4096 v.frames || n == 1) && nat_lt w.generation (2 ^ 64 - 1)) version
@@ -90,45 +95,63 @@ due_same v w frames version generation =
 
 -- ---- a board over a disk that tells its past
 
-module _ (base : Rows) (log : List Item) (marks : List ℕ) (since : ℕ) (area : Area) (version generation end frames : ℕ) (waiting : Waiting) (known : OtherGate) (p : Past) (h : Holds base log marks since area version generation end frames waiting known p) where
+module _ (base : Rows) (log : List Item) (marks : List ℕ) (since : ℕ) (area : Area) (version generation end frames : ℕ)
+    (waiting : Waiting) (known : OtherGate) (p : Past) (h : Holds base log marks since area version generation end
+    frames waiting known p) where
   -- it hasn't come to the last generation
   pub low_generation : IsValid (replay_log base log) → generation < 2 ^ 64 - 1
   low_generation valid =
       let few = not_above base log marks since area version generation end frames waiting known p h in
       omega (arith, few, few_version version h.goes_with.version_is, valid.next)
 
-  pub still_nothing : is_waiting waiting ≡ false → Holds base log marks since area version generation end frames Nothing known p
-  still_nothing calm = subst (λ (w : Waiting). Holds base log marks since area version generation end frames w known p) (calm_nothing waiting calm) h
+  pub still_nothing : is_waiting waiting ≡ false → Holds base log marks since area version generation end frames Nothing
+      known p
+  still_nothing calm = subst (λ (w : Waiting). Holds base log marks since area version generation end frames w known p)
+      (calm_nothing waiting calm) h
 
   -- what is read is full or old as the area is
-  pub reads_so : is_waiting waiting ≡ false → (due : Bool) → (nat_le 4096 frames || version == 1) ≡ due → (r : Reading) → ReadsAs r p → is_due r ≡ due
-  reads_so calm due is r reads = reads_due base log marks since area version generation end frames known p (still_nothing calm) r reads ∙ is
+  pub reads_so : is_waiting waiting ≡ false → (due : Bool) → (nat_le 4096 frames || version == 1) ≡ due → (r : Reading)
+      → ReadsAs r p → is_due r ≡ due
+  reads_so calm due is r reads = reads_due base log marks since area version generation end frames known p
+      (still_nothing calm) r reads ∙ is
 
 -- ---- the three ways
 
 module _ {D : Type 0} (told : D → Option Past) (head payload : List ℕ) (mark : ℕ) where
   -- behind the frames that are there
-  pub stores_put : (v0 v1 : JournalView D) (ok : Bool) → wants_checkpoint v0 ≡ false → PutsItem told ok payload mark v0 v1
-      → (is_waiting v0.waiting ≡ false → Goes (told v0.disk) (told v1.disk) (AddsFrame v0.area ok (is_waiting v1.waiting) payload v0.end)) → StoresItem told ok head payload mark v0 v1
+  pub stores_put : (v0 v1 : JournalView D) (ok : Bool) → wants_checkpoint v0 ≡ false
+      → PutsItem told ok payload mark v0 v1
+      → (is_waiting v0.waiting ≡ false → Goes (told v0.disk) (told v1.disk)
+      (AddsFrame v0.area ok (is_waiting v1.waiting) payload v0.end)) → StoresItem told ok head payload mark v0 v1
   stores_put v0 v1 ok due puts appends base log marks since lawful valid stands heads by c fits legal is =
-      let low = λ (p : Past) (i : told v0.disk ≡ Some p). low_generation base log marks since v0.area v0.version v0.generation v0.end v0.frames v0.waiting v0.gate p (stands p i) valid in
-      let may : MayTake told v0 c = λ p i. subst (λ (n : ℕ). IsReadIn n c) (sym (not_due_new v0 due (low p i) (stands p i).goes_with.version_is)) (command_known c) in (
+      let low = λ (p : Past) (i : told v0.disk ≡ Some p). low_generation base log marks since v0.area v0.version
+      v0.generation v0.end v0.frames v0.waiting v0.gate p (stands p i) valid in
+      let may : MayTake told v0 c = λ p i. subst (λ (n : ℕ). IsReadIn n c)
+      (sym (not_due_new v0 due (low p i) (stands p i).goes_with.version_is)) (command_known c) in (
         puts base log marks since lawful stands by c fits may legal is,
         λ calm.
-            goes_weaker (told v0.disk) (told v1.disk) (AddsFrame v0.area ok (is_waiting v1.waiting) (spelled c) v0.end) (Stores ok (replay_log base log) c)
+            goes_weaker (told v0.disk) (told v1.disk) (AddsFrame v0.area ok (is_waiting v1.waiting) (spelled c) v0.end)
+            (Stores ok (replay_log base log) c)
             (λ p q i j adds.
             let h = stands p i in
-            let still = still_nothing base log marks since v0.area v0.version v0.generation v0.end v0.frames v0.waiting v0.gate p h calm in
+            let still = still_nothing base log marks since v0.area v0.version v0.generation v0.end v0.frames v0.waiting
+            v0.gate p h calm in
             stores_short ok (replay_log base log) c p q
-            (adds_behind base log marks since v0.area v0.version v0.generation v0.end v0.frames v0.gate p still c fits (may p i) legal q ok (is_waiting v1.waiting) adds)
-            (reads_so base log marks since v0.area v0.version v0.generation v0.end v0.frames v0.waiting v0.gate p h calm false (not_full_or_old v0 due (low p i))))
-            (subst (λ (l : List ℕ). Goes (told v0.disk) (told v1.disk) (AddsFrame v0.area ok (is_waiting v1.waiting) l v0.end)) is (appends calm)),
+            (adds_behind base log marks since v0.area v0.version v0.generation v0.end v0.frames v0.gate p still c fits
+            (may p i) legal q ok (is_waiting v1.waiting) adds)
+            (reads_so base log marks since v0.area v0.version v0.generation v0.end v0.frames v0.waiting v0.gate p h calm
+            false (not_full_or_old v0 due (low p i))))
+            (subst (λ (l : List ℕ). Goes (told v0.disk) (told v1.disk)
+            (AddsFrame v0.area ok (is_waiting v1.waiting) l v0.end)) is (appends calm)),
       )
 
   -- behind a checkpoint
-  pub stores_then : (v0 v1 v2 : JournalView D) (ok : Bool) → wants_checkpoint v0 ≡ true → MovesOn told true head v0 v1 → MovedOn true v0 v1 → PutsItem told ok payload mark v1 v2
-      → (is_waiting v1.waiting ≡ false → Goes (told v1.disk) (told v2.disk) (AddsFrame v1.area ok (is_waiting v2.waiting) payload v1.end)) → StoresItem told ok head payload mark v0 v2
-  stores_then v0 v1 v2 ok due moves knows puts appends base log marks since lawful valid stands heads by c fits legal is =
+  pub stores_then : (v0 v1 v2 : JournalView D) (ok : Bool) → wants_checkpoint v0 ≡ true → MovesOn told true head v0 v1
+      → MovedOn true v0 v1 → PutsItem told ok payload mark v1 v2
+      → (is_waiting v1.waiting ≡ false → Goes (told v1.disk) (told v2.disk)
+      (AddsFrame v1.area ok (is_waiting v2.waiting) payload v1.end)) → StoresItem told ok head payload mark v0 v2
+  stores_then v0 v1 v2 ok due moves knows puts appends base log marks since lawful valid stands heads by c fits legal
+      is =
       let some = due_some v0 due in
       let written = heads due in
       let moved = moves base log marks since lawful stands some written.fits written.bytes_are in
@@ -136,22 +159,32 @@ module _ {D : Type 0} (told : D → Option Past) (head payload : List ℕ) (mark
       let second = puts base log marks since lawful moved.0.stands by c fits (λ p i. known) legal is in
       let calm1 = knows.waits refl in (
         record {
-          extends = goes_then (told v0.disk) (told v1.disk) (told v2.disk) Extends Extends Extends (λ p q r i j k a b. extends_then p q r a b) moved.0.extends second.extends;
+          extends = goes_then (told v0.disk) (told v1.disk) (told v2.disk) Extends Extends Extends
+              (λ p q r i j k a b. extends_then p q r a b) moved.0.extends second.extends;
           stands = second.stands;
         },
         λ calm.
-            goes_then (told v0.disk) (told v1.disk) (told v2.disk) (λ p q. Extends p q × Compacts true (replay_log base log) p q) (AddsFrame v1.area ok (is_waiting v2.waiting) (spelled c) v1.end) (Stores ok (replay_log base log) c)
+            goes_then (told v0.disk) (told v1.disk) (told v2.disk)
+            (λ p q. Extends p q × Compacts true (replay_log base log) p q)
+            (AddsFrame v1.area ok (is_waiting v2.waiting) (spelled c) v1.end) (Stores ok (replay_log base log) c)
             (λ p q r i j k both adds.
-            let still = still_nothing base log marks since v1.area v1.version v1.generation v1.end v1.frames v1.waiting v1.gate q (moved.0.stands q j) calm1 in
+            let still = still_nothing base log marks since v1.area v1.version v1.generation v1.end v1.frames v1.waiting
+            v1.gate q (moved.0.stands q j) calm1 in
             stores_moved ok (replay_log base log) c p q r both.0 both.1
-            (adds_behind base log marks since v1.area v1.version v1.generation v1.end v1.frames v1.gate q still c fits known legal r ok (is_waiting v2.waiting) adds)
-            (reads_so base log marks since v0.area v0.version v0.generation v0.end v0.frames v0.waiting v0.gate p (stands p i) calm true (due_is v0 due).0))
-            (goes_both (told v0.disk) (told v1.disk) Extends (Compacts true (replay_log base log)) moved.0.extends (moved.1 calm))
-            (subst (λ (l : List ℕ). Goes (told v1.disk) (told v2.disk) (AddsFrame v1.area ok (is_waiting v2.waiting) l v1.end)) is (appends calm1)),
+            (adds_behind base log marks since v1.area v1.version v1.generation v1.end v1.frames v1.gate q still c fits
+            known legal r ok (is_waiting v2.waiting) adds)
+            (reads_so base log marks since v0.area v0.version v0.generation v0.end v0.frames v0.waiting v0.gate p
+            (stands p i) calm true (due_is v0 due).0))
+            (goes_both (told v0.disk) (told v1.disk) Extends (Compacts true (replay_log base log)) moved.0.extends
+            (moved.1 calm))
+            (subst (λ (l : List ℕ). Goes (told v1.disk) (told v2.disk)
+            (AddsFrame v1.area ok (is_waiting v2.waiting) l v1.end)) is (appends calm1)),
       )
 
   -- the checkpoint before it failed
-  pub stores_not : (v0 v1 : JournalView D) → wants_checkpoint v0 ≡ true → ((q : Past) → told v1.disk ≡ Some q → q.clock ≡ mark) → MovesOn told false head v0 v1 → StoresItem told false head payload mark v0 v1
+  pub stores_not : (v0 v1 : JournalView D) → wants_checkpoint v0 ≡ true
+      → ((q : Past) → told v1.disk ≡ Some q → q.clock ≡ mark) → MovesOn told false head v0 v1
+      → StoresItem told false head payload mark v0 v1
   stores_not v0 v1 due timed moves base log marks since lawful valid stands heads by c fits legal is =
       let some = due_some v0 due in
       let written = heads due in
@@ -159,15 +192,21 @@ module _ {D : Type 0} (told : D → Option Past) (head payload : List ℕ) (mark
         record {
           extends = moved.0.extends;
           stands = λ q j.
-              subst (λ (m : ℕ). Holds base (log ++ Doubt by c ∷ []) (marks ++ m ∷ []) since v1.area v1.version v1.generation v1.end v1.frames v1.waiting v1.gate q) (timed q j)
-              (holds_doubted base log marks since v1.area v1.version v1.generation v1.end v1.frames v1.waiting v1.gate q (moved.0.stands q j) by c);
+              subst (λ (m : ℕ). Holds base (log ++ Doubt by c ∷ [])
+              (marks ++ m ∷ []) since v1.area v1.version v1.generation v1.end v1.frames v1.waiting v1.gate q)
+              (timed q j)
+              (holds_doubted base log marks since v1.area v1.version v1.generation v1.end v1.frames v1.waiting v1.gate q
+              (moved.0.stands q j) by c);
         },
         λ calm.
-            goes_weaker (told v0.disk) (told v1.disk) (λ p q. Extends p q × Compacts false (replay_log base log) p q) (Stores false (replay_log base log) c)
+            goes_weaker (told v0.disk) (told v1.disk) (λ p q. Extends p q × Compacts false (replay_log base log) p q)
+            (Stores false (replay_log base log) c)
             (λ p q i j both.
             stores_unmoved (replay_log base log) c p q both.0 both.1
-            (reads_so base log marks since v0.area v0.version v0.generation v0.end v0.frames v0.waiting v0.gate p (stands p i) calm true (due_is v0 due).0))
-            (goes_both (told v0.disk) (told v1.disk) Extends (Compacts false (replay_log base log)) moved.0.extends (moved.1 calm)),
+            (reads_so base log marks since v0.area v0.version v0.generation v0.end v0.frames v0.waiting v0.gate p
+            (stands p i) calm true (due_is v0 due).0))
+            (goes_both (told v0.disk) (told v1.disk) Extends (Compacts false (replay_log base log)) moved.0.extends
+            (moved.1 calm)),
       )
 
 -- ---- what the journal knows then
@@ -189,17 +228,20 @@ module _ {D : Type 0} (v0 v1 v2 : JournalView D) where
   not_done true w waits is = absurd (let none = waits refl in let calm = ap frame_waits none in cc)
   not_done false w waits is = refl
 
-  pub has_put_there : (ok : Bool) → v0.broken ≡ false → IsVersion v0.version → wants_checkpoint v0 ≡ false → HasPut ok v0 v1 → HasStored ok v0 v1
+  pub has_put_there : (ok : Bool) → v0.broken ≡ false → IsVersion v0.version → wants_checkpoint v0 ≡ false
+      → HasPut ok v0 v1 → HasStored ok v0 v1
   has_put_there ok whole read due has = record {
     whole = has.stays.broken ∙ whole;
     frames = no_more ok v1.frames v0.frames has.frames;
     short = λ is low. omega (arith, frames_done ok v1.frames v0.frames has.frames is, not_due v0 due low);
     renewed = λ is low. has.stays.version ∙ not_due_new v0 due low read;
     waits = λ is. ap is_waiting (has.waits is);
-    crowded = λ before is. due_same v0 v1 (frames_not ok v1.frames v0.frames has.frames (not_done ok v1.waiting has.waits is)) has.stays.version has.stays.generation ∙ due;
+    crowded = λ before is. due_same v0 v1 (frames_not ok v1.frames v0.frames has.frames
+        (not_done ok v1.waiting has.waits is)) has.stays.version has.stays.generation ∙ due;
   }
 
-  few_there : (ok : Bool) (n m k : ℕ) → n ≡ (if ok then m + 1 else m) → m ≡ 0 → (n ≤ (if ok then k + 1 else k)) × (n ≤ 1)
+  few_there : (ok : Bool) (n m k : ℕ) → n ≡ (if ok then m + 1 else m) → m ≡ 0
+      → (n ≤ (if ok then k + 1 else k)) × (n ≤ 1)
   few_there true n m k frames none = (omega (arith, frames, none), omega (arith, frames, none))
   few_there false n m k frames none = (omega (arith, frames, none), omega (arith, frames, none))
 
@@ -231,7 +273,9 @@ module _ {D : Type 0} (v0 v1 v2 : JournalView D) where
 -- ---- the device calls
 
 -- behind a checkpoint, which was due
-pub takes_then : (ok waits still : Bool) (version frames before mid after : ℕ) → still ≡ false → (frames < 4096 → version ≡ newest → ⊥) → SwitchTakes true waits before mid → PutTakes ok still mid after → StoreTakes ok waits version frames before after
+pub takes_then : (ok waits still : Bool) (version frames before mid after : ℕ) → still ≡ false
+    → (frames < 4096 → version ≡ newest → ⊥) → SwitchTakes true waits before mid → PutTakes ok still mid after
+    → StoreTakes ok waits version frames before after
 takes_then ok waits still version frames before mid after calm due switch put =
     let none : mend_calls still ≡ 0 = ap mend_calls calm in
     let most = put.most in
@@ -253,7 +297,8 @@ takes_then ok waits still version frames before mid after calm due switch put =
     (switch.done refl)
 
 -- a checkpoint that failed
-pub takes_not : (waits : Bool) (version frames before after : ℕ) → (frames < 4096 → version ≡ newest → ⊥) → SwitchTakes false waits before after → StoreTakes false waits version frames before after
+pub takes_not : (waits : Bool) (version frames before after : ℕ) → (frames < 4096 → version ≡ newest → ⊥)
+    → SwitchTakes false waits before after → StoreTakes false waits version frames before after
 takes_not waits version frames before after due switch = record {
   switch = 8;
   kind = inr (inr refl);

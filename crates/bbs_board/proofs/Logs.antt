@@ -13,7 +13,8 @@ use Rattle.bbs_board.specs.Kept.{RiseBetween}
 
 module _ {X : Type 0} where
   -- what stands at a place stands there in a longer list
-  pub get_more : (xs ys : List X) (place : ℕ) (x : X) → slice_get xs place ≡ Some x → slice_get (xs ++ ys) place ≡ Some x
+  pub get_more : (xs ys : List X) (place : ℕ) (x : X) → slice_get xs place ≡ Some x
+      → slice_get (xs ++ ys) place ≡ Some x
   get_more [] ys place x is = cc
   get_more (y ∷ xs) ys zero x is = is
   get_more (y ∷ xs) ys (suc place) x is = get_more xs ys place x is
@@ -39,7 +40,8 @@ module _ {X : Type 0} where
 
 -- ---- rows at a place
 
-pub rows_before : (base : Rows) (xs ys : List Item) (place : ℕ) → place ≤ length xs → rows_at base (xs ++ ys) place ≡ rows_at base xs place
+pub rows_before : (base : Rows) (xs ys : List Item) (place : ℕ) → place ≤ length xs
+    → rows_at base (xs ++ ys) place ≡ rows_at base xs place
 rows_before base xs ys place le = ap (replay_log base) (take-append-le place xs ys le)
 
 pub rows_end : (base : Rows) (log : List Item) → rows_at base log (length log) ≡ replay_log base log
@@ -49,12 +51,14 @@ rows_end base log = ap (replay_log base) (take_all log)
 pub rows_behind : (base : Rows) (log more : List Item) → rows_at base (log ++ more) (length log) ≡ replay_log base log
 rows_behind base log more = rows_before base log more (length log) (omega arith) ∙ rows_end base log
 
-pub replay_more : (base : Rows) (log : List Item) (item : Item) → replay_log base (log ++ item ∷ []) ≡ after_item (replay_log base log) item
+pub replay_more : (base : Rows) (log : List Item) (item : Item)
+    → replay_log base (log ++ item ∷ []) ≡ after_item (replay_log base log) item
 replay_more base log item = replay_log-append base log (item ∷ [])
 
 -- ---- what is reached
 
-pub reached_more : (base : Rows) (xs ys : List Item) (from : ℕ) (rows : Rows) → IsReached base xs from rows → IsReached base (xs ++ ys) from rows
+pub reached_more : (base : Rows) (xs ys : List Item) (from : ℕ) (rows : Rows) → IsReached base xs from rows
+    → IsReached base (xs ++ ys) from rows
 reached_more base xs ys from rows (inl at) = inl (record {
   place = at.place;
   low = at.low;
@@ -67,15 +71,24 @@ reached_more base xs ys from rows (inr at) = inr (record {
   by = at.by;
   command = at.command;
   doubt = get_more xs ys at.place (Doubt at.by at.command) at.doubt;
-  rows_are = at.rows_are ∙ ap (λ (r : Rows). rows_after r at.command) (sym (rows_before base xs ys at.place (place-within xs at.place (Doubt at.by at.command) at.doubt)));
+  rows_are = at.rows_are ∙ ap (λ (r : Rows). rows_after r at.command)
+      (sym (rows_before base xs ys at.place (place-within xs at.place (Doubt at.by at.command) at.doubt)));
 })
 
 -- the rows at the end of a log, from any place on
-pub reached_end : (base : Rows) (log : List Item) (from : ℕ) → from ≤ length log → IsReached base log from (replay_log base log)
-reached_end base log from le = inl (record { place = length log; low = le; high = omega arith; rows_are = sym (rows_end base log) })
+pub reached_end : (base : Rows) (log : List Item) (from : ℕ) → from ≤ length log
+    → IsReached base log from (replay_log base log)
+reached_end base log from le = inl (record {
+  place = length log;
+  low = le;
+  high = omega arith;
+  rows_are =
+      sym (rows_end base log);
+})
 
 -- ---- marks
 
-pub rising_more : (low : ℕ) (marks : List ℕ) (high mark : ℕ) → RiseBetween low marks high → high ≤ mark → RiseBetween low (marks ++ mark ∷ []) mark
+pub rising_more : (low : ℕ) (marks : List ℕ) (high mark : ℕ) → RiseBetween low marks high → high ≤ mark
+    → RiseBetween low (marks ++ mark ∷ []) mark
 rising_more low [] high mark rising le = (omega (arith, rising, le), omega arith)
 rising_more low (m ∷ marks) high mark rising le = (rising.0, rising_more m marks high mark rising.1 le)

@@ -38,14 +38,17 @@ use Rattle.bbs_board.proofs.Storing.{holds_images}
 
 -- ---- the head of the rows is that of a next area
 
-module _ (base : Rows) (log : List Item) (marks : List ℕ) (since : ℕ) (area : Area) (version generation end frames : ℕ) (waiting : Waiting) (known : OtherGate) (p : Past) (h : Holds base log marks since area version generation end frames waiting known p) where
+module _ (base : Rows) (log : List Item) (marks : List ℕ) (since : ℕ) (area : Area) (version generation end frames : ℕ)
+    (waiting : Waiting) (known : OtherGate) (p : Past) (h : Holds base log marks since area version generation end
+    frames waiting known p) where
   abbrev rows : Rows
   rows = replay_log base log
 
   -- each generation goes with a transition at least
   pub not_above : generation + length h.payloads ≤ rows.next + version
   not_above =
-      let start = bind_ok (rows_in version area h.head) (λ start. followed version area None start (23 + length h.head) h.payloads) rows h.rows_are in
+      let start = bind_ok (rows_in version area h.head) (λ start.
+      followed version area None start (23 + length h.head) h.payloads) rows h.rows_are in
       let read = rows_read version area h.head start.0 start.1 in
       let begins = head_next version h.head read.0 read.1 in
       let grown = next-followed version area start.0 rows (23 + length h.head) h.payloads start.2 in
@@ -59,7 +62,8 @@ module _ (base : Rows) (log : List Item) (marks : List ℕ) (since : ℕ) (area 
       omega (arith, not_above, few_version version h.goes_with.version_is, count, some)
   next_fits (inr old) = omega (arith, not_above, old)
 
-  pub leads : (0 < frames) ⊎ (version ≡ 1) → FitsHead newest rows → length (head_spelled newest rows) < 2 ^ 32 → LeadsOn area generation (head_spelled newest rows) rows
+  pub leads : (0 < frames) ⊎ (version ≡ 1) → FitsHead newest rows → length (head_spelled newest rows) < 2 ^ 32
+      → LeadsOn area generation (head_spelled newest rows) rows
   leads some fits small =
       let again = head_again newest rows fits in
       let begins = head_next newest (head_spelled newest rows) rows again in
@@ -72,34 +76,62 @@ module _ (base : Rows) (log : List Item) (marks : List ℕ) (since : ℕ) (area 
           fits = small;
           not_ahead = λ long. omega (arith, fit, begins.1);
         };
-        rows_are = ap (λ (r : Result Rows LoadFault). r >>= λ start. followed newest (other area) None start (23 + length (head_spelled newest rows)) [])
+        rows_are = ap (λ (r : Result Rows LoadFault). r >>= λ start.
+            followed newest (other area) None start (23 + length (head_spelled newest rows)) [])
             (rows_newest (other area) (head_spelled newest rows) rows again);
       }
 
 -- ---- a switch to it
 
-module _ (base : Rows) (log : List Item) (marks : List ℕ) (since : ℕ) (area : Area) (version generation end frames : ℕ) (known : OtherGate) (p q : Past) (h : Holds base log marks since area version generation end frames Nothing known p)
+module _ (base : Rows) (log : List Item) (marks : List ℕ) (since : ℕ) (area : Area) (version generation end frames : ℕ)
+    (known : OtherGate) (p q : Past) (h : Holds base log marks since area version generation end frames Nothing known p)
     (new : List ℕ) (lead : LeadsOn area generation new (replay_log base log)) where
   pub calm_ready : Ready (h.gate ∷ heading version generation h.head) h.payloads end (now p area)
-  calm_ready = ready_where h.doubt (h.gate ∷ heading version generation h.head) h.payloads end (now p area) h.waits_is h.stands
+  calm_ready = ready_where h.doubt (h.gate ∷ heading version generation h.head) h.payloads end
+      (now p area) h.waits_is h.stands
 
-  switch_found : (from : ℕ) → from ≤ length log → (image : Image) → OpensAs image area version generation h.head h.payloads ⊎ OpensAs image (other area) newest (generation + 1) new [] → IsFound base log from image
+  switch_found : (from : ℕ) → from ≤ length log → (image : Image)
+      → OpensAs image area version generation h.head h.payloads
+      ⊎ OpensAs image (other area) newest (generation + 1) new [] → IsFound base log from image
   switch_found from le image (inl old) = record {
     rows = replay_log base log;
-    board = record { area = area; version = version; generation = generation; head = h.head; payloads = h.payloads; end = _; opening = old; rows_are = h.rows_are };
+    board = record {
+      area = area;
+      version = version;
+      generation = generation;
+      head = h.head;
+      payloads =
+          h.payloads;
+      end = _;
+      opening = old;
+      rows_are = h.rows_are;
+    };
     reached = reached_end base log from le;
   }
   switch_found from le image (inr opened) = record {
     rows = replay_log base log;
-    board = record { area = other area; version = newest; generation = generation + 1; head = new; payloads = []; end = _; opening = opened; rows_are = lead.rows_are };
+    board = record {
+      area = other area;
+      version = newest;
+      generation = generation + 1;
+      head = new;
+      payloads = [];
+      end =
+          _;
+      opening = opened;
+      rows_are = lead.rows_are;
+    };
     reached = reached_end base log from le;
   }
 
-  module _ (ok : Bool) (waiting : Waiting) (left : OtherGate) (s : Switches ok area version generation h.head h.payloads waiting left new p q) where
+  module _ (ok : Bool) (waiting : Waiting) (left : OtherGate)
+      (s : Switches ok area version generation h.head h.payloads waiting left new p q) where
     switch_kept : Kept base log marks since q
-    switch_kept = kept_on version base log marks since p q h.kept s.extends (λ image images from le below. switch_found from le image (s.each image images))
+    switch_kept = kept_on version base log marks since p q h.kept s.extends
+        (λ image images from le below. switch_found from le image (s.each image images))
 
-    pub holds_there : ok ≡ true → Holds base log marks since (other area) newest (generation + 1) (23 + length new) 0 Nothing Loose q
+    pub holds_there : ok ≡ true → Holds base log marks since (other area) newest (generation + 1)
+        (23 + length new) 0 Nothing Loose q
     holds_there is =
         let made = s.made is in
         record {
@@ -114,13 +146,15 @@ module _ (base : Rows) (log : List Item) (marks : List ℕ) (since : ℕ) (area 
           may_show = λ payload never. absurd (cc (never));
           stands = made.ready;
           next = [];
-          beside = subst (λ (x : Area). Has (Beside [] Nothing Loose (generation + 1)) (now q x)) (sym (other_other area)) made.beside;
+          beside = subst (λ (x : Area). Has (Beside [] Nothing Loose (generation + 1)) (now q x))
+              (sym (other_other area)) made.beside;
           leads_on = λ size never. absurd (cc (never));
           rows_are = lead.rows_are;
           kept = switch_kept;
         }
 
-    pub holds_here : ok ≡ false → frame_waits waiting ≡ false → Holds base log marks since area version generation end frames waiting left q
+    pub holds_here : ok ≡ false → frame_waits waiting ≡ false
+        → Holds base log marks since area version generation end frames waiting left q
     holds_here is calm =
         let failed = s.failed is in
         record {
@@ -133,7 +167,8 @@ module _ (base : Rows) (log : List Item) (marks : List ℕ) (since : ℕ) (area 
           goes_with = h.goes_with;
           waits_is = calm;
           may_show = λ payload never. absurd (cc (never));
-          stands = subst (Ready (h.gate ∷ heading version generation h.head) h.payloads end) (sym failed.still) calm_ready;
+          stands = subst (Ready (h.gate ∷ heading version generation h.head) h.payloads end)
+              (sym failed.still) calm_ready;
           next = new;
           beside = failed.beside;
           leads_on = λ size waits written. lead;
@@ -150,13 +185,18 @@ some_compact frames version (inr old) = grind (arith, nat_tests)
 none_compact : (frames version : ℕ) → frames ≡ 0 → (version ≡ 1 → ⊥) → nat_lt 0 frames || version == 1 ≡ false
 none_compact frames version none new = grind (arith, nat_tests)
 
-instead_is : (rows : Rows) (r : Reading) → (0 < length r.payloads) ⊎ (r.version ≡ 1) → compacted rows r ≡ headed_instead rows r
-instead_is rows r some = ap (λ (b : Bool). if b then headed_instead rows r else r) (some_compact (length r.payloads) r.version some)
+instead_is : (rows : Rows) (r : Reading) → (0 < length r.payloads) ⊎ (r.version ≡ 1)
+    → compacted rows r ≡ headed_instead rows r
+instead_is rows r some = ap (λ (b : Bool). if b then headed_instead rows r else r)
+    (some_compact (length r.payloads) r.version some)
 
 none_instead : (rows : Rows) (r : Reading) → length r.payloads ≡ 0 → (r.version ≡ 1 → ⊥) → compacted rows r ≡ r
-none_instead rows r none new = ap (λ (b : Bool). if b then headed_instead rows r else r) (none_compact (length r.payloads) r.version none new)
+none_instead rows r none new = ap (λ (b : Bool). if b then headed_instead rows r else r)
+    (none_compact (length r.payloads) r.version none new)
 
-module _ (base : Rows) (log : List Item) (marks : List ℕ) (since : ℕ) (area : Area) (version generation end frames : ℕ) (known : OtherGate) (p : Past) (h : Holds base log marks since area version generation end frames Nothing known p) where
+module _ (base : Rows) (log : List Item) (marks : List ℕ) (since : ℕ) (area : Area) (version generation end frames : ℕ)
+    (known : OtherGate) (p : Past) (h : Holds base log marks since area version generation end frames Nothing known
+    p) where
   abbrev reading : Reading
   reading = record { area = area; version = version; generation = generation; head = h.head; payloads = h.payloads }
 
@@ -182,7 +222,8 @@ module _ (base : Rows) (log : List Item) (marks : List ℕ) (since : ℕ) (area 
   pub compacts_none : frames ≡ 0 → (version ≡ 1 → ⊥) → Compacts true (replay_log base log) p p
   compacts_none none new =
       let count = h.count in
-      let same : compacted (replay_log base log) reading ≡ reading = none_instead (replay_log base log) reading (omega (arith, count, none)) new in
+      let same : compacted (replay_log base log) reading ≡ reading =
+      none_instead (replay_log base log) reading (omega (arith, count, none)) new in
       record {
         before = reading;
         reads = reads_now (content p) (p.possible p.clock);
@@ -195,16 +236,25 @@ module _ (base : Rows) (log : List Item) (marks : List ℕ) (since : ℕ) (area 
       }
 
   -- and one that was tried
-  pub compacts_by : (q : Past) (ok : Bool) (waiting : Waiting) (left : OtherGate) → (0 < frames) ⊎ (version ≡ 1) → LeadsOn area generation (head_spelled newest (replay_log base log)) (replay_log base log)
-      → Switches ok area version generation h.head h.payloads waiting left (head_spelled newest (replay_log base log)) p q → Compacts ok (replay_log base log) p q
+  pub compacts_by : (q : Past) (ok : Bool) (waiting : Waiting) (left : OtherGate) → (0 < frames) ⊎ (version ≡ 1)
+      → LeadsOn area generation (head_spelled newest (replay_log base log)) (replay_log base log)
+      → Switches ok area version generation h.head h.payloads waiting left
+      (head_spelled newest (replay_log base log)) p q → Compacts ok (replay_log base log) p q
   compacts_by q ok waiting left some lead s =
       let count = h.count in
-      let same = instead_is (replay_log base log) reading (⊎_elim (λ frame. inl (omega (arith, count, frame))) (λ old. inr old) some) in
+      let same = instead_is (replay_log base log) reading (⊎_elim (λ frame. inl (omega (arith, count, frame)))
+      (λ old. inr old) some) in
       let leads_there = subst (λ (r : Reading). LeadsTo r (replay_log base log)) (sym same) lead.rows_are in
       record {
         before = reading;
         reads = reads_now (content p) (p.possible p.clock);
         leads = h.rows_are;
-        each = λ image images. ⊎_elim (λ old. inl old) (λ opened. inr (record { opens = subst (λ (r : Reading). OpensTo r image) (sym same) opened; leads = leads_there })) (s.each image images);
-        done = λ is image images. record { opens = subst (λ (r : Reading). OpensTo r image) (sym same) (s.done is image images); leads = leads_there };
+        each = λ image images. ⊎_elim (λ old. inl old) (λ opened.
+            inr (record { opens = subst (λ (r : Reading). OpensTo r image) (sym same) opened; leads = leads_there }))
+            (s.each image images);
+        done = λ is image images. record {
+          opens = subst (λ (r : Reading). OpensTo r image) (sym same)
+              (s.done is image images);
+          leads = leads_there;
+        };
       }

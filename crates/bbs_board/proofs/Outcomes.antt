@@ -18,8 +18,11 @@ ok_and_err x fault r first second = cc
 
 damaged_once : (a b : LoadFault) (c : Image) → IsDamaged a c → IsDamaged b c → a ≡ b
 damaged_once a b c first second =
-    let same = opens_once c first.area second.area first.version second.version first.generation second.generation first.head second.head first.payloads second.payloads first.broken second.broken first.end second.end first.opening second.opening in
-    let there : board_of first.version first.area first.head first.payloads first.broken ≡ board_of second.version second.area second.head second.payloads second.broken =
+    let same = opens_once c first.area second.area first.version second.version first.generation second.generation
+    first.head second.head first.payloads second.payloads first.broken second.broken first.end second.end
+    first.opening second.opening in
+    let there : board_of first.version first.area first.head first.payloads first.broken
+    ≡ board_of second.version second.area second.head second.payloads second.broken =
     λ i. board_of (same.version_is i) (same.area_is i) (same.head_is i) (same.payloads_are i) (same.broken_is i) in
     same_fault a b _ first.fault_is (there ∙ second.fault_is)
 
@@ -30,9 +33,14 @@ refuses_once a b c (inr first) (inl second) = absurd (ok_and_err _ b _ first.ope
 refuses_once a b c (inr first) (inr second) = damaged_once a b c first second
 
 -- what is opened is a board, or has a defect
-by_frames : (c : Image) (o : IsOpened c) (r : Result Rows LoadFault) → board_of o.version o.area o.head o.payloads o.broken ≡ r → IsSomeBoard c ⊎ IsNoBoard c
+by_frames : (c : Image) (o : IsOpened c) (r : Result Rows LoadFault)
+    → board_of o.version o.area o.head o.payloads o.broken ≡ r → IsSomeBoard c ⊎ IsNoBoard c
 by_frames c o (Ok rows) is =
-    inl (record { rows = rows; board = loaded_board c o.area o.version o.generation o.head o.payloads o.broken o.end rows o.opening is })
+    inl (record {
+      rows = rows;
+      board = loaded_board c o.area o.version o.generation o.head o.payloads o.broken o.end
+          rows o.opening is;
+    })
 by_frames c o (Err fault) is = inr (record {
   fault = fault;
   refused = inr (record {

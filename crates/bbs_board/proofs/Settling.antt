@@ -22,32 +22,41 @@ use Rattle.bbs_board.specs.Opening.{in_area, rows_in, settled, with_domain, with
 -- ---- the places of the rows stay, and so does all that makes them rows of a board
 
 same_below : (rows : Rows) (place : Key × Presence) (xs : List Actual)
-    → below_all place_order place (keyed place_order place_of (map (with_domain rows) xs)) ≡ below_all place_order place (keyed place_order place_of xs)
+    → below_all place_order place (keyed place_order place_of (map (with_domain rows) xs))
+    ≡ below_all place_order place (keyed place_order place_of xs)
 same_below rows place [] = refl
 same_below rows place (x ∷ xs) = ap (λ b. is_lt (place_order place (place_of x)) && b) (same_below rows place xs)
 
 same_rise : (rows : Rows) (xs : List Actual)
-    → is_sorted place_order (keyed place_order place_of (map (with_domain rows) xs)) ≡ is_sorted place_order (keyed place_order place_of xs)
+    → is_sorted place_order (keyed place_order place_of (map (with_domain rows) xs))
+    ≡ is_sorted place_order (keyed place_order place_of xs)
 same_rise rows [] = refl
 same_rise rows (x ∷ xs) =
-    ap (λ b. b && is_sorted place_order (keyed place_order place_of (map (with_domain rows) xs))) (same_below rows (place_of x) xs)
+    ap (λ b. b && is_sorted place_order (keyed place_order place_of (map (with_domain rows) xs)))
+    (same_below rows (place_of x) xs)
     ∙ ap (λ b. below_all place_order (place_of x) (keyed place_order place_of xs) && b) (same_rise rows xs)
 
-suits_still : (rows : Rows) (presence : Presence) (a : Actual) → SuitsPresence presence a → SuitsPresence presence (with_domain rows a)
+suits_still : (rows : Rows) (presence : Presence) (a : Actual) → SuitsPresence presence a
+    → SuitsPresence presence (with_domain rows a)
 suits_still rows Ordinary a suits = tt
 suits_still rows Evacuating a suits = suits
 suits_still rows Suspect a suits = suits
 
-each_still : (rows : Rows) (next : ℕ) (xs : List Actual) → AllByRecursion (IsActualRow next) xs → AllByRecursion (IsActualRow next) (map (with_domain rows) xs)
+each_still : (rows : Rows) (next : ℕ) (xs : List Actual) → AllByRecursion (IsActualRow next) xs
+    → AllByRecursion (IsActualRow next) (map (with_domain rows) xs)
 each_still rows next [] each = tt
-each_still rows next (x ∷ xs) each = (record { held = each.0.held; suits = suits_still rows x.presence x each.0.suits }, each_still rows next xs each.1)
+each_still rows next (x ∷ xs) each = (
+  record { held = each.0.held; suits = suits_still rows x.presence x each.0.suits },
+  each_still rows next xs each.1,
+)
 
 pub IsValid-with_domains : (rows : Rows) → IsValid rows → IsValid (with_domains rows)
 IsValid-with_domains rows valid = record {
   desired = valid.desired;
   actual = record {
     rising = subst T (sym (same_rise rows rows.actual)) valid.actual.rising;
-    few = let few = valid.actual.few in subst (λ n. n ≤ most_actual) (sym (length-map rows.actual (with_domain rows))) few;
+    few = let few = valid.actual.few in subst (λ n. n ≤ most_actual)
+        (sym (length-map rows.actual (with_domain rows))) few;
     each = each_still rows rows.next rows.actual valid.actual.each;
   };
   tasks = valid.tasks;
@@ -77,7 +86,8 @@ pub rows_read : (version : ℕ) (area : Area) (head : List ℕ) (rows : Rows) �
 rows_read version area head rows is = in_area_ok version area (head_reading version head) rows is
 
 -- and those of a head of the newest version are its own
-pub rows_newest : (area : Area) (head : List ℕ) (rows : Rows) → head_reading 2 head ≡ Ok rows → rows_in 2 area head ≡ Ok rows
+pub rows_newest : (area : Area) (head : List ℕ) (rows : Rows) → head_reading 2 head ≡ Ok rows
+    → rows_in 2 area head ≡ Ok rows
 rows_newest area head rows is = ap (in_area 2 area) is
 
 -- the version of an area is a small number
@@ -92,6 +102,7 @@ newer_version version (inr new) not = new
 
 -- ---- what holds of each value of an answer
 
-pub ok_as : {X E : Type 0} (result : Result X E) (P Q : X → Type 0) → ((x : X) → P x → Q x) → IfOk result P → IfOk result Q
+pub ok_as : {X E : Type 0} (result : Result X E) (P Q : X → Type 0) → ((x : X) → P x → Q x) → IfOk result P
+    → IfOk result Q
 ok_as (Ok x) P Q f p = f x p
 ok_as (Err e) P Q f p = tt

@@ -27,12 +27,15 @@ pub record Stands (n : ℕ) (bytes : List ℕ) (at : ℕ) (c : Case) (after : �
 
 -- what is read so is of the case of this number
 pub record IsCase {X : Type 0} (case : X → Case) (n : ℕ) (read : Reads X) : Type 0 where
-  pub spelled : (bytes : List ℕ) (at : ℕ) (x : X) (after : ℕ) → IsBytes bytes → read bytes at ≡ Ok (x, after) → Stands n bytes at (case x) after
+  pub spelled : (bytes : List ℕ) (at : ℕ) (x : X) (after : ℕ) → IsBytes bytes → read bytes at ≡ Ok (x, after)
+      → Stands n bytes at (case x) after
 
 -- a value whose fields stand there is read, and it is told where they are cut off
 pub record IsAgain {X : Type 0} (c : Case) (x : X) (read : Reads X) : Type 0 where
-  pub again : (bytes : List ℕ) (at : ℕ) → c.Fits → TextStandsAt bytes at c.fields → read bytes at ≡ Ok (x, at + length c.fields)
-  pub cut : (bytes : List ℕ) (at k : ℕ) → c.Fits → k < length c.fields → drop at bytes ≡ take k c.fields → read bytes at ≡ Err (Short (length bytes))
+  pub again : (bytes : List ℕ) (at : ℕ) → c.Fits → TextStandsAt bytes at c.fields
+      → read bytes at ≡ Ok (x, at + length c.fields)
+  pub cut : (bytes : List ℕ) (at k : ℕ) → c.Fits → k < length c.fields → drop at bytes ≡ take k c.fields
+      → read bytes at ≡ Err (Short (length bytes))
   pub most : c.Fits → length c.fields ≤ 93
   pub small : c.number < 2 ^ 8
 
@@ -44,22 +47,27 @@ pub record AreCases {X : Type 0} (case : X → Case) (readers : List (Reads X)) 
 pub IsCase-none : {X : Type 0} (case : X → Case) (n place : ℕ) → IsCase case n (none_at place)
 IsCase-none case n place = record { spelled = λ bytes at x after ib e. absurd cc }
 
-pub IsCase-alone : {X : Type 0} {case : X → Case} {n : ℕ} (one : X) → case one ≡ case_alone n → IsCase case n (alone one)
+pub IsCase-alone : {X : Type 0} {case : X → Case} {n : ℕ} (one : X) → case one ≡ case_alone n
+    → IsCase case n (alone one)
 IsCase-alone {X} {case} {n} one is = record {
   spelled = λ bytes at x after ib e.
       let pair : ◌≡◌ {A = X × ℕ} (one, at) (x, after) = ok_is {X = X × ℕ} (one, at) (x, after) e in
-      let there : Stands n bytes at (case_alone n) at = record { number = refl; stands = record { rest = drop at bytes; parts = refl }; place = omega arith; fits = tt } in
-      subst (λ (p : X × ℕ). Stands n bytes at (case p.0) p.1) pair (subst (λ (c : Case). Stands n bytes at c at) (sym is) there);
+      let there : Stands n bytes at (case_alone n) at = record
+      { number = refl; stands = record { rest = drop at bytes; parts = refl }; place = omega arith; fits = tt } in
+      subst (λ (p : X × ℕ). Stands n bytes at (case p.0) p.1) pair
+      (subst (λ (c : Case). Stands n bytes at c at) (sym is) there);
 }
 
-pub IsCase-seen : {X P : Type 0} {case : X → Case} {n low high : ℕ} {f : Format P} (make : P → X) → HasLaws f low high → ((p : P) → case (make p) ≡ case_of n f p)
+pub IsCase-seen : {X P : Type 0} {case : X → Case} {n low high : ℕ} {f : Format P} (make : P → X) → HasLaws f low high
+    → ((p : P) → case (make p) ≡ case_of n f p)
     → IsCase case n (seen_at make f.read)
 IsCase-seen {X} {P} {case} {n} {f = f} make laws is = record {
   spelled = λ bytes at x after ib e.
       let p = seen_found make f.read bytes at x after e in
       let found = laws.field.spelled bytes at p.value after ib p.is_read in
       let same : case_of n f p.value ≡ case x = sym (is p.value) ∙ ap case p.made in
-      let there : Stands n bytes at (case_of n f p.value) after = record { number = refl; stands = found.0; place = found.1; fits = found.2 } in
+      let there : Stands n bytes at (case_of n f p.value) after =
+      record { number = refl; stands = found.0; place = found.1; fits = found.2 } in
       subst (λ (c : Case). Stands n bytes at c after) same there;
 }
 
@@ -71,20 +79,25 @@ IsAgain-alone {X} x small = record {
   small = small;
 }
 
-pub IsAgain-seen : {X P : Type 0} {n low high : ℕ} {f : Format P} (make : P → X) (p : P) → HasLaws f low high → high ≤ 93 → n < 2 ^ 8
+pub IsAgain-seen : {X P : Type 0} {n low high : ℕ} {f : Format P} (make : P → X) (p : P) → HasLaws f low high
+    → high ≤ 93 → n < 2 ^ 8
     → IsAgain (case_of n f p) (make p) (seen_at make f.read)
 unfolding seen_at
 IsAgain-seen {X} {P} {f = f} make p laws le small = record {
-  again = λ bytes at fits stands. seen_again make f.read bytes at p (at + length (f.spelling p)) (laws.field.again bytes at p fits stands);
-  cut = λ bytes at k fits lt e. ap (λ (r : Result (P × ℕ) FieldFault). r >>= λ x. Ok (make x.0, x.1)) (laws.field.cut bytes at k p fits lt e);
+  again = λ bytes at fits stands. seen_again make f.read bytes at p (at + length (f.spelling p))
+      (laws.field.again bytes at p fits stands);
+  cut = λ bytes at k fits lt e. ap (λ (r : Result (P × ℕ) FieldFault). r >>= λ x. Ok (make x.0, x.1))
+      (laws.field.cut bytes at k p fits lt e);
   most = λ fits. omega (arith, laws.most p fits);
   small = small;
 }
 
-pub IsFormat-cases : {X : Type 0} {case : X → Case} {readers : List (Reads X)} → AreCases case readers → IsFormat (cases case readers)
+pub IsFormat-cases : {X : Type 0} {case : X → Case} {readers : List (Reads X)} → AreCases case readers
+    → IsFormat (cases case readers)
 IsFormat-cases {X} {case} {readers} are =
     let text : X → List ℕ = λ x. field_number w8 (case x).number ++ (case x).fields in
-    let behind : ℕ → List ℕ → ℕ × ℕ → Result (X × ℕ) FieldFault = λ at bytes number. slice_index_or readers number.0 (none_at at) bytes number.1 in
+    let behind : ℕ → List ℕ → ℕ × ℕ → Result (X × ℕ) FieldFault = λ at bytes number.
+    slice_index_or readers number.0 (none_at at) bytes number.1 in
     let reads : IsRead (λ x. (case x).Fits) text (case_at readers) = record {
       again = λ bytes at x fits stands.
           let a = field_number w8 (case x).number in
@@ -102,9 +115,16 @@ IsFormat-cases {X} {case} {readers} are =
           let back = (are.found at n.0.0).spelled bytes n.0.1 x after ib n.2 in
           let a = field_number w8 (case x).number in
           let b = (case x).fields in
-          let first : TextStandsAt bytes at a = subst (λ (m : ℕ). TextStandsAt bytes at (field_number w8 m)) (sym back.number) front.0 in
-          let middle : n.0.1 ≡ at + length a = omega (arith, front.1, length-field_u8 n.0.0, length-field_u8 (case x).number) in
-          let second : TextStandsAt bytes (at + length a) b = subst (λ (m : ℕ). TextStandsAt bytes m b) middle back.stands in (
+          let first : TextStandsAt bytes at a = subst (λ (m : ℕ). TextStandsAt bytes at (field_number w8 m))
+          (sym back.number) front.0 in
+          let middle : n.0.1 ≡ at + length a = omega (
+            arith,
+            front.1,
+            length-field_u8 n.0.0,
+            length-field_u8 (case x).number,
+          ) in
+          let second : TextStandsAt bytes (at + length a) b =
+          subst (λ (m : ℕ). TextStandsAt bytes m b) middle back.stands in (
             StandsAt-append bytes at a b first second,
             omega (arith, back.place, middle, length-append a b),
             back.fits,
@@ -118,19 +138,33 @@ IsFormat-cases {X} {case} {readers} are =
           elim (cases_lt k (length a)) [
             | inl inside ↦
                 let front-is : drop at bytes ≡ take k a = e ∙ take-append-le k a b (omega arith) in
-                ap (λ (r : Result (ℕ × ℕ) FieldFault). r >>= behind at bytes) (IsField-u8.cut bytes at k (case x).number is.small inside front-is)
+                ap (λ (r : Result (ℕ × ℕ) FieldFault). r >>= behind at bytes)
+                (IsField-u8.cut bytes at k (case x).number is.small inside front-is)
             | inr past ↦
                 let whole : drop at bytes ≡ a ++ take (k - length a) b = e ∙ take-append_back a b k past in
-                let e1 = IsField-u8.again bytes at (case x).number is.small (record { rest = take (k - length a) b; parts = whole }) in
-                let rest-is : drop (at + length a) bytes ≡ take (k - length a) b = sym (drop-drop (length a) at bytes) ∙ ap (drop (length a)) whole ∙ drop_at a (take (k - length a) b) (length a) refl in
+                let e1 = IsField-u8.again bytes at (case x).number is.small
+                (record { rest = take (k - length a) b; parts = whole }) in
+                let rest-is : drop (at + length a) bytes ≡ take (k - length a) b =
+                sym (drop-drop (length a) at bytes) ∙ ap (drop (length a)) whole ∙ drop_at a (take (k - length a) b)
+                (length a) refl in
                 ap (λ (r : Result (ℕ × ℕ) FieldFault). r >>= behind at bytes) e1
                 ∙ is.cut bytes (at + length a) (k - length a) fits (omega (arith, length-append a b)) rest-is
           ];
     }
 
-pub laws-cases : {X : Type 0} {case : X → Case} {readers : List (Reads X)} → AreCases case readers → HasLaws (cases case readers) 1 94
+pub laws-cases : {X : Type 0} {case : X → Case} {readers : List (Reads X)} → AreCases case readers
+    → HasLaws (cases case readers) 1 94
 laws-cases {case = case} are = record {
   field = IsFormat-cases are;
-  least = λ x fits. omega (arith, length-append (field_number w8 (case x).number) (case x).fields, length-field_u8 (case x).number);
-  most = λ x fits. omega (arith, length-append (field_number w8 (case x).number) (case x).fields, length-field_u8 (case x).number, (are.each 0 x).most fits);
+  least = λ x fits. omega (
+    arith,
+    length-append (field_number w8 (case x).number) (case x).fields,
+    length-field_u8 (case x).number,
+  );
+  most = λ x fits. omega (
+    arith,
+    length-append (field_number w8 (case x).number) (case x).fields,
+    length-field_u8 (case x).number,
+    (are.each 0 x).most fits,
+  );
 }

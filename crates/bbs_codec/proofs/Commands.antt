@@ -28,7 +28,8 @@ behind_kind version kind = cond (is_kind version kind.0) (Ok kind) (Err (BadKind
 
 -- what stands behind a command's moment
 abbrev behind_now : List ℕ → ℕ → ℕ × ℕ → Result (Command × ℕ) CodecFault
-behind_now bytes kind now = as_part (op_at kind bytes now.1) >>= λ op. Ok (record { now = record { 0 = now.0 }; op = op.0 }, op.1)
+behind_now bytes kind now = as_part (op_at kind bytes now.1) >>= λ op.
+    Ok (record { now = record { 0 = now.0 }; op = op.0 }, op.1)
 
 -- what stands behind the test of the kind
 abbrev behind_test : List ℕ → Result (ℕ × ℕ) CodecFault → Result (Command × ℕ) CodecFault
@@ -55,14 +56,18 @@ front_again version bytes c fits few stands =
     let rest = StandsAt-back bytes 0 first (second ++ third) stands in
     let small : kind < 2 ^ 8 = omega (arith, op.few) in
     let e1 = IsField-u8.again bytes 0 kind small (StandsAt-front bytes 0 first (second ++ third) stands) in
-    let e2 = IsField-u32.again bytes (0 + length first) c.now.0 fits.now (StandsAt-front bytes (0 + length first) second third rest) in
-    let e3 = op.again bytes (0 + length first + length second) fits.op (StandsAt-back bytes (0 + length first) second third rest) in
-    let place : 0 + length first + length second + length third ≡ length (first ++ (second ++ third)) = omega (arith, length-append first (second ++ third), length-append second third) in
+    let e2 = IsField-u32.again bytes (0 + length first) c.now.0 fits.now
+    (StandsAt-front bytes (0 + length first) second third rest) in
+    let e3 = op.again bytes (0 + length first + length second) fits.op
+    (StandsAt-back bytes (0 + length first) second third rest) in
+    let place : 0 + length first + length second + length third ≡ length (first ++ (second ++ third)) =
+    omega (arith, length-append first (second ++ third), length-append second third) in
     let read : ℕ × ℕ = (kind, 0 + length first) in
     ap (λ (r : Result (ℕ × ℕ) FieldFault). behind_test bytes (as_part r >>= behind_kind version)) e1
     ∙ ap (λ (b : Bool). behind_test bytes (cond b (Ok read) (Err (BadKind 0)))) (is_known version kind op.known few)
     ∙ ap (λ (r : Result (ℕ × ℕ) FieldFault). as_part r >>= behind_now bytes kind) e2
-    ∙ ap (λ (r : Result (Op × ℕ) FieldFault). as_part r >>= λ op. Ok (record { now = record { 0 = c.now.0 }; op = op.0 }, op.1)) e3
+    ∙ ap (λ (r : Result (Op × ℕ) FieldFault). as_part r >>= λ op.
+    Ok (record { now = record { 0 = c.now.0 }; op = op.0 }, op.1)) e3
     ∙ ap (λ (n : ℕ). Ok (c, n)) place
 
 ended_there : (bytes : List ℕ) (c : Command) (at : ℕ) → at ≡ length bytes → ended bytes (c, at) ≡ Ok c
@@ -121,7 +126,8 @@ kind_spelled version bytes k ib e =
     at_most n e = grind (arith, nat_tests, e)
 
 -- a kind, a moment and an operation, one behind the other, are a command
-put_together : (version : ℕ) (bytes : List ℕ) (k n : ℕ × ℕ) (op : Op) (after : ℕ) → IsFirst version bytes k → TextStandsAt bytes k.1 (field_number w32 n.0)
+put_together : (version : ℕ) (bytes : List ℕ) (k n : ℕ × ℕ) (op : Op) (after : ℕ) → IsFirst version bytes k
+    → TextStandsAt bytes k.1 (field_number w32 n.0)
     → n.1 ≡ k.1 + length (field_number w32 n.0) → n.0 < 2 ^ 32 → Stands k.0 bytes n.1 op after
     → Fronts version bytes (record { now = record { 0 = n.0 }; op = op }) after
 unfolding spelled
@@ -129,13 +135,18 @@ put_together version bytes k n op after kind stands place small is =
     let first : List ℕ = field_number w8 (said op).kind in
     let second : List ℕ = field_number w32 n.0 in
     let third : List ℕ = (said op).fields in
-    let front : TextStandsAt bytes 0 first = subst (λ (m : ℕ). TextStandsAt bytes 0 (field_number w8 m)) (sym is.kind) kind.stands in
-    let start : k.1 ≡ 0 + length first = omega (arith, kind.place, length-field_u8 k.0, length-field_u8 (said op).kind) in
-    let middle : TextStandsAt bytes (0 + length first) second = subst (λ (m : ℕ). TextStandsAt bytes m second) start stands in
+    let front : TextStandsAt bytes 0 first = subst (λ (m : ℕ). TextStandsAt bytes 0 (field_number w8 m))
+    (sym is.kind) kind.stands in
+    let start : k.1 ≡ 0 + length first = omega (arith, kind.place, length-field_u8 k.0, length-field_u8 (said op).kind)
+    in
+    let middle : TextStandsAt bytes (0 + length first) second =
+    subst (λ (m : ℕ). TextStandsAt bytes m second) start stands in
     let next : n.1 ≡ 0 + length first + length second = omega (arith, place, start) in
-    let back : TextStandsAt bytes (0 + length first + length second) third = subst (λ (m : ℕ). TextStandsAt bytes m third) next is.stands in
+    let back : TextStandsAt bytes (0 + length first + length second) third =
+    subst (λ (m : ℕ). TextStandsAt bytes m third) next is.stands in
     record {
-      stands = StandsAt-append bytes 0 first (second ++ third) front (StandsAt-append bytes (0 + length first) second third middle back);
+      stands = StandsAt-append bytes 0 first (second ++ third) front
+          (StandsAt-append bytes (0 + length first) second third middle back);
       place = omega (arith, is.place, next, length-append first (second ++ third), length-append second third);
       fits = record { now = small; op = is.fits };
       few = subst (λ (m : ℕ). m ≤ most_kind version) (sym is.kind) kind.few;
@@ -149,20 +160,26 @@ pub front_spelled : (version : ℕ) (bytes : List ℕ) (c : Command) (after : �
     → command_at version bytes ≡ Ok (c, after) → Fronts version bytes c after
 unfolding command_at
 front_spelled version bytes c after ib e =
-    let k = bind_ok (kind_at version bytes) (λ kind. as_part (number_at w32 bytes kind.1) >>= behind_now bytes kind.0) (c, after) e in
+    let k = bind_ok (kind_at version bytes) (λ kind. as_part (number_at w32 bytes kind.1) >>= behind_now bytes kind.0)
+    (c, after) e in
     let n = bind_ok (as_part (number_at w32 bytes k.0.1)) (behind_now bytes k.0.0) (c, after) k.2 in
-    let o = bind_ok (as_part (op_at k.0.0 bytes n.0.1)) (λ op. Ok (record { now = record { 0 = n.0.0 }; op = op.0 }, op.1)) (c, after) n.2 in
+    let o = bind_ok (as_part (op_at k.0.0 bytes n.0.1)) (λ op.
+    Ok (record { now = record { 0 = n.0.0 }; op = op.0 }, op.1)) (c, after) n.2 in
     let kind = kind_spelled version bytes k.0 ib k.1 in
     let now = IsField-u32.spelled bytes k.0.1 n.0.0 n.0.1 ib (part_ok (number_at w32 bytes k.0.1) n.0 n.1) in
-    let op = (op_spelled k.0.0 kind.known).spelled bytes n.0.1 o.0.0 o.0.1 ib (part_ok (op_at k.0.0 bytes n.0.1) o.0 o.1) in
+    let op = (op_spelled k.0.0 kind.known).spelled bytes n.0.1 o.0.0 o.0.1 ib
+    (part_ok (op_at k.0.0 bytes n.0.1) o.0 o.1) in
     let pair : ◌≡◌ {A = Command × ℕ} (record { now = record { 0 = n.0.0 }; op = o.0.0 }, o.0.1) (c, after) =
     same_ok {X = Command × ℕ} (record { now = record { 0 = n.0.0 }; op = o.0.0 }, o.0.1) (c, after) o.2 in
-    subst (λ (p : Command × ℕ). Fronts version bytes p.0 p.1) pair (put_together version bytes k.0 n.0 o.0.0 o.0.1 kind now.0 now.1 now.2 op)
+    subst (λ (p : Command × ℕ). Fronts version bytes p.0 p.1) pair
+    (put_together version bytes k.0 n.0 o.0.0 o.0.1 kind now.0 now.1 now.2 op)
 
-ended_found : (bytes : List ℕ) (read : Command × ℕ) (c : Command) → ended bytes read ≡ Ok c → (length bytes ≤ read.1) × (read.0 ≡ c)
+ended_found : (bytes : List ℕ) (read : Command × ℕ) (c : Command) → ended bytes read ≡ Ok c
+    → (length bytes ≤ read.1) × (read.0 ≡ c)
 ended_found bytes read c e = by_test (nat_lt read.1 (length bytes)) refl e
   where
-    by_test : (b : Bool) → nat_lt read.1 (length bytes) ≡ b → cond b (Err (Trailing read.1)) (Ok read.0) ≡ Ok c → (length bytes ≤ read.1) × (read.0 ≡ c)
+    by_test : (b : Bool) → nat_lt read.1 (length bytes) ≡ b → cond b (Err (Trailing read.1)) (Ok read.0) ≡ Ok c
+        → (length bytes ≤ read.1) × (read.0 ≡ c)
     by_test true h e = absurd cc
     by_test false h e = (grind (arith, nat_tests, h), cc)
 
@@ -175,12 +192,14 @@ command_spelled version bytes c ib e =
     let t = ended_found bytes r.0 c r.2 in
     let f = front_spelled version bytes r.0.0 r.0.1 ib r.1 in
     let text : List ℕ = spelled r.0.0 in
-    let none : f.stands.rest ≡ [] = nil_from_length f.stands.rest (omega (arith, t.0, f.place, ap length f.stands.parts, length-append text f.stands.rest)) in
+    let none : f.stands.rest ≡ [] = nil_from_length f.stands.rest
+    (omega (arith, t.0, f.place, ap length f.stands.parts, length-append text f.stands.rest)) in
     let whole : bytes ≡ text = f.stands.parts ∙ ap (λ (l : List ℕ). text ++ l) none ∙ append-nil text in
     subst (λ (d : Command). (bytes ≡ spelled d) × FitsCommand d × IsReadIn version d) t.1 (whole, f.fits, f.few)
 
 -- no spelling begins another
-pub command_ends : (a b : Command) (x y : List ℕ) → FitsCommand a → FitsCommand b → spelled a ++ x ≡ spelled b ++ y → (a ≡ b) × (x ≡ y)
+pub command_ends : (a b : Command) (x y : List ℕ) → FitsCommand a → FitsCommand b → spelled a ++ x ≡ spelled b ++ y
+    → (a ≡ b) × (x ≡ y)
 command_ends a b x y fits_a fits_b e =
     let bytes : List ℕ = spelled a ++ x in
     let read_a = front_again 2 bytes a fits_a (command_known a) (record { rest = x; parts = refl }) in
@@ -200,11 +219,25 @@ unfolding spelled
 command_least c fits =
     let first : List ℕ = field_number w8 (said c.op).kind in
     let second : List ℕ = field_number w32 c.now.0 in
-    omega (arith, length-append first (second ++ (said c.op).fields), length-append second (said c.op).fields, length-field_u8 (said c.op).kind, length-field_u32 c.now.0, (IsOp-each c.op).least fits.op)
+    omega (
+      arith,
+      length-append first (second ++ (said c.op).fields),
+      length-append second (said c.op).fields,
+      length-field_u8 (said c.op).kind,
+      length-field_u32 c.now.0,
+      (IsOp-each c.op).least fits.op,
+    )
 
 pub command_most : (c : Command) → FitsCommand c → length (spelled c) ≤ 343
 unfolding spelled
 command_most c fits =
     let first : List ℕ = field_number w8 (said c.op).kind in
     let second : List ℕ = field_number w32 c.now.0 in
-    omega (arith, length-append first (second ++ (said c.op).fields), length-append second (said c.op).fields, length-field_u8 (said c.op).kind, length-field_u32 c.now.0, (IsOp-each c.op).most fits.op)
+    omega (
+      arith,
+      length-append first (second ++ (said c.op).fields),
+      length-append second (said c.op).fields,
+      length-field_u8 (said c.op).kind,
+      length-field_u32 c.now.0,
+      (IsOp-each c.op).most fits.op,
+    )

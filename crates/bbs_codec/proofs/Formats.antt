@@ -7,16 +7,36 @@ use Rattle.bbs_codec.specs.Formats.{key, amounts, desired, update_fields, work_f
 use Rattle.bbs_codec.proofs.Records.{HasLaws, laws-seen, laws-both, laws-three}
 
 laws-number16 : HasLaws number16 2 2
-laws-number16 = record { field = IsField-u16; least = λ n fits. omega (arith, length-field_u16 n); most = λ n fits. omega (arith, length-field_u16 n) }
+laws-number16 = record {
+  field = IsField-u16;
+  least = λ n fits. omega (arith, length-field_u16 n);
+  most = λ n fits.
+      omega (arith, length-field_u16 n);
+}
 
 pub laws-number32 : HasLaws number32 4 4
-laws-number32 = record { field = IsField-u32; least = λ n fits. omega (arith, length-field_u32 n); most = λ n fits. omega (arith, length-field_u32 n) }
+laws-number32 = record {
+  field = IsField-u32;
+  least = λ n fits. omega (arith, length-field_u32 n);
+  most = λ n fits.
+      omega (arith, length-field_u32 n);
+}
 
 pub laws-number64 : HasLaws number64 8 8
-laws-number64 = record { field = IsField-u64; least = λ n fits. omega (arith, length-field_u64 n); most = λ n fits. omega (arith, length-field_u64 n) }
+laws-number64 = record {
+  field = IsField-u64;
+  least = λ n fits. omega (arith, length-field_u64 n);
+  most = λ n fits.
+      omega (arith, length-field_u64 n);
+}
 
 pub laws-truth : HasLaws truth 1 1
-laws-truth = record { field = IsField-truth; least = λ b fits. omega (arith, length-field_truth b); most = λ b fits. omega (arith, length-field_truth b) }
+laws-truth = record {
+  field = IsField-truth;
+  least = λ b fits. omega (arith, length-field_truth b);
+  most = λ b fits.
+      omega (arith, length-field_truth b);
+}
 
 pub laws-name : HasLaws name 2 81
 laws-name = record {
@@ -37,7 +57,12 @@ pub laws-optional_name : HasLaws optional_name 1 81
 laws-optional_name = record { field = IsField-optional_name; least = least_name; most = most_name }
 
 pub laws-instance : HasLaws instance 12 12
-laws-instance = record { field = IsField-instance; least = λ i fits. omega (arith, length-field_instance i); most = λ i fits. omega (arith, length-field_instance i) }
+laws-instance = record {
+  field = IsField-instance;
+  least = λ i fits. omega (arith, length-field_instance i);
+  most =
+      λ i fits. omega (arith, length-field_instance i);
+}
 
 least_instance : (o : Option Instance) → optional_instance.Fits o → 1 ≤ length (optional_instance.spelling o)
 least_instance None fits = omega (arith, length-no_instance)
@@ -54,7 +79,8 @@ pub laws-key : HasLaws key 6 85
 laws-key = laws-seen (record { made = λ y. refl; parted = λ x. refl }) (laws-both laws-name laws-number32)
 
 pub laws-amounts : HasLaws amounts 12 12
-laws-amounts = laws-seen (record { made = λ y. refl; parted = λ x. refl }) (laws-three laws-number32 laws-number32 laws-number32)
+laws-amounts = laws-seen (record { made = λ y. refl; parted = λ x. refl })
+    (laws-three laws-number32 laws-number32 laws-number32)
 
 pub laws-desired : HasLaws desired 20 338
 laws-desired =

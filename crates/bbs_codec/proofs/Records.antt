@@ -7,12 +7,14 @@ use Rattle.wire_fields.proofs.Public.{IsRead, IsRead-written, ok_is, bind_ok, Is
 use Rattle.bbs_codec.specs.Format.{Format, IsFormat, seen_at, both, three, seen, seen_where, nothing, old_or, format_in}
 
 -- a value that was read, where the other one was read
-pub record IsSeen {X Y : Type 0} (make : X → Y) (read : List ℕ → ℕ → Result (X × ℕ) FieldFault) (bytes : List ℕ) (at : ℕ) (y : Y) (after : ℕ) : Type 0 where
+pub record IsSeen {X Y : Type 0} (make : X → Y) (read : List ℕ → ℕ → Result (X × ℕ) FieldFault) (bytes : List ℕ)
+    (at : ℕ) (y : Y) (after : ℕ) : Type 0 where
   pub value : X
   pub is_read : read bytes at ≡ Ok (value, after)
   pub made : make value ≡ y
 
-pub seen_found : {X Y : Type 0} (make : X → Y) (read : List ℕ → ℕ → Result (X × ℕ) FieldFault) (bytes : List ℕ) (at : ℕ) (y : Y) (after : ℕ)
+pub seen_found : {X Y : Type 0} (make : X → Y) (read : List ℕ → ℕ → Result (X × ℕ) FieldFault) (bytes : List ℕ) (at : ℕ)
+    (y : Y) (after : ℕ)
     → seen_at make read bytes at ≡ Ok (y, after) → IsSeen make read bytes at y after
 unfolding seen_at
 seen_found {X} {Y} make read bytes at y after e =
@@ -24,10 +26,12 @@ seen_found {X} {Y} make read bytes at y after e =
       made = ap (λ (p : Y × ℕ). p.0) pair;
     }
 
-pub seen_again : {X Y : Type 0} (make : X → Y) (read : List ℕ → ℕ → Result (X × ℕ) FieldFault) (bytes : List ℕ) (at : ℕ) (x : X) (after : ℕ)
+pub seen_again : {X Y : Type 0} (make : X → Y) (read : List ℕ → ℕ → Result (X × ℕ) FieldFault) (bytes : List ℕ) (at : ℕ)
+    (x : X) (after : ℕ)
     → read bytes at ≡ Ok (x, after) → seen_at make read bytes at ≡ Ok (make x, after)
 unfolding seen_at
-seen_again {X} {Y} make read bytes at x after e = ap (λ (r : Result (X × ℕ) FieldFault). r >>= λ x. Ok (make x.0, x.1)) e
+seen_again {X} {Y} make read bytes at x after e = ap (λ (r : Result (X × ℕ) FieldFault). r >>= λ x. Ok (make x.0, x.1))
+    e
 
 -- the laws of a field hold of a format, and each value takes at least and at most so many bytes
 pub record HasLaws {X : Type 0} (f : Format X) (low high : ℕ) : Type 0 where
@@ -40,12 +44,14 @@ pub record IsSame {X Y : Type 0} (make : X → Y) (parts : Y → X) : Type 0 whe
   pub made : (y : Y) → make (parts y) ≡ y
   pub parted : (x : X) → parts (make x) ≡ x
 
-IsFormat-seen : {X Y : Type 0} {f : Format X} {make : X → Y} {parts : Y → X} → IsSame make parts → IsFormat f → IsFormat (seen make parts f)
+IsFormat-seen : {X Y : Type 0} {f : Format X} {make : X → Y} {parts : Y → X} → IsSame make parts → IsFormat f
+    → IsFormat (seen make parts f)
 unfolding seen_at
 IsFormat-seen {X} {Y} {f} {make} {parts} same is =
     let reads : IsRead (λ y. f.Fits (parts y)) (λ y. f.spelling (parts y)) (seen_at make f.read) = record {
       again = λ bytes at y fits stands.
-          seen_again make f.read bytes at (parts y) (at + length (f.spelling (parts y))) (is.again bytes at (parts y) fits stands)
+          seen_again make f.read bytes at (parts y) (at + length (f.spelling (parts y)))
+          (is.again bytes at (parts y) fits stands)
           ∙ ap (λ (v : Y). Ok (v, at + length (f.spelling (parts y)))) (same.made y);
     } in
     record {
@@ -59,10 +65,12 @@ IsFormat-seen {X} {Y} {f} {make} {parts} same is =
           );
       again = reads.again;
       back = IsRead-written reads;
-      cut = λ bytes at k y fits lt e. ap (λ (r : Result (X × ℕ) FieldFault). r >>= λ x. Ok (make x.0, x.1)) (is.cut bytes at k (parts y) fits lt e);
+      cut = λ bytes at k y fits lt e. ap (λ (r : Result (X × ℕ) FieldFault). r >>= λ x. Ok (make x.0, x.1))
+          (is.cut bytes at k (parts y) fits lt e);
     }
 
-pub laws-seen : {X Y : Type 0} {f : Format X} {low high : ℕ} {make : X → Y} {parts : Y → X} → IsSame make parts → HasLaws f low high
+pub laws-seen : {X Y : Type 0} {f : Format X} {low high : ℕ} {make : X → Y} {parts : Y → X} → IsSame make parts
+    → HasLaws f low high
     → HasLaws (seen make parts f) low high
 laws-seen {f = f} {parts = parts} same laws = record {
   field = IsFormat-seen {f = f} same laws.field;
@@ -82,7 +90,8 @@ unfolding seen_at
 IsFormat-seen_where {X} {Y} {P} {f} {make} {parts} same is =
     let reads : IsRead (λ y. P y × f.Fits (parts y)) (λ y. f.spelling (parts y)) (seen_at make f.read) = record {
       again = λ bytes at y fits stands.
-          seen_again make f.read bytes at (parts y) (at + length (f.spelling (parts y))) (is.again bytes at (parts y) fits.1 stands)
+          seen_again make f.read bytes at (parts y) (at + length (f.spelling (parts y)))
+          (is.again bytes at (parts y) fits.1 stands)
           ∙ ap (λ (v : Y). Ok (v, at + length (f.spelling (parts y)))) (same.made y fits.0);
     } in
     record {
@@ -96,7 +105,8 @@ IsFormat-seen_where {X} {Y} {P} {f} {make} {parts} same is =
           );
       again = reads.again;
       back = IsRead-written reads;
-      cut = λ bytes at k y fits lt e. ap (λ (r : Result (X × ℕ) FieldFault). r >>= λ x. Ok (make x.0, x.1)) (is.cut bytes at k (parts y) fits.1 lt e);
+      cut = λ bytes at k y fits lt e. ap (λ (r : Result (X × ℕ) FieldFault). r >>= λ x. Ok (make x.0, x.1))
+          (is.cut bytes at k (parts y) fits.1 lt e);
     }
 
 pub laws-seen_where : {X Y : Type 0} {P : Y → Type 0} {f : Format X} {low high : ℕ} {make : X → Y} {parts : Y → X}
@@ -124,15 +134,28 @@ pub IsFormat-in : {X : Type 0} {old latest : Format X} → IsFormat old → IsFo
 IsFormat-in {old = old} {latest} was is version =
     elim (nat_eq version 1) as (λ b. IsFormat (old_or b old latest)) [ true ↦ was | false ↦ is ]
 
-pub laws-both : {X Y : Type 0} {f : Format X} {g : Format Y} {a b c d : ℕ} → HasLaws f a b → HasLaws g c d → HasLaws (both f g) (a + c) (b + d)
+pub laws-both : {X Y : Type 0} {f : Format X} {g : Format Y} {a b c d : ℕ} → HasLaws f a b → HasLaws g c d
+    → HasLaws (both f g) (a + c) (b + d)
 laws-both {X} {Y} {f} {g} first second = record {
-  field = IsField-pair {Z = X × Y} (λ x y. (x, y)) (λ p. p.0) (λ p. p.1) (record { made = λ z. refl; one_of = λ x y. refl; other_of = λ x y. refl }) first.field second.field;
-  least = λ p fits. omega (arith, length-append (f.spelling p.0) (g.spelling p.1), first.least p.0 fits.0, second.least p.1 fits.1);
-  most = λ p fits. omega (arith, length-append (f.spelling p.0) (g.spelling p.1), first.most p.0 fits.0, second.most p.1 fits.1);
+  field = IsField-pair {Z = X × Y} (λ x y. (x, y)) (λ p. p.0) (λ p. p.1)
+      (record { made = λ z. refl; one_of = λ x y. refl; other_of = λ x y. refl }) first.field second.field;
+  least = λ p fits. omega (
+    arith,
+    length-append (f.spelling p.0) (g.spelling p.1),
+    first.least p.0 fits.0,
+    second.least p.1 fits.1,
+  );
+  most = λ p fits. omega (
+    arith,
+    length-append (f.spelling p.0) (g.spelling p.1),
+    first.most p.0 fits.0,
+    second.most p.1 fits.1,
+  );
 }
 
 pub laws-three : {X Y Z : Type 0} {f : Format X} {g : Format Y} {h : Format Z} {a b c d e k : ℕ}
     → HasLaws f a b → HasLaws g c d → HasLaws h e k → HasLaws (three f g h) (a + (c + e)) (b + (d + k))
 laws-three first second third =
-    laws-seen {make = λ p. (p.0, p.1.0, p.1.1)} {parts = λ t. (t.0, (t.1, t.2))} (record { made = λ y. refl; parted = λ x. refl })
+    laws-seen {make = λ p. (p.0, p.1.0, p.1.1)} {parts = λ t. (t.0, (t.1, t.2))}
+    (record { made = λ y. refl; parted = λ x. refl })
     (laws-both first (laws-both second third))

@@ -66,7 +66,8 @@ lrp_found place (suc (suc zero)) = IsCase-seen _ laws-holder (λ p. refl)
 lrp_found place (suc (suc (suc zero))) = IsCase-alone lrp.Crashed refl
 lrp_found place (suc (suc (suc (suc n)))) = IsCase-none lrp_case (suc (suc (suc (suc n)))) place
 
-lrp_each : (place : ℕ) (x : LrpState) → IsAgain (lrp_case x) x (slice_index_or lrp_readers (lrp_case x).number (none_at place))
+lrp_each : (place : ℕ) (x : LrpState) → IsAgain (lrp_case x) x
+    (slice_index_or lrp_readers (lrp_case x).number (none_at place))
 lrp_each place lrp.Unclaimed = IsAgain-alone lrp.Unclaimed (omega arith)
 lrp_each place (lrp.Claimed container cell) = IsAgain-seen _ (container, cell) laws-holder (omega arith) (omega arith)
 lrp_each place (lrp.Running container cell) = IsAgain-seen _ (container, cell) laws-holder (omega arith) (omega arith)
@@ -82,7 +83,8 @@ task_found place (suc (suc zero)) = IsCase-seen _ laws-truth (λ p. refl)
 task_found place (suc (suc (suc zero))) = IsCase-seen _ laws-truth (λ p. refl)
 task_found place (suc (suc (suc (suc n)))) = IsCase-none task_case (suc (suc (suc (suc n)))) place
 
-task_each : (place : ℕ) (x : TaskState) → IsAgain (task_case x) x (slice_index_or task_readers (task_case x).number (none_at place))
+task_each : (place : ℕ) (x : TaskState) → IsAgain (task_case x) x
+    (slice_index_or task_readers (task_case x).number (none_at place))
 task_each place task.Pending = IsAgain-alone task.Pending (omega arith)
 task_each place (task.Running container cell) = IsAgain-seen _ (container, cell) laws-holder (omega arith) (omega arith)
 task_each place (task.Completed failed) = IsAgain-seen _ failed laws-truth (omega arith) (omega arith)
@@ -113,12 +115,14 @@ IsFormat-actual_in version = IsFormat-in laws-old_actual.field laws-actual.field
 pub laws-task_row : HasLaws task_row 24 276
 laws-task_row =
     laws-seen (record { made = λ y. refl; parted = λ x. refl })
-    (laws-three (laws-three laws-name laws-number64 laws-task_state) (laws-three laws-number32 laws-number32 laws-number32) laws-optional_name)
+    (laws-three (laws-three laws-name laws-number64 laws-task_state)
+    (laws-three laws-number32 laws-number32 laws-number32) laws-optional_name)
 
 pub laws-cell_row : HasLaws cell_row 34 272
 laws-cell_row =
     laws-seen (record { made = λ y. refl; parted = λ x. refl })
-    (laws-three (laws-three laws-name laws-name laws-optional_name) laws-amounts (laws-three laws-number64 laws-number64 laws-truth))
+    (laws-three (laws-three laws-name laws-name laws-optional_name) laws-amounts
+    (laws-three laws-number64 laws-number64 laws-truth))
 
 end_found : (place n : ℕ) → IsCase end_case n (slice_index_or end_readers n (none_at place))
 end_found place zero = IsCase-alone None refl

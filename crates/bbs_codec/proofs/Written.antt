@@ -10,4 +10,5 @@ Puts-front {old} {text} {new} {after} puts =
 pub Puts-rest : {old text new : List ℕ} {after : ℕ} → PutsText old 0 text new after → drop after new ≡ drop after old
 unfolding written
 Puts-rest {old} {text} {new} {after} puts =
-    ap (drop after) puts.bytes ∙ drop_at text (drop (0 + length text) old) after (omega (arith, puts.place)) ∙ ap (λ (n : ℕ). drop n old) (sym puts.place)
+    ap (drop after) puts.bytes ∙ drop_at text (drop (0 + length text) old) after (omega (arith, puts.place)) ∙ ap
+    (λ (n : ℕ). drop n old) (sym puts.place)

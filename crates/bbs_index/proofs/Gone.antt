@@ -21,13 +21,16 @@ use Rattle.bbs_model.specs.declared.verdict.BoardRefusal.TheVariants.{BoardFull}
 use Rattle.bbs_model.specs.declared.verdict.Verdict.TheVariants as verdict
 use Rattle.bbs_index.specs.Redone.{IsRedone, row_moved}
 
-pub gone_redone : (rows new : Rows) (key : Key) (move : LrpMove) (now : Moment) (old : Actual) → find_actual rows key Ordinary ≡ Some old → lrp_move old move now ≡ Gone
-    → rows.next < most_transitions → new ≡ advanced (without_actual rows old.key old.presence) → IsRedone (row_moved rows key move now) true rows new
+pub gone_redone : (rows new : Rows) (key : Key) (move : LrpMove) (now : Moment) (old : Actual)
+    → find_actual rows key Ordinary ≡ Some old → lrp_move old move now ≡ Gone
+    → rows.next < most_transitions → new ≡ advanced (without_actual rows old.key old.presence)
+    → IsRedone (row_moved rows key move now) true rows new
 gone_redone rows new key move now old found gone below is =
     let more : nat_le most_transitions rows.next ≡ false = grind (arith, nat_tests, below) in
     let to : row_moved rows key move now ≡ drop_row (row.Actual old) =
     ap (λ (o : Option Actual). if_known o (λ r. moved_to r (lrp_move r move now))) found ∙ ap (moved_to old) gone in
     subst (λ (a : Attempt). IsRedone a true rows new) (sym to) (record {
       told = sym (ap (λ (b : Bool). if_legal (if b then verdict.Refused BoardFull else verdict.Ok) true false) more);
-      made = is ∙ sym (ap (λ (b : Bool). if_legal (if b then verdict.Refused BoardFull else verdict.Ok) (advanced (without_actual rows old.key old.presence)) rows) more);
+      made = is ∙ sym (ap (λ (b : Bool). if_legal (if b then verdict.Refused BoardFull else verdict.Ok)
+          (advanced (without_actual rows old.key old.presence)) rows) more);
     })

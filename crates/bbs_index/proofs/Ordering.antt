@@ -14,13 +14,16 @@ range_more a zero k is =
     ap (λ m. m ∷ []) same
 range_more a (suc n) k is =
     let next : suc (n + 1) ≡ suc n + 1 = omega arith in
-    subst (λ m. range_with_len a m ≡ range_with_len a (suc n) ++ k ∷ []) next (ap (λ ms. a ∷ ms) (range_more (a + 1) n k (omega (arith, is))))
+    subst (λ m. range_with_len a m ≡ range_with_len a (suc n) ++ k ∷ []) next
+    (ap (λ ms. a ∷ ms) (range_more (a + 1) n k (omega (arith, is))))
 
 -- the next number is put behind them
-pub AreBelow-more : (n : ℕ) (numbers more : List ℕ) → AreBelow n numbers → more ≡ numbers ++ n ∷ [] → AreBelow (n + 1) more
+pub AreBelow-more : (n : ℕ) (numbers more : List ℕ) → AreBelow n numbers → more ≡ numbers ++ n ∷ []
+    → AreBelow (n + 1) more
 AreBelow-more n numbers more are is =
     subst (AreBelow (n + 1)) (sym is)
-    (subst (λ ms. IsPermutation ms (numbers ++ n ∷ [])) (sym (range_more 0 n n (omega arith))) (IsPermutation-append_left (n ∷ []) (range_with_len 0 n) numbers are))
+    (subst (λ ms. IsPermutation ms (numbers ++ n ∷ [])) (sym (range_more 0 n n (omega arith)))
+    (IsPermutation-append_left (n ∷ []) (range_with_len 0 n) numbers are))
 
 -- they are as many as the count
 pub AreBelow-length : (n : ℕ) (numbers : List ℕ) → AreBelow n numbers → length numbers ≡ n
@@ -34,8 +37,11 @@ fronts rows zero le = refl
 fronts rows (suc n) le =
     let next : n + 1 ≡ suc n = omega arith in
     subst (λ m. AreNumbered rows (range_with_len 0 m) (take m rows)) next
-    (AreNumbered-more rows (range_with_len 0 n) (range_with_len 0 (n + 1)) n (fronts rows n (omega (arith, le))) (omega (arith, le)) (range_more 0 n n (omega arith)))
+    (AreNumbered-more rows (range_with_len 0 n) (range_with_len 0 (n + 1)) n (fronts rows n (omega (arith, le)))
+    (omega (arith, le)) (range_more 0 n n (omega arith)))
 
 -- the numbers below the count of rows, as they rise, are those of the rows
-pub AreNumbered-range : {X : Type 0} (rows : List X) (n : ℕ) → n ≡ length rows → AreNumbered rows (range_with_len 0 n) rows
-AreNumbered-range rows n is = subst (λ xs. AreNumbered rows (range_with_len 0 n) xs) (take_all n rows (omega (arith, is))) (fronts rows n (omega (arith, is)))
+pub AreNumbered-range : {X : Type 0} (rows : List X) (n : ℕ) → n ≡ length rows
+    → AreNumbered rows (range_with_len 0 n) rows
+AreNumbered-range rows n is = subst (λ xs. AreNumbered rows (range_with_len 0 n) xs)
+    (take_all n rows (omega (arith, is))) (fronts rows n (omega (arith, is)))

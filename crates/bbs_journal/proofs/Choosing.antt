@@ -14,10 +14,15 @@ use Rattle.bbs_journal.specs.declared.header.Header.{Header}
 use Rattle.bbs_journal.specs.declared.load_fault.LoadFault.{LoadFault}
 use Rattle.bbs_journal.proofs.Opening.{headed_ok}
 
-pub active_is : (c : Image) (a b : Header) (r : Result Active LoadFault) → a ≡ header_of (front (c A)) → b ≡ header_of (front (c B)) → r ≡ active_of a b → active_of (header_of (front (c A))) (header_of (front (c B))) ≡ r
-active_is c a b r a_is b_is is = sym (is ∙ ap (λ (x : Header). active_of x b) a_is ∙ ap (λ (x : Header). active_of (header_of (front (c A))) x) b_is)
+pub active_is : (c : Image) (a b : Header) (r : Result Active LoadFault) → a ≡ header_of (front (c A))
+    → b ≡ header_of (front (c B)) → r ≡ active_of a b → active_of (header_of (front (c A))) (header_of (front (c B)))
+    ≡ r
+active_is c a b r a_is b_is is = sym (is ∙ ap (λ (x : Header). active_of x b) a_is ∙ ap
+    (λ (x : Header). active_of (header_of (front (c A))) x) b_is)
 
-pub chosen_in : (c : Image) (chosen : Chosen) (area : Area) (beside : Header) → chosen.active.area ≡ area → active_of (header_of (front (c A))) (header_of (front (c B))) ≡ Ok chosen.active → take chosen.front.count chosen.front.room ≡ front (c area)
+pub chosen_in : (c : Image) (chosen : Chosen) (area : Area) (beside : Header) → chosen.active.area ≡ area
+    → active_of (header_of (front (c A))) (header_of (front (c B))) ≡ Ok chosen.active
+    → take chosen.front.count chosen.front.room ≡ front (c area)
     → chosen.gate ≡ gate_of beside → beside ≡ header_of (front (c (other area))) → IsChosen c chosen
 chosen_in c chosen area beside area_is active front_is gate_is beside_is = record {
   active = active;
@@ -26,18 +31,28 @@ chosen_in c chosen area beside area_is active front_is gate_is beside_is = recor
 }
 
 -- the length of the head, by what was read of the area
-pub size_is : (c : Image) (chosen : Chosen) (bytes : List ℕ) (len : ℕ) (r : Result ℕ LoadFault) → IsChosen c chosen → bytes ≡ take chosen.front.count chosen.front.room → len ≡ length (c chosen.active.area) → r ≡ size_of chosen.active bytes len
+pub size_is : (c : Image) (chosen : Chosen) (bytes : List ℕ) (len : ℕ) (r : Result ℕ LoadFault) → IsChosen c chosen
+    → bytes ≡ take chosen.front.count chosen.front.room → len ≡ length (c chosen.active.area)
+    → r ≡ size_of chosen.active bytes len
     → size_of chosen.active (front (c chosen.active.area)) (length (c chosen.active.area)) ≡ r
 size_is c chosen bytes len r is bytes_are len_is r_is =
-    sym (r_is ∙ ap (λ (l : List ℕ). size_of chosen.active l len) (bytes_are ∙ is.front_is) ∙ ap (λ (n : ℕ). size_of chosen.active (front (c chosen.active.area)) n) len_is)
+    sym (r_is ∙ ap (λ (l : List ℕ). size_of chosen.active l len) (bytes_are ∙ is.front_is) ∙ ap
+    (λ (n : ℕ). size_of chosen.active (front (c chosen.active.area)) n) len_is)
 
-pub found_is : (c : Image) (chosen : Chosen) (found : Found) (len size : ℕ) → IsChosen c chosen → IsSized c chosen.active len size → found.place.area ≡ chosen.active.area → found.place.version ≡ chosen.active.version → found.place.generation ≡ chosen.active.generation → found.place.gate ≡ chosen.gate
-    → found.head.items ≡ take size (drop 23 (c chosen.active.area)) → length found.head.items ≡ size → AreFrames (payloads_of found.payloads.items) found.broken found.place.end (23 + size) (drop (23 + size) (c chosen.active.area)) → IsFoundIn c found
+pub found_is : (c : Image) (chosen : Chosen) (found : Found) (len size : ℕ) → IsChosen c chosen
+    → IsSized c chosen.active len size → found.place.area ≡ chosen.active.area
+    → found.place.version ≡ chosen.active.version → found.place.generation ≡ chosen.active.generation
+    → found.place.gate ≡ chosen.gate
+    → found.head.items ≡ take size (drop 23 (c chosen.active.area)) → length found.head.items ≡ size
+    → AreFrames (payloads_of found.payloads.items) found.broken found.place.end (23 + size)
+    (drop (23 + size) (c chosen.active.area)) → IsFoundIn c found
 found_is c chosen found len size is sized area_is version_is generation_is gate_is head_is head_len frames = record {
   opening = record {
     head_is = headed_ok c chosen.active size is.active sized.size_is ∙ cc (area_is, version_is, generation_is, head_is);
-    frames = subst (λ (x : Area). AreFrames (payloads_of found.payloads.items) found.broken found.place.end (23 + length found.head.items) (drop (23 + length found.head.items) (c x))) (sym area_is)
-        (subst (λ (n : ℕ). AreFrames (payloads_of found.payloads.items) found.broken found.place.end (23 + n) (drop (23 + n) (c chosen.active.area))) (sym head_len) frames);
+    frames = subst (λ (x : Area). AreFrames (payloads_of found.payloads.items) found.broken found.place.end
+        (23 + length found.head.items) (drop (23 + length found.head.items) (c x))) (sym area_is)
+        (subst (λ (n : ℕ). AreFrames (payloads_of found.payloads.items) found.broken found.place.end (23 + n)
+        (drop (23 + n) (c chosen.active.area))) (sym head_len) frames);
   };
   gate = gate_is ∙ is.gate ∙ ap (λ (x : Area). gate_of (header_of (front (c (other x))))) (sym area_is);
 }

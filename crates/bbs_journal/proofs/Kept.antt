@@ -26,21 +26,38 @@ use Rattle.bbs_journal.proofs.Opening.{tested, other_gives, front_stands}
 use Rattle.bbs_journal.proofs.Recovered.{recovered, ready}
 use Rattle.bbs_journal.proofs.Version.{length-mark}
 
-pub length-heading : (version generation : ℕ) (head : List ℕ) → length (heading version generation head) ≡ 22 + length head
+pub length-heading : (version generation : ℕ) (head : List ℕ)
+    → length (heading version generation head) ≡ 22 + length head
 length-heading version generation head =
-    omega (arith, length-append (mark version) (field_number w64 generation ++ (field_number w32 (length head) ++ head)), length-append (field_number w64 generation) (field_number w32 (length head) ++ head), length-append (field_number w32 (length head)) head, length-field_number w64 generation, length-field_number w32 (length head), length-mark version)
+    omega (
+      arith,
+      length-append (mark version) (field_number w64 generation
+          ++ (field_number w32 (length head) ++ head)),
+      length-append (field_number w64 generation)
+          (field_number w32 (length head) ++ head),
+      length-append (field_number w32 (length head)) head,
+      length-field_number w64 generation,
+      length-field_number w32 (length head),
+      length-mark version,
+    )
 
 -- the other area stands beside it, whatever a stop leaves of it
-found_beside : (c : Image) (found : Found) (held : Held) → IsFoundIn c found → IsSettledArea held → held.reads ≡ c (other found.place.area) → Has (IsBeside [] found.place.gate found.place.generation) held
+found_beside : (c : Image) (found : Found) (held : Held) → IsFoundIn c found → IsSettledArea held
+    → held.reads ≡ c (other found.place.area) → Has (IsBeside [] found.place.gate found.place.generation) held
 found_beside c found held is settled reads =
     let t = tested c _ is.opening.head_is in
     let gives = other_gives c t.active t.chosen in
     let stands = front_stands t.active.generation (c (other t.active.area)) gives in
-    let here : IsBeside [] (gate_of (header_of (front (c (other found.place.area))))) found.place.generation (c (other found.place.area)) =
-    subst (λ (x : Area). IsBeside [] (gate_of (header_of (front (c (other x))))) found.place.generation (c (other x))) t.area_is
-    (subst (λ (n : ℕ). IsBeside [] (gate_of (header_of (front (c (other t.active.area))))) n (c (other t.active.area))) t.generation_is stands) in
+    let here : IsBeside [] (gate_of (header_of (front (c (other found.place.area))))) found.place.generation
+    (c (other found.place.area)) =
+    subst (λ (x : Area). IsBeside [] (gate_of (header_of (front (c (other x))))) found.place.generation (c (other x)))
+    t.area_is
+    (subst (λ (n : ℕ). IsBeside [] (gate_of (header_of (front (c (other t.active.area))))) n (c (other t.active.area)))
+    t.generation_is stands) in
     settled_has (IsBeside [] found.place.gate found.place.generation) held settled
-    (subst (IsBeside [] found.place.gate found.place.generation) (sym reads) (subst (λ (g : OtherGate). IsBeside [] g found.place.generation (c (other found.place.area))) (sym is.gate) here))
+    (subst (IsBeside [] found.place.gate found.place.generation) (sym reads)
+    (subst (λ (g : OtherGate). IsBeside [] g found.place.generation (c (other found.place.area)))
+    (sym is.gate) here))
 
 -- without a defect none is told
 undamaged : (broken : Option ℕ) → is_some broken ≡ false → broken ≡ None
@@ -48,14 +65,18 @@ undamaged None is = refl
 undamaged (Some at) is = absurd (cc)
 
 -- an area that was opened without a defect, and is settled, holds the frames that were read of it
-found_holds : (found : Found) (p : Past) → IsCounted found → IsSettled p → IsOpening (content p) found.place.area found.place.version found.place.generation found.head.items (payloads_of found.payloads.items) None found.place.end
+found_holds : (found : Found) (p : Past) → IsCounted found → IsSettled p
+    → IsOpening (content p) found.place.area found.place.version found.place.generation found.head.items
+    (payloads_of found.payloads.items) None found.place.end
     → HoldsFrames found.place.area found.place.version found.place.generation found.place.end found.place.frames false p
 found_holds found p counts settled opening =
     let area = found.place.area in
     let payloads = payloads_of found.payloads.items in
-    let r = recovered (content p) area found.place.version found.place.generation found.head.items payloads found.place.end (p.possible p.clock area).bytes opening in
+    let r = recovered (content p) area found.place.version found.place.generation found.head.items payloads
+    found.place.end (p.possible p.clock area).bytes opening in
     let first : List ℕ = r.gate ∷ heading found.place.version found.place.generation found.head.items in
-    let place : length first + bytes_of payloads ≡ found.place.end = omega (arith, counts.end, length-heading found.place.version found.place.generation found.head.items) in
+    let place : length first + bytes_of payloads ≡ found.place.end =
+    omega (arith, counts.end, length-heading found.place.version found.place.generation found.head.items) in
     record {
       gate = r.gate;
       is_open = r.is_open;
@@ -65,21 +86,28 @@ found_holds found p counts settled opening =
       doubt = None;
       count = omega (arith, counts.frames, length-map found.payloads.items (λ v. v.items));
       doubtful = refl;
-      stands = subst (λ (n : ℕ). Ready first payloads n (now p area)) place (ready first payloads (now p area) r.area_is (settled area));
+      stands = subst (λ (n : ℕ). Ready first payloads n (now p area)) place
+          (ready first payloads (now p area) r.area_is (settled area));
     }
 
-found_kept : (found : Found) (p : Past) → IsCounted found → IsSettled p → IsFoundIn (content p) found → IsKept found.place.area found.place.version found.place.generation found.place.end found.place.frames Nothing found.place.broken found.place.gate p
+found_kept : (found : Found) (p : Past) → IsCounted found → IsSettled p → IsFoundIn (content p) found
+    → IsKept found.place.area found.place.version found.place.generation found.place.end found.place.frames Nothing
+    found.place.broken found.place.gate p
 found_kept found p counts settled is = record {
   holds = λ whole. found_holds found p counts settled
-      (subst (λ (b : Option ℕ). IsOpening (content p) found.place.area found.place.version found.place.generation found.head.items (payloads_of found.payloads.items) b found.place.end) (undamaged found.broken (sym counts.broken ∙ whole)) is.opening);
+      (subst (λ (b : Option ℕ). IsOpening (content p) found.place.area found.place.version found.place.generation
+      found.head.items (payloads_of found.payloads.items) b found.place.end)
+      (undamaged found.broken (sym counts.broken ∙ whole)) is.opening);
   next = [];
   beside = found_beside (content p) found (now p (other found.place.area)) is (settled (other found.place.area)) refl;
 }
 
 -- ---- the same, where the disk may tell nothing
 
-pub kept_found : (t0 t1 t2 : Option Past) (found : Found) → Goes t0 t1 Secures → Goes t1 t2 Peeks → IsCounted found → ((c : Image) → Shows t2 c → IsFoundIn c found)
-    → ForSome t2 (IsKept found.place.area found.place.version found.place.generation found.place.end found.place.frames Nothing found.place.broken found.place.gate)
+pub kept_found : (t0 t1 t2 : Option Past) (found : Found) → Goes t0 t1 Secures → Goes t1 t2 Peeks → IsCounted found
+    → ((c : Image) → Shows t2 c → IsFoundIn c found)
+    → ForSome t2 (IsKept found.place.area found.place.version found.place.generation found.place.end found.place.frames
+    Nothing found.place.broken found.place.gate)
 kept_found t0 t1 t2 found synced peeked counts shows q is =
     let back = goes_back t1 t2 Peeks peeked q is in
     let first = goes_back t0 t1 Secures synced back.0 back.1 in

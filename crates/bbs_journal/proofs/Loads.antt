@@ -12,18 +12,31 @@ pub record AreWhole (payloads : List (List ℕ)) (end at : ℕ) (bytes : List �
   pub place : end ≡ at + length frames
   pub begins : Begins (frames ++ 0 ∷ []) bytes
 
-pub are_whole : (payloads : List (List ℕ)) (end at : ℕ) (bytes : List ℕ) → AreFrames payloads None end at bytes → AreWhole payloads end at bytes
-are_whole [] end at bytes (place, gate) = record { frames = []; whole = refl; place = omega (arith, place); begins = gate }
+pub are_whole : (payloads : List (List ℕ)) (end at : ℕ) (bytes : List ℕ) → AreFrames payloads None end at bytes
+    → AreWhole payloads end at bytes
+are_whole [] end at bytes (place, gate) = record {
+  frames = [];
+  whole = refl;
+  place = omega (arith, place);
+  begins =
+      gate;
+}
 are_whole (payload ∷ payloads) end at bytes (rest, frame, more) =
     let others = are_whole payloads end (at + 3 + length payload) rest more in
     let text = frame_spelled payload ++ others.frames in
     record {
       frames = frame.gate ∷ text;
-      whole = (others.frames, record { gate = frame.gate; is_open = frame.is_open; fits = frame.fits; parts = refl }, others.whole);
+      whole = (
+        others.frames,
+        record { gate = frame.gate; is_open = frame.is_open; fits = frame.fits; parts = refl },
+        others.whole,
+      );
       place = omega (arith, others.place, length-spelled_on payload others.frames);
       begins = record {
         rest = others.begins.rest;
         parts = frame.parts ∙ ap (λ (l : List ℕ). frame.gate ∷ (frame_spelled payload ++ l)) others.begins.parts
-            ∙ ap (λ (l : List ℕ). frame.gate ∷ l) (sym (append_assoc (frame_spelled payload) (others.frames ++ 0 ∷ []) others.begins.rest) ∙ ap (λ (l : List ℕ). l ++ others.begins.rest) (sym (append_assoc (frame_spelled payload) others.frames (0 ∷ []))));
+            ∙ ap (λ (l : List ℕ). frame.gate ∷ l) (sym (append_assoc (frame_spelled payload)
+            (others.frames ++ 0 ∷ []) others.begins.rest) ∙ ap (λ (l : List ℕ). l ++ others.begins.rest)
+            (sym (append_assoc (frame_spelled payload) others.frames (0 ∷ []))));
       };
     }

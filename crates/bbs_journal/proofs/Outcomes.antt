@@ -57,32 +57,39 @@ module _ (behind : List ℕ) where
       ]
 
   -- and then they are a frame
-  held_frame : (gate : ℕ) → 0 < gate → HoldsFrame → IsFrame (take len (drop 2 behind)) (gate ∷ behind) (drop len (drop 2 behind))
+  held_frame : (gate : ℕ) → 0 < gate → HoldsFrame → IsFrame (take len (drop 2 behind)) (gate ∷ behind)
+      (drop len (drop 2 behind))
   held_frame gate is_open h =
       let payload : List ℕ = take len (drop 2 behind) in
       let rest : List ℕ = drop len (drop 2 behind) in
       let low = h.low in
       let high = h.high in
       let within = h.within in
-      let size : length payload ≡ len = length-take-le len (drop 2 behind) (omega (arith, length-drop 2 behind, within)) in
+      let size : length payload ≡ len = length-take-le len (drop 2 behind)
+      (omega (arith, length-drop 2 behind, within)) in
       let number : field_number w16 (length payload) ≡ take 2 behind = ap (field_number w16) size ∙ h.number in
-      let whole : behind ≡ take 2 behind ++ (payload ++ rest) = sym (ap (λ (l : List ℕ). take 2 behind ++ l) (take-append-drop len (drop 2 behind)) ∙ take-append-drop 2 behind) in
+      let whole : behind ≡ take 2 behind ++ (payload ++ rest) =
+      sym (ap (λ (l : List ℕ). take 2 behind ++ l) (take-append-drop len (drop 2 behind)) ∙ take-append-drop 2
+      behind) in
       record {
         gate = gate;
         is_open = is_open;
         fits = (omega (arith, size, low), omega (arith, size, high));
-        parts = ap (λ (l : List ℕ). gate ∷ l) (whole ∙ ap (λ (l : List ℕ). l ++ (payload ++ rest)) (sym number) ∙ sym (append_assoc (field_number w16 (length payload)) payload rest));
+        parts = ap (λ (l : List ℕ). gate ∷ l) (whole ∙ ap (λ (l : List ℕ). l ++ (payload ++ rest)) (sym number) ∙ sym
+            (append_assoc (field_number w16 (length payload)) payload rest));
       }
 
   -- and no frame stands there else
   frame_holds : (gate : ℕ) (payload rest : List ℕ) → IsFrame payload (gate ∷ behind) rest → HoldsFrame
   frame_holds gate payload rest frame =
       let same = behind_is gate frame.gate behind (frame_spelled payload ++ rest) frame.parts in
-      let number : len ≡ length payload = ap (λ (l : List ℕ). from_be_bytes w16 (take 2 l)) same.1 ∙ spelled_number payload rest frame.fits in
+      let number : len ≡ length payload = ap (λ (l : List ℕ). from_be_bytes w16 (take 2 l)) same.1 ∙ spelled_number
+      payload rest frame.fits in
       let long : length behind ≡ 2 + length payload + length rest = ap length same.1 ∙ length-spelled_on payload rest in
       let size = field_number w16 (length payload) in
       let front : take 2 behind ≡ size =
-      ap (take 2) (same.1 ∙ append_assoc size payload rest) ∙ take_at size (payload ++ rest) 2 (length-field_number w16 (length payload)) in
+      ap (take 2) (same.1 ∙ append_assoc size payload rest) ∙ take_at size (payload ++ rest) 2
+      (length-field_number w16 (length payload)) in
       let fits = frame.fits in
       record {
         low = omega (arith, number, fits.0);
@@ -102,7 +109,11 @@ follow_defect : (at : ℕ) (bytes : List ℕ) → IsBroken bytes → Follow at b
 follow_defect at bytes broken = record { payloads = []; broken = Some at; end = at; frames = (refl, (refl, broken)) }
 
 nothing_broken : IsBroken []
-nothing_broken = record { no_gate = λ b. absurd (cc (b.parts)); no_frame = λ payload rest frame. absurd (cc (frame.parts)) }
+nothing_broken = record {
+  no_gate = λ b. absurd (cc (b.parts));
+  no_frame = λ payload rest frame.
+      absurd (cc (frame.parts));
+}
 
 defect_broken : (gate : ℕ) (behind : List ℕ) → 0 < gate → (HoldsFrame behind → ⊥) → IsBroken (gate ∷ behind)
 defect_broken gate behind is_open none = record {
@@ -113,7 +124,13 @@ defect_broken gate behind is_open none = record {
 -- the frames of bytes that are no more than so many
 follow : (n : ℕ) (bytes : List ℕ) (at : ℕ) → length bytes ≤ n → Follow at bytes
 follow n [] at within = follow_defect at [] nothing_broken
-follow n (zero ∷ behind) at within = record { payloads = []; broken = None; end = at; frames = (refl, record { rest = behind; parts = refl }) }
+follow n (zero ∷ behind) at within = record {
+  payloads = [];
+  broken = None;
+  end = at;
+  frames =
+      (refl, record { rest = behind; parts = refl });
+}
 follow zero (suc g ∷ behind) at within = absurd (omega (arith, within))
 follow (suc n) (suc g ∷ behind) at within =
     elim (holds_or_not behind) [
@@ -121,7 +138,12 @@ follow (suc n) (suc g ∷ behind) at within =
       | inl holds ↦
           let payload : List ℕ = take (len behind) (drop 2 behind) in
           let rest : List ℕ = drop (len behind) (drop 2 behind) in
-          let shorter : length rest ≤ n = omega (arith, length-drop (len behind) (drop 2 behind), length-drop 2 behind, within) in
+          let shorter : length rest ≤ n = omega (
+            arith,
+            length-drop (len behind) (drop 2 behind),
+            length-drop 2 behind,
+            within,
+          ) in
           let more = follow n rest (at + 3 + length payload) shorter in
           record {
             payloads = payload ∷ more.payloads;

@@ -33,7 +33,13 @@ use Rattle.bbs_journal.proofs.Accepted.{bytes_cons, ok_of}
 whole_length : (payloads : List (List ℕ)) (frames : List ℕ) → Whole payloads frames → length frames ≡ bytes_of payloads
 whole_length [] frames whole = ap length whole
 whole_length (payload ∷ payloads) frames (rest, frame, whole) =
-    omega (arith, ap length frame.parts, length-spelled_on payload rest, whole_length payloads rest whole, bytes_cons payload payloads)
+    omega (
+      arith,
+      ap length frame.parts,
+      length-spelled_on payload rest,
+      whole_length payloads rest whole,
+      bytes_cons payload payloads,
+    )
 
 pub ready : AreReady
 ready head payloads held area settled = record {
@@ -63,7 +69,9 @@ record IsSound (active : Active) (bytes : List ℕ) (len size : ℕ) : Type 0 wh
   pub size_is : size ≡ size_in bytes
   pub ahead : is_ahead active.version active.generation bytes ≡ false
 
-by_head : (a b d e : Bool) (area : Area) (len n size : ℕ) → (if a then Err (Damaged area 11) else (if b then Err (Damaged area len) else (if d then Err (Damaged area 11) else (if e then Err (Damaged area len) else Ok n)))) ≡ ok_of size
+by_head : (a b d e : Bool) (area : Area) (len n size : ℕ)
+    → (if a then Err (Damaged area 11) else (if b then Err (Damaged area len) else
+    (if d then Err (Damaged area 11) else (if e then Err (Damaged area len) else Ok n)))) ≡ ok_of size
     → (a ≡ false) × (d ≡ false) × (size ≡ n)
 by_head true b d e area len n size is = absurd (cc)
 by_head false true d e area len n size is = absurd (cc)
@@ -71,17 +79,22 @@ by_head false false true e area len n size is = absurd (cc)
 by_head false false false true area len n size is = absurd (cc)
 by_head false false false false area len n size is = (refl, refl, cc)
 
-sound : (active : Active) (bytes : List ℕ) (len size : ℕ) → size_of active bytes len ≡ Ok size → IsSound active bytes len size
+sound : (active : Active) (bytes : List ℕ) (len size : ℕ) → size_of active bytes len ≡ Ok size
+    → IsSound active bytes len size
 unfolding size_of
 sound active bytes len size is =
-    let tests = by_head (active.generation == 0) (nat_lt (length bytes) 23) (is_ahead active.version active.generation bytes) (nat_lt len (23 + size_in bytes)) active.area len (size_in bytes) size is in
+    let tests = by_head (active.generation == 0) (nat_lt (length bytes) 23)
+    (is_ahead active.version active.generation bytes) (nat_lt len (23 + size_in bytes)) active.area len
+    (size_in bytes) size is in
     record { above = let t = tests.0 in grind (arith, nat_tests); size_is = tests.2; ahead = tests.1 }
 
-not_above : (version generation : ℕ) (bytes : List ℕ) → is_ahead version generation bytes ≡ false → 31 ≤ length bytes → 8 ≤ size_in bytes → generation ≤ from_be_bytes w64 (take 8 (drop 23 bytes)) + version
+not_above : (version generation : ℕ) (bytes : List ℕ) → is_ahead version generation bytes ≡ false → 31 ≤ length bytes
+    → 8 ≤ size_in bytes → generation ≤ from_be_bytes w64 (take 8 (drop 23 bytes)) + version
 unfolding is_ahead
 not_above version generation bytes is long size = grind (arith, nat_tests)
 
-module _ (gate version generation size : ℕ) (behind : List ℕ) (are : AreBytes behind) (header : behind_gate (take 30 behind) ≡ Open version generation) (fits : 22 + size ≤ length behind)
+module _ (gate version generation size : ℕ) (behind : List ℕ) (are : AreBytes behind)
+    (header : behind_gate (take 30 behind) ≡ Open version generation) (fits : 22 + size ≤ length behind)
     (tests : IsSound (opened A version generation) (front (gate ∷ behind)) (suc (length behind)) size) where
   abbrev tail : List ℕ
   tail = drop 10 behind
@@ -89,12 +102,15 @@ module _ (gate version generation size : ℕ) (behind : List ℕ) (are : AreByte
   begins_marked : behind ≡ mark version ++ tail
   begins_marked =
       let m = marked version generation (take 30 behind) header in
-      sym (take-append-drop 10 behind) ∙ ap (λ (l : List ℕ). l ++ drop 10 behind) (sym (take-take 10 30 behind (omega arith)) ∙ ap (take 10) m.parts ∙ take_at (mark version) m.rest 10 (length-mark version))
+      sym (take-append-drop 10 behind) ∙ ap (λ (l : List ℕ). l ++ drop 10 behind)
+      (sym (take-take 10 30 behind (omega arith)) ∙ ap (take 10) m.parts ∙ take_at (mark version) m.rest 10
+      (length-mark version))
 
   tail_number : from_be_bytes w64 (take 8 tail) ≡ generation
   tail_number =
       let m = marked version generation (take 30 behind) header in
-      let same : take 20 tail ≡ m.rest = sym (drop-take 10 20 behind) ∙ ap (drop 10) m.parts ∙ drop_at (mark version) m.rest 10 (length-mark version) in
+      let same : take 20 tail ≡ m.rest = sym (drop-take 10 20 behind) ∙ ap (drop 10) m.parts ∙ drop_at
+      (mark version) m.rest 10 (length-mark version) in
       ap (from_be_bytes w64) (sym (take-take 8 20 tail (omega arith)) ∙ ap (take 8) same) ∙ m.number
 
   tail_size : from_be_bytes w32 (take 4 (drop 8 tail)) ≡ size
@@ -112,29 +128,39 @@ module _ (gate version generation size : ℕ) (behind : List ℕ) (are : AreByte
   length-head = length-take-le size (drop 22 behind) (omega (arith, length-drop 22 behind, fits))
 
   number_part : (n m : ℕ) (bytes : List ℕ) → AreBytes bytes → (i : ℕ) → get_or (take n (drop m bytes)) i 0 < 256
-  number_part n m bytes all = byte_in (take n (drop m bytes)) (All-take (λ (b : ℕ). b < 256) n (drop m bytes) (All-drop (λ (b : ℕ). b < 256) m bytes all))
+  number_part n m bytes all = byte_in (take n (drop m bytes))
+      (All-take (λ (b : ℕ). b < 256) n (drop m bytes) (All-drop (λ (b : ℕ). b < 256) m bytes all))
 
   generation_spelled : field_number w64 generation ≡ take 8 tail
   unfolding field_number
-  generation_spelled = be_bytes_8 (take 8 tail) generation (length-take-le 8 tail (omega (arith, length-drop 10 behind, fits))) (number_part 8 10 behind are) (sym tail_number)
+  generation_spelled = be_bytes_8 (take 8 tail) generation
+      (length-take-le 8 tail (omega (arith, length-drop 10 behind, fits))) (number_part 8 10 behind are)
+      (sym tail_number)
 
   size_spelled : field_number w32 (length head) ≡ take 4 (drop 8 tail)
   unfolding field_number
   size_spelled =
-      be_bytes_4 (take 4 (drop 8 tail)) (length head) (length-take-le 4 (drop 8 tail) (omega (arith, length-drop 8 tail, length-drop 10 behind, fits)))
-      (subst (λ (l : List ℕ). (i : ℕ) → get_or (take 4 l) i 0 < 256) (sym (drop-drop 8 10 behind)) (number_part 4 18 behind are)) (length-head ∙ sym tail_size)
+      be_bytes_4 (take 4 (drop 8 tail)) (length head) (length-take-le 4 (drop 8 tail)
+      (omega (arith, length-drop 8 tail, length-drop 10 behind, fits)))
+      (subst (λ (l : List ℕ). (i : ℕ) → get_or (take 4 l) i 0 < 256) (sym (drop-drop 8 10 behind))
+      (number_part 4 18 behind are)) (length-head ∙ sym tail_size)
 
-  tail_parts : tail ≡ field_number w64 generation ++ (field_number w32 (length head) ++ (head ++ drop (22 + size) behind))
+  tail_parts : tail ≡ field_number w64 generation ++ (field_number w32 (length head)
+      ++ (head ++ drop (22 + size) behind))
   tail_parts =
       sym (take-append-drop 8 tail) ∙ ap (λ (l : List ℕ). l ++ drop 8 tail) (sym generation_spelled)
       ∙ ap (λ (l : List ℕ). field_number w64 generation ++ l)
       (sym (take-append-drop 4 (drop 8 tail)) ∙ ap (λ (l : List ℕ). l ++ drop 4 (drop 8 tail)) (sym size_spelled)
-      ∙ ap (λ (l : List ℕ). field_number w32 (length head) ++ l) (ap (drop 4) (drop-drop 8 10 behind) ∙ drop-drop 4 18 behind ∙ sym (take-append-drop size (drop 22 behind)) ∙ ap (λ (l : List ℕ). head ++ l) (drop-drop size 22 behind)))
+      ∙ ap (λ (l : List ℕ). field_number w32 (length head) ++ l)
+      (ap (drop 4) (drop-drop 8 10 behind) ∙ drop-drop 4 18 behind ∙ sym
+      (take-append-drop size (drop 22 behind)) ∙ ap (λ (l : List ℕ). head ++ l) (drop-drop size 22 behind)))
 
   all_parts : gate ∷ behind ≡ (gate ∷ heading version generation head) ++ drop (22 + size) behind
-  all_parts = ap (λ (l : List ℕ). gate ∷ l) (begins_marked ∙ ap (λ (l : List ℕ). mark version ++ l) tail_parts) ∙ regroup (drop (22 + size) behind)
+  all_parts = ap (λ (l : List ℕ). gate ∷ l) (begins_marked ∙ ap (λ (l : List ℕ). mark version ++ l) tail_parts) ∙
+      regroup (drop (22 + size) behind)
     where
-      regroup : (rest : List ℕ) → gate ∷ (mark version ++ (field_number w64 generation ++ (field_number w32 (length head) ++ (head ++ rest)))) ≡ (gate ∷ heading version generation head) ++ rest
+      regroup : (rest : List ℕ) → gate ∷ (mark version ++ (field_number w64 generation
+          ++ (field_number w32 (length head) ++ (head ++ rest)))) ≡ (gate ∷ heading version generation head) ++ rest
       regroup rest = simp append_assoc
 
   goes_with : GoesWith version generation head
@@ -143,12 +169,15 @@ module _ (gate version generation size : ℕ) (behind : List ℕ) (are : AreByte
     above = tests.above;
     below = subst (λ (n : ℕ). n < 2 ^ 64) tail_number (below_8 (take 8 tail) (number_part 8 10 behind are));
     fits = subst (λ (n : ℕ). n < 2 ^ 32) (tail_size ∙ sym length-head)
-        (below_4 (take 4 (drop 8 tail)) (subst (λ (l : List ℕ). (i : ℕ) → get_or (take 4 l) i 0 < 256) (sym (drop-drop 8 10 behind)) (number_part 4 18 behind are)));
+        (below_4 (take 4 (drop 8 tail)) (subst (λ (l : List ℕ). (i : ℕ) → get_or (take 4 l) i 0 < 256)
+        (sym (drop-drop 8 10 behind)) (number_part 4 18 behind are)));
     not_ahead = λ eight.
         let long : length (front (gate ∷ behind)) ≡ min 31 (length (gate ∷ behind)) = length-take 31 (gate ∷ behind) in
-        let bound = not_above version generation (front (gate ∷ behind)) tests.ahead (omega (arith, long, fits, eight, length-head)) (omega (arith, eight, length-head, tests.size_is)) in
+        let bound = not_above version generation (front (gate ∷ behind)) tests.ahead
+        (omega (arith, long, fits, eight, length-head)) (omega (arith, eight, length-head, tests.size_is)) in
         let same : take 8 (drop 23 (front (gate ∷ behind))) ≡ take 8 head =
-        ap (take 8) (drop-take 23 8 (gate ∷ behind)) ∙ take-take 8 8 (drop 22 behind) (omega arith) ∙ sym (take-take 8 size (drop 22 behind) (omega (arith, eight, length-head))) in
+        ap (take 8) (drop-take 23 8 (gate ∷ behind)) ∙ take-take 8 8 (drop 22 behind) (omega arith) ∙ sym
+        (take-take 8 size (drop 22 behind) (omega (arith, eight, length-head))) in
         omega (arith, bound, ap (from_be_bytes w64) same);
   }
 
@@ -160,7 +189,8 @@ record IsHeaded (version generation size : ℕ) (bytes : List ℕ) : Type 0 wher
   pub goes : GoesWith version generation (take size (drop 23 bytes))
   pub parts : bytes ≡ (gate ∷ heading version generation (take size (drop 23 bytes))) ++ drop (23 + size) bytes
 
-headed_bytes : (version generation size : ℕ) (bytes : List ℕ) → AreBytes bytes → header_of (front bytes) ≡ Open version generation → 23 + size ≤ length bytes
+headed_bytes : (version generation size : ℕ) (bytes : List ℕ) → AreBytes bytes
+    → header_of (front bytes) ≡ Open version generation → 23 + size ≤ length bytes
     → IsSound (opened A version generation) (front bytes) (length bytes) size → IsHeaded version generation size bytes
 headed_bytes version generation size [] are header fits tests = absurd (omega (arith, fits))
 headed_bytes version generation size (zero ∷ behind) are header fits tests = absurd (closed_open header)
@@ -175,15 +205,19 @@ headed_bytes version generation size (suc n ∷ behind) are header fits tests =
       gate = suc n;
       is_open = omega arith;
       goes = goes_with (suc n) version generation size behind (are_rest (suc n) behind are) open_is within tests;
-      parts = all_parts (suc n) version generation size behind (are_rest (suc n) behind are) open_is within tests ∙ ap (λ (l : List ℕ). (suc n ∷ heading version generation (take size (drop 22 behind))) ++ l) (ap (λ (k : ℕ). drop k (suc n ∷ behind)) (sym step));
+      parts = all_parts (suc n) version generation size behind (are_rest (suc n) behind are) open_is within tests ∙ ap
+          (λ (l : List ℕ). (suc n ∷ heading version generation (take size (drop 22 behind))) ++ l)
+          (ap (λ (k : ℕ). drop k (suc n ∷ behind)) (sym step));
     }
   where
     are_rest : (x : ℕ) (l : List ℕ) → AreBytes (x ∷ l) → AreBytes l
     are_rest x l all = All-drop (λ (b : ℕ). b < 256) 1 (x ∷ l) all
 
 in_area : (c : Image) (active : Active) (size : ℕ) (payloads : List (List ℕ)) (end : ℕ) → AreBytes (c active.area)
-    → active_of (header_of (front (c A))) (header_of (front (c B))) ≡ Ok active → size_of active (front (c active.area)) (length (c active.area)) ≡ Ok size
-    → AreFrames payloads None end (23 + length (take size (drop 23 (c active.area)))) (drop (23 + length (take size (drop 23 (c active.area)))) (c active.area))
+    → active_of (header_of (front (c A))) (header_of (front (c B))) ≡ Ok active
+    → size_of active (front (c active.area)) (length (c active.area)) ≡ Ok size
+    → AreFrames payloads None end (23 + length (take size (drop 23 (c active.area))))
+    (drop (23 + length (take size (drop 23 (c active.area)))) (c active.area))
     → Recovers c active.area active.version active.generation (take size (drop 23 (c active.area))) payloads
 in_area c active size payloads end are chosen sized frames =
     let area : Area = active.area in
@@ -192,7 +226,8 @@ in_area c active size payloads end are chosen sized frames =
     let tests = sound active (front (c area)) (length (c area)) size sized in
     let whole = headed_bytes active.version active.generation size (c area) are (own_is c active chosen) fits
     (record { above = tests.above; size_is = tests.size_is; ahead = tests.ahead }) in
-    let count : length head ≡ size = length-take-le size (drop 23 (c area)) (omega (arith, fits, length-drop 23 (c area))) in
+    let count : length head ≡ size = length-take-le size (drop 23 (c area))
+    (omega (arith, fits, length-drop 23 (c area))) in
     let listed = are_whole payloads end (23 + length head) (drop (23 + length head) (c area)) frames in
     let first : List ℕ = whole.gate ∷ heading active.version active.generation head in
     record {
@@ -204,7 +239,8 @@ in_area c active size payloads end are chosen sized frames =
         whole = listed.whole;
         begins = record {
           rest = listed.begins.rest;
-          parts = whole.parts ∙ ap (λ (n : ℕ). first ++ drop (23 + n) (c area)) (sym count) ∙ ap (λ (l : List ℕ). first ++ l) listed.begins.parts
+          parts = whole.parts ∙ ap (λ (n : ℕ). first ++ drop (23 + n) (c area)) (sym count) ∙ ap
+              (λ (l : List ℕ). first ++ l) listed.begins.parts
               ∙ regroup first listed.frames listed.begins.rest;
         };
       };
@@ -218,5 +254,6 @@ in_area c active size payloads end are chosen sized frames =
 pub recovered : AreRecovered
 recovered c area version generation head payloads end are opening =
     let t = tested c _ opening.head_is in
-    subst (λ (h : Headed). AreBytes (c h.area) → AreFrames payloads None end (23 + length h.head) (drop (23 + length h.head) (c h.area)) → Recovers c h.area h.version h.generation h.head payloads)
+    subst (λ (h : Headed). AreBytes (c h.area) → AreFrames payloads None end (23 + length h.head)
+    (drop (23 + length h.head) (c h.area)) → Recovers c h.area h.version h.generation h.head payloads)
     t.parts (λ all frames. in_area c t.active t.size payloads end all t.chosen t.sized frames) are opening.frames

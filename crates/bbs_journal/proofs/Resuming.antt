@@ -17,7 +17,14 @@ unfolding field_number
 opens_empty p q prepares = accepted (content q) A 2 1 empty_head [] (record {
   gate = 1;
   is_open = omega arith;
-  goes_with = record { version_is = inr refl; above = omega arith; below = omega arith; fits = omega arith; not_ahead = λ eight. omega arith };
+  goes_with = record {
+    version_is = inr refl;
+    above = omega arith;
+    below = omega arith;
+    fits = omega arith;
+    not_ahead =
+        λ eight. omega arith;
+  };
   area_is = record {
     frames = [];
     whole = refl;

@@ -44,20 +44,26 @@ KeepsHeld next end.Gone = Unit {0}
 KeepsHeld next end.Same = Unit {0}
 KeepsHeld next (end.Refused why) = Unit {0}
 
-pub KeepsHeld-lrp_move : (next : ℕ) (row : Actual) (move : LrpMove) (now : Moment) → IsHeldBefore next (holder_of row.state)
+pub KeepsHeld-lrp_move : (next : ℕ) (row : Actual) (move : LrpMove) (now : Moment)
+    → IsHeldBefore next (holder_of row.state)
     → IsHeldBefore next (brought_by move) → KeepsHeld next (lrp_move row move now)
 KeepsHeld-lrp_move next row move now held brought = grind (arith, common_steps)
 
 -- a row that is found stands at the place that was asked, and is one of the board's
-pub place-found : (rows : Rows) (key : Key) (presence : Presence) (old : Actual) → find_actual rows key presence ≡ Some old → place_of old ≡ (key, presence)
-place-found rows key presence old known = key-find_row place_order place_of IsKeyOrder-place_order (key, presence) old rows.actual known
+pub place-found : (rows : Rows) (key : Key) (presence : Presence) (old : Actual)
+    → find_actual rows key presence ≡ Some old → place_of old ≡ (key, presence)
+place-found rows key presence old known = key-find_row place_order place_of IsKeyOrder-place_order
+    (key, presence) old rows.actual known
 
-pub found-there : (rows : Rows) (key : Key) (presence : Presence) (old : Actual) → find_actual rows key presence ≡ Some old
+pub found-there : (rows : Rows) (key : Key) (presence : Presence) (old : Actual)
+    → find_actual rows key presence ≡ Some old
     → find_row place_order place_of (place_of old) rows.actual ≡ Some old
 found-there rows key presence old known =
-    ap (λ (p : Key × Presence). find_row place_order place_of p rows.actual) (place-found rows key presence old known) ∙ known
+    ap (λ (p : Key × Presence). find_row place_order place_of p rows.actual)
+    (place-found rows key presence old known) ∙ known
 
-pub actual-found : (rows : Rows) (key : Key) (presence : Presence) (old : Actual) → IsValid rows → find_actual rows key presence ≡ Some old
+pub actual-found : (rows : Rows) (key : Key) (presence : Presence) (old : Actual) → IsValid rows
+    → find_actual rows key presence ≡ Some old
     → IsActualRow rows.next old
 actual-found rows key presence old valid known =
     each-find_row place_order place_of (IsActualRow rows.next) (key, presence) old rows.actual valid.actual.each known
@@ -67,7 +73,8 @@ pub suits-ordinary : (row : Actual) → row.presence ≡ Ordinary → SuitsPrese
 suits-ordinary row is = subst (λ p. SuitsPresence p row) (sym is) tt
 
 -- other actual rows, and one transition more
-pub with_actual : (rows : Rows) (actual : List Actual) → IsValid rows → rows.next < most_transitions → AreActual rows.next actual
+pub with_actual : (rows : Rows) (actual : List Actual) → IsValid rows → rows.next < most_transitions
+    → AreActual rows.next actual
     → IsValid (advanced (record rows { actual = actual }))
 with_actual rows actual valid room h = record {
   desired = valid.desired;
@@ -79,8 +86,10 @@ with_actual rows actual valid room h = record {
 }
 
 -- a row that comes in the place of one that is known
-pub AreActual-put_known : (next : ℕ) (new old : Actual) (actual : List Actual) → AreActual next actual → IsActualRow next new
-    → find_row place_order place_of (place_of new) actual ≡ Some old → AreActual next (put_row place_order place_of new actual)
+pub AreActual-put_known : (next : ℕ) (new old : Actual) (actual : List Actual) → AreActual next actual
+    → IsActualRow next new
+    → find_row place_order place_of (place_of new) actual ≡ Some old
+    → AreActual next (put_row place_order place_of new actual)
 AreActual-put_known next new old actual h fits known = AreActual-put next new actual h fits (λ none. cc)
 
 -- what a move's end comes to
@@ -88,11 +97,14 @@ pub IsValid-moved_to : (rows : Rows) (old : Actual) (end : MoveEnd) → IsValid 
     → find_row place_order place_of (place_of old) rows.actual ≡ Some old → old.presence ≡ Ordinary
     → KeepsPlace old end → KeepsHeld rows.next end → IsValid (changed_by rows (moved_to old end))
 IsValid-moved_to rows old (end.Changed new) valid room known ordinary place held =
-    let known_new : find_row place_order place_of (place_of new) rows.actual ≡ Some old = ap (λ (p : Key × Presence). find_row place_order place_of p rows.actual) place ∙ known in
+    let known_new : find_row place_order place_of (place_of new) rows.actual ≡ Some old =
+    ap (λ (p : Key × Presence). find_row place_order place_of p rows.actual) place ∙ known in
     let ordinary_new : new.presence ≡ Ordinary = ap (λ (p : Key × Presence). p.1) place ∙ ordinary in
     with_actual rows (put_row place_order place_of new rows.actual) valid room
-    (AreActual-put_known rows.next new old rows.actual valid.actual (record { held = held; suits = suits-ordinary new ordinary_new }) known_new)
+    (AreActual-put_known rows.next new old rows.actual valid.actual
+    (record { held = held; suits = suits-ordinary new ordinary_new }) known_new)
 IsValid-moved_to rows old end.Gone valid room known ordinary place held =
-    with_actual rows (without_row place_order place_of (place_of old) rows.actual) valid room (AreActual-without rows.next (place_of old) rows.actual valid.actual)
+    with_actual rows (without_row place_order place_of (place_of old) rows.actual) valid room
+    (AreActual-without rows.next (place_of old) rows.actual valid.actual)
 IsValid-moved_to rows old end.Same valid room known ordinary place held = valid
 IsValid-moved_to rows old (end.Refused why) valid room known ordinary place held = valid

@@ -37,21 +37,27 @@ with_desired rows desired valid room h = record {
 sum_new : (rows : Rows) (d : Desired) → IsValid rows → find_desired rows d.process ≡ None
     → sum_by (λ (e : Desired). e.instances) (put_row name_order process_of d rows.desired) ≡ wanted rows + d.instances
 sum_new rows d valid none =
-    let sum = sum_by-put_row name_order process_of IsKeyOrder-name_order (λ (e : Desired). e.instances) d rows.desired valid.desired.rising in
-    let nothing : option_map_or (λ (e : Desired). e.instances) (find_desired rows d.process) 0 ≡ 0 = ap (λ (s : Option Desired). option_map_or (λ (e : Desired). e.instances) s 0) none in
+    let sum = sum_by-put_row name_order process_of IsKeyOrder-name_order
+    (λ (e : Desired). e.instances) d rows.desired valid.desired.rising in
+    let nothing : option_map_or (λ (e : Desired). e.instances) (find_desired rows d.process) 0 ≡ 0 =
+    ap (λ (s : Option Desired). option_map_or (λ (e : Desired). e.instances) s 0) none in
     omega (arith, sum, nothing)
 
 sum_known : (rows : Rows) (d old : Desired) → IsValid rows → find_desired rows d.process ≡ Some old
-    → sum_by (λ (e : Desired). e.instances) (put_row name_order process_of d rows.desired) + old.instances ≡ wanted rows + d.instances
+    → sum_by (λ (e : Desired). e.instances) (put_row name_order process_of d rows.desired) + old.instances
+    ≡ wanted rows + d.instances
 sum_known rows d old valid known =
-    let sum = sum_by-put_row name_order process_of IsKeyOrder-name_order (λ (e : Desired). e.instances) d rows.desired valid.desired.rising in
-    let before : option_map_or (λ (e : Desired). e.instances) (find_desired rows d.process) 0 ≡ old.instances = ap (λ (s : Option Desired). option_map_or (λ (e : Desired). e.instances) s 0) known in
+    let sum = sum_by-put_row name_order process_of IsKeyOrder-name_order
+    (λ (e : Desired). e.instances) d rows.desired valid.desired.rising in
+    let before : option_map_or (λ (e : Desired). e.instances) (find_desired rows d.process) 0 ≡ old.instances =
+    ap (λ (s : Option Desired). option_map_or (λ (e : Desired). e.instances) s 0) known in
     omega (arith, sum, before)
 
 module _ (rows : Rows) (valid : IsValid rows) (room : rows.next < most_transitions) where
   pub IsValid-desire : (d : Desired) → IsValid (changed_by rows (desire (found_by rows (op.Desire d)) d))
   IsValid-desire d =
-      by_passing (λ (a : Attempt). IsValid (changed_by rows a)) (λ why. valid) (desire_refusals (found_by rows (op.Desire d)) d) (put (row.Desired d)) (λ passed.
+      by_passing (λ (a : Attempt). IsValid (changed_by rows a)) (λ why. valid)
+      (desire_refusals (found_by rows (op.Desire d)) d) (put (row.Desired d)) (λ passed.
       let none : find_desired rows d.process ≡ None = none_from (find_desired rows d.process) passed.0 in
       let sum = within_from most_wanted (wanted rows + d.instances) passed.1.1.1.0 in
       with_desired rows (put_row name_order process_of d rows.desired) valid room
@@ -65,8 +71,11 @@ module _ (rows : Rows) (valid : IsValid rows) (room : rows.next < most_transitio
       let found = found_by rows (op.Update process instances route port) in
       by_knowing P (λ why. valid) (find_desired rows process) _ (λ old known.
       let new : Desired = record old { instances = instances; route = route; port = port } in
-      let known_there : find_desired rows old.process ≡ Some old = ap (find_desired rows) (key-find_row name_order process_of IsKeyOrder-name_order process old rows.desired known) ∙ known in
-      by_test P (λ why. valid) (asks_for old instances route port) Keep (unless_refused (resize_refusals found old instances) (put (row.Desired new))) (λ asked. valid) (λ other.
+      let known_there : find_desired rows old.process ≡ Some old =
+      ap (find_desired rows) (key-find_row name_order process_of IsKeyOrder-name_order process old rows.desired
+      known) ∙ known in
+      by_test P (λ why. valid) (asks_for old instances route port) Keep
+      (unless_refused (resize_refusals found old instances) (put (row.Desired new))) (λ asked. valid) (λ other.
       by_passing P (λ why. valid) (resize_refusals found old instances) (put (row.Desired new)) (λ passed.
       let sum = within_from most_wanted (wanted rows - old.instances + instances) passed.1.0 in
       with_desired rows (put_row name_order process_of new rows.desired) valid room
@@ -75,5 +84,7 @@ module _ (rows : Rows) (valid : IsValid rows) (room : rows.next < most_transitio
 
   pub IsValid-undesire : (process : List ℕ) → IsValid (changed_by rows (undesire (found_by rows (op.Undesire process))))
   IsValid-undesire process =
-      by_knowing (λ (a : Attempt). IsValid (changed_by rows a)) (λ why. valid) (find_desired rows process) (λ d. drop_row (row.Desired d)) (λ old known.
-      with_desired rows (without_row name_order process_of old.process rows.desired) valid room (AreDesired-without old.process rows.desired valid.desired))
+      by_knowing (λ (a : Attempt). IsValid (changed_by rows a)) (λ why. valid) (find_desired rows process)
+      (λ d. drop_row (row.Desired d)) (λ old known.
+      with_desired rows (without_row name_order process_of old.process rows.desired) valid room
+      (AreDesired-without old.process rows.desired valid.desired))

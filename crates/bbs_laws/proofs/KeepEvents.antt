@@ -52,7 +52,11 @@ module _ (rows : Rows) (now : Moment) where
       ap (λ (o : Option Actual). is_some o) (left-found rows key presence old now other known) in
       record {
         first = place-kept rows key presence old known;
-        second = record { change = ap (λ b. cond b Changed Created) there; row = place-found rows key Ordinary old known };
+        second = record {
+          change = ap (λ b. cond b Changed Created) there;
+          row =
+              place-found rows key Ordinary old known;
+        };
       })
 
   -- two kinds of command keep an instance aside
@@ -89,22 +93,28 @@ module _ (rows : Rows) (now : Moment) where
   single-move_task : (asked : Op) (move : TaskMove) → IsSingle (move_task (found_by rows asked) move now)
   single-move_task asked move =
       let found = found_by rows asked in
-      by_knowing IsSingle (λ why. tt) found.task (λ old. task_moved_to old (task_move old move now)) (λ old known. single-moved_to old (task_move old move now))
+      by_knowing IsSingle (λ why. tt) found.task (λ old. task_moved_to old (task_move old move now))
+      (λ old known. single-moved_to old (task_move old move now))
 
-  single-move_task_by_cell : (asked : Op) (epoch : ℕ) (move : TaskMove) → IsSingle (move_task_by_cell (found_by rows asked) epoch move now)
+  single-move_task_by_cell : (asked : Op) (epoch : ℕ) (move : TaskMove)
+      → IsSingle (move_task_by_cell (found_by rows asked) epoch move now)
   single-move_task_by_cell asked epoch move =
       let found = found_by rows asked in
-      by_knowing IsSingle (λ why. tt) found.task (λ old. if_joined found.cell epoch (λ c. task_moved_to old (task_move old move now))) (λ old known.
-      by_joining IsSingle (λ why. tt) found.cell epoch (λ c. task_moved_to old (task_move old move now)) (λ c joined same. single-moved_to old (task_move old move now)))
+      by_knowing IsSingle (λ why. tt) found.task (λ old. if_joined found.cell epoch
+      (λ c. task_moved_to old (task_move old move now))) (λ old known.
+      by_joining IsSingle (λ why. tt) found.cell epoch (λ c. task_moved_to old (task_move old move now))
+      (λ c joined same. single-moved_to old (task_move old move now)))
 
   -- any command but those that keep an instance aside
   abbrev IsSingleUnless : Op → Attempt → Type 0
   IsSingleUnless asked attempt = aside_in asked ≡ None → IsSingle attempt
 
   single-attempt : (asked : Op) → IsSingleUnless asked (attempt_at (found_by rows asked) now asked)
-  single-attempt = each-attempt rows now IsSingleUnless (λ asked why other. tt) (λ asked other. tt) (λ asked r is other. refl) (λ asked r is other. refl)
+  single-attempt = each-attempt rows now IsSingleUnless (λ asked why other. tt) (λ asked other. tt)
+      (λ asked r is other. refl) (λ asked r is other. refl)
       (λ asked place is aside refusals instance other. let e : Some place ≡ None = sym is ∙ other in cc)
-      (λ name memory disk tag other. by_passing IsSingle (λ why. tt) (new_task_refusals (found_by rows (op.NewTask name memory disk tag))) _ (λ passed. refl))
+      (λ name memory disk tag other. by_passing IsSingle (λ why. tt)
+      (new_task_refusals (found_by rows (op.NewTask name memory disk tag))) _ (λ passed. refl))
       (λ asked move other. single-move_task asked move)
       (λ asked epoch move other. single-move_task_by_cell asked epoch move)
 

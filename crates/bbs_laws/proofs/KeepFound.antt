@@ -27,13 +27,15 @@ pub there : {K X : Type 0} (R : K → K → Ordering) (key : X → K) → IsKeyO
 there R key o xs None x known = cc
 there R key o xs (Some k) x known = ap (λ q. find_row R key q xs) (key-find_row R key o k x xs known) ∙ known
 
-actual-there : (rows : Rows) (presence : Presence) (q : Option Key) (a : Actual) → option_and_then (λ key. find_actual rows key presence) q ≡ Some a
+actual-there : (rows : Rows) (presence : Presence) (q : Option Key) (a : Actual)
+    → option_and_then (λ key. find_actual rows key presence) q ≡ Some a
     → find_row place_order place_of (place_of a) rows.actual ≡ Some a
 actual-there rows presence None a known = cc
 actual-there rows presence (Some key) a known = found-there rows key presence a known
 
 pub Stands-found : (rows : Rows) (asked : Op) (r : Row) → IsOfFound (found_by rows asked) r → StandsIn rows r
-Stands-found rows asked (row.Desired d) known = there name_order process_of IsKeyOrder-name_order rows.desired (process_in asked) d known
+Stands-found rows asked (row.Desired d) known = there name_order process_of IsKeyOrder-name_order rows.desired
+    (process_in asked) d known
 Stands-found rows asked (row.Actual a) (inl known) = actual-there rows Ordinary (key_in asked) a known
 Stands-found rows asked (row.Actual a) (inr (inl known)) = actual-there rows Evacuating (evacuating_in asked) a known
 Stands-found rows asked (row.Actual a) (inr (inr known)) = actual-there rows Suspect (suspect_in asked) a known

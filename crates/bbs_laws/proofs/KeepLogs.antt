@@ -31,18 +31,22 @@ pub replays_what_is_done : (base : Rows) (log : List Item) → ReplaysWhatIsDone
 replays_what_is_done base log = record {
   replayed = replay_log-done base log;
   legal = legal-done base log;
-  next = λ lawful. ap (λ (r : Rows). r.next) (replay_log-done base log) ∙ next-replay base (done_of log) (legal-done base log lawful);
+  next = λ lawful. ap (λ (r : Rows). r.next) (replay_log-done base log) ∙ next-replay base (done_of log)
+      (legal-done base log lawful);
 }
 
-pub replay_log-append : (base : Rows) (xs ys : List Item) → replay_log base (xs ++ ys) ≡ replay_log (replay_log base xs) ys
+pub replay_log-append : (base : Rows) (xs ys : List Item)
+    → replay_log base (xs ++ ys) ≡ replay_log (replay_log base xs) ys
 replay_log-append base [] ys = refl
 replay_log-append base (x ∷ xs) ys = replay_log-append (after_item base x) xs ys
 
-pub IsLawful-append : (base : Rows) (xs ys : List Item) → IsLawful base xs → IsLawful (replay_log base xs) ys → IsLawful base (xs ++ ys)
+pub IsLawful-append : (base : Rows) (xs ys : List Item) → IsLawful base xs → IsLawful (replay_log base xs) ys
+    → IsLawful base (xs ++ ys)
 IsLawful-append base [] ys a b = b
 IsLawful-append base (x ∷ xs) ys a b = (a.0, IsLawful-append (after_item base x) xs ys a.1 b)
 
-pub IsLawful-parts : (base : Rows) (xs ys : List Item) → IsLawful base (xs ++ ys) → IsLawful base xs × IsLawful (replay_log base xs) ys
+pub IsLawful-parts : (base : Rows) (xs ys : List Item) → IsLawful base (xs ++ ys)
+    → IsLawful base xs × IsLawful (replay_log base xs) ys
 IsLawful-parts base [] ys h = (tt, h)
 IsLawful-parts base (x ∷ xs) ys h =
     let rest = IsLawful-parts (after_item base x) xs ys h.1 in
@@ -54,48 +58,58 @@ log_goes_on base xs ys = record {
   lawful = (IsLawful-parts base xs ys, λ both. IsLawful-append base xs ys both.0 both.1);
 }
 
-pub IsValid-after_item : (rows : Rows) (item : Item) → IsValid rows → IsLegal rows (command_in item) → IsValid (after_item rows item)
+pub IsValid-after_item : (rows : Rows) (item : Item) → IsValid rows → IsLegal rows (command_in item)
+    → IsValid (after_item rows item)
 IsValid-after_item rows (Done by c) valid legal = IsValid-rows_after rows c valid legal
 IsValid-after_item rows (Doubt by c) valid legal = valid
 
-pub IsValid-replay_log : (base : Rows) (log : List Item) → IsValid base → IsLawful base log → IsValid (replay_log base log)
+pub IsValid-replay_log : (base : Rows) (log : List Item) → IsValid base → IsLawful base log
+    → IsValid (replay_log base log)
 IsValid-replay_log base [] valid lawful = valid
 IsValid-replay_log base (i ∷ is) valid lawful =
     IsValid-replay_log (after_item base i) is (IsValid-after_item base i valid lawful.0) lawful.1
 
 pub IsLawful-take : (base : Rows) (log : List Item) (place : ℕ) → IsLawful base log → IsLawful base (take place log)
 IsLawful-take base log place lawful =
-    let parts : IsLawful base (take place log ++ drop place log) = subst (IsLawful base) (sym (take-append-drop place log)) lawful in
+    let parts : IsLawful base (take place log ++ drop place log) =
+    subst (IsLawful base) (sym (take-append-drop place log)) lawful in
     (IsLawful-parts base (take place log) (drop place log) parts).0
 
 -- the rows at any place are valid, and the item there is legal
-pub IsValid-rows_at : (base : Rows) (log : List Item) (place : ℕ) → IsValid base → IsLawful base log → IsValid (rows_at base log place)
-IsValid-rows_at base log place valid lawful = IsValid-replay_log base (take place log) valid (IsLawful-take base log place lawful)
+pub IsValid-rows_at : (base : Rows) (log : List Item) (place : ℕ) → IsValid base → IsLawful base log
+    → IsValid (rows_at base log place)
+IsValid-rows_at base log place valid lawful = IsValid-replay_log base (take place log) valid
+    (IsLawful-take base log place lawful)
 
 pub place-within : (log : List Item) (place : ℕ) (item : Item) → slice_get log place ≡ Some item → place ≤ length log
 place-within [] place item is = cc
 place-within (i ∷ is) zero item at = omega arith
 place-within (i ∷ is) (suc place) item at = let rest = place-within is place item at in omega arith
 
-pub legal_at : (base : Rows) (log : List Item) (place : ℕ) (item : Item) → IsLawful base log → slice_get log place ≡ Some item
+pub legal_at : (base : Rows) (log : List Item) (place : ℕ) (item : Item) → IsLawful base log
+    → slice_get log place ≡ Some item
     → IsLegal (rows_at base log place) (command_in item)
 legal_at base [] place item lawful is = cc
 legal_at base (i ∷ is) zero item lawful at =
     let one : i ≡ item = cc in subst (λ (x : Item). IsLegal base (command_in x)) one lawful.0
 legal_at base (i ∷ is) (suc place) item lawful at = legal_at (after_item base i) is place item lawful.1 at
 
-pub IsValid-reached : (base : Rows) (log : List Item) (from : ℕ) (rows : Rows) → IsValid base → IsLawful base log → IsReached base log from rows → IsValid rows
+pub IsValid-reached : (base : Rows) (log : List Item) (from : ℕ) (rows : Rows) → IsValid base → IsLawful base log
+    → IsReached base log from rows → IsValid rows
 IsValid-reached base log from rows valid lawful (inl at) =
     subst IsValid (sym at.rows_are) (IsValid-rows_at base log at.place valid lawful)
 IsValid-reached base log from rows valid lawful (inr at) =
     subst IsValid (sym at.rows_are) (IsValid-rows_after (rows_at base log at.place) at.command
-    (IsValid-rows_at base log at.place valid lawful) (legal_at base log at.place (Doubt at.by at.command) lawful at.doubt))
+    (IsValid-rows_at base log at.place valid lawful) (legal_at base log at.place
+    (Doubt at.by at.command) lawful at.doubt))
 
 pub epochs_are_past : (rows : Rows) → IsValid rows → EpochsArePast rows
 epochs_are_past rows valid = record {
   actual = All-from_recursion (λ (a : Actual). IsHeldBefore rows.next (holder_of a.state)) rows.actual
-      (each_weaker (IsActualRow rows.next) (λ (a : Actual). IsHeldBefore rows.next (holder_of a.state)) (λ a is. is.held) rows.actual valid.actual.each);
+      (each_weaker (IsActualRow rows.next) (λ (a : Actual). IsHeldBefore rows.next (holder_of a.state))
+      (λ a is. is.held) rows.actual valid.actual.each);
   tasks = All-from_recursion (λ (t : Task). IsHeldBefore rows.next (runner_of t.state)) rows.tasks
-      (each_weaker (IsTaskRow rows.next) (λ (t : Task). IsHeldBefore rows.next (runner_of t.state)) (λ t is. is.held) rows.tasks valid.tasks.each);
+      (each_weaker (IsTaskRow rows.next) (λ (t : Task). IsHeldBefore rows.next (runner_of t.state))
+      (λ t is. is.held) rows.tasks valid.tasks.each);
   cells = All-from_recursion (HasJoined rows.next) rows.cells valid.cells.each;
 }

@@ -36,8 +36,10 @@ use Rattle.bbs_laws.proofs.KeepWalk.{each-keeps_aside}
 use Rattle.bbs_laws.proofs.KeepTables.{AreActual-put, AreActual-without}
 
 -- the cell that is found joined before
-pub cell-found : (rows : Rows) (cell : List ℕ) (old : CellRow) → IsValid rows → find_cell rows cell ≡ Some old → old.epoch < rows.next
-cell-found rows cell old valid known = each-find_row name_order cell_name_of (HasJoined rows.next) cell old rows.cells valid.cells.each known
+pub cell-found : (rows : Rows) (cell : List ℕ) (old : CellRow) → IsValid rows → find_cell rows cell ≡ Some old
+    → old.epoch < rows.next
+cell-found rows cell old valid known = each-find_row name_order cell_name_of
+    (HasJoined rows.next) cell old rows.cells valid.cells.each known
 
 -- no row aside is an ORDINARY one
 pub evacuating-aside : Evacuating ≢ Ordinary
@@ -102,9 +104,11 @@ module _ (rows : Rows) (valid : IsValid rows) (room : rows.next < most_transitio
       (KeepsHeld-lrp_move rows.next old move now (actual-found rows key Ordinary old valid known).held brought)
 
   pub IsValid-move_lrp : (key : Key) (move : LrpMove) (now : Moment) → IsHeldBefore rows.next (brought_by move)
-      → IsValid (changed_by rows (if_known (find_actual rows key Ordinary) (λ old. moved_to old (lrp_move old move now))))
+      → IsValid (changed_by rows (if_known (find_actual rows key Ordinary)
+      (λ old. moved_to old (lrp_move old move now))))
   IsValid-move_lrp key move now brought =
-      by_knowing Stays (λ why. valid) (find_actual rows key Ordinary) (λ old. moved_to old (lrp_move old move now)) (λ old known.
+      by_knowing Stays (λ why. valid) (find_actual rows key Ordinary) (λ old. moved_to old (lrp_move old move now))
+      (λ old known.
       IsValid-moved key old move now known brought)
 
   pub IsValid-move_lrp_by_cell : (key : Key) (instance : Instance) (cell : List ℕ) (move : LrpMove) (now : Moment)
@@ -112,8 +116,11 @@ module _ (rows : Rows) (valid : IsValid rows) (room : rows.next < most_transitio
       → IsValid (changed_by rows (if_known (find_actual rows key Ordinary) (λ old.
       if_joined (find_cell rows cell) instance.epoch (λ c. moved_to old (lrp_move old move now)))))
   IsValid-move_lrp_by_cell key instance cell move now brought =
-      by_knowing Stays (λ why. valid) (find_actual rows key Ordinary) (λ old. if_joined (find_cell rows cell) instance.epoch (λ c. moved_to old (lrp_move old move now))) (λ old known.
-      by_joining Stays (λ why. valid) (find_cell rows cell) instance.epoch (λ c. moved_to old (lrp_move old move now)) (λ joined there same.
+      by_knowing Stays (λ why. valid) (find_actual rows key Ordinary)
+      (λ old. if_joined (find_cell rows cell) instance.epoch (λ c. moved_to old (lrp_move old move now)))
+      (λ old known.
+      by_joining Stays (λ why. valid) (find_cell rows cell) instance.epoch (λ c. moved_to old (lrp_move old move now))
+      (λ joined there same.
       let before = cell-found rows cell joined valid there in
       let past : instance.epoch < rows.next = omega (arith, before, same) in
       IsValid-moved key old move now known (brought past)))
@@ -136,7 +143,8 @@ module _ (rows : Rows) (valid : IsValid rows) (room : rows.next < most_transitio
       (record { held = there.held; suits = suits-aside presence old (running_from old.state instance runs) })
       (λ none. free passed (ap (λ (p : Key × Presence). find_row place_order place_of p rows.actual)
       (sym (place-kept rows key presence old known)) ∙ none)) in
-      let ordinary : left.presence ≡ Ordinary = ap (λ (p : Key × Presence). p.1) (place-found rows key Ordinary old known) in
+      let ordinary : left.presence ≡ Ordinary = ap (λ (p : Key × Presence). p.1)
+      (place-found rows key Ordinary old known) in
       with_actual rows (put_row place_order place_of left first_table) valid room
       (AreActual-put_known rows.next left old first_table first
       (record { held = tt; suits = suits-ordinary left ordinary })
@@ -164,7 +172,10 @@ module _ (rows : Rows) (valid : IsValid rows) (room : rows.next < most_transitio
   pub IsValid-drop_aside : (aside : Option Actual) (instance : Instance)
       → IsValid (changed_by rows (drop_aside aside instance))
   IsValid-drop_aside aside instance =
-      let step = λ (old : Actual). cond (is_running_as old.state instance) (drop_row (row.Actual old)) (Refuse (stays_because old.state instance)) in
+      let step = λ (old : Actual). cond (is_running_as old.state instance) (drop_row (row.Actual old))
+      (Refuse (stays_because old.state instance)) in
       by_knowing Stays (λ why. valid) aside step (λ old known.
-      by_test Stays (λ why. valid) (is_running_as old.state instance) (drop_row (row.Actual old)) (Refuse (stays_because old.state instance))
-      (λ runs. with_actual rows (without_row place_order place_of (place_of old) rows.actual) valid room (AreActual-without rows.next (place_of old) rows.actual valid.actual)) (λ rests. valid))
+      by_test Stays (λ why. valid) (is_running_as old.state instance) (drop_row (row.Actual old))
+      (Refuse (stays_because old.state instance))
+      (λ runs. with_actual rows (without_row place_order place_of (place_of old) rows.actual) valid room
+      (AreActual-without rows.next (place_of old) rows.actual valid.actual)) (λ rests. valid))

@@ -40,7 +40,8 @@ next-edited_again rows (Some edit) = next-edited rows edit
 pub next-rows_after : (rows : Rows) (c : Command) → IsLegal rows c → (rows_after rows c).next ≡ rows.next + 1
 next-rows_after rows c legal =
     let change = legal_changes rows c legal in
-    let after : (rows_after rows c).next ≡ (changed_by rows (Change change.first change.second)).next = ap (λ (a : Attempt). (changed_by rows a).next) change.is in
+    let after : (rows_after rows c).next ≡ (changed_by rows (Change change.first change.second)).next =
+    ap (λ (a : Attempt). (changed_by rows a).next) change.is in
     omega (arith, after, next-edited_again (edited rows change.first) change.second, next-edited rows change.first)
 
 told-events_of : (rows : Rows) (c : Command) → IsLegal rows c → IsSome (events_of rows c)
@@ -58,11 +59,13 @@ chosen : {X : Type 0} (v : Verdict) (x y : X) → v ≡ Ok → if_legal v x y �
 chosen v x y is = ap (λ (w : Verdict). if_legal w x y) is
 
 -- what isn't legal asks for no change, but on a full board
-unmade : (next : ℕ) (rows : Rows) (attempt : Attempt) → judged next attempt ≢ Ok → judged next attempt ≢ Refused BoardFull → events_in rows attempt ≡ None
+unmade : (next : ℕ) (rows : Rows) (attempt : Attempt) → judged next attempt ≢ Ok
+    → judged next attempt ≢ Refused BoardFull → events_in rows attempt ≡ None
 unmade next rows (Refuse why) other full = refl
 unmade next rows Keep other full = refl
 unmade next rows (Change first second) other full =
-    elim (nat_le most_transitions next) as (λ b. cond b (Refused BoardFull) Ok ≢ Ok → cond b (Refused BoardFull) Ok ≢ Refused BoardFull → events_in rows (Change first second) ≡ None) [
+    elim (nat_le most_transitions next) as (λ b. cond b (Refused BoardFull) Ok ≢ Ok
+    → cond b (Refused BoardFull) Ok ≢ Refused BoardFull → events_in rows (Change first second) ≡ None) [
       | true ↦ λ h g. absurd (g refl)
       | false ↦ λ h g. absurd (h refl)
     ] other full
@@ -73,9 +76,11 @@ changes_where_legal rows c = record {
   silent = λ other. chosen_else (verdict_of rows c) (events_of rows c) None other;
   asks_nothing = unmade rows.next rows (attempt_of rows c);
   counted = λ legal.
-      let after : (state_after rows c).next ≡ (rows_after rows c).next = ap (λ (r : Rows). r.next) (chosen (verdict_of rows c) (rows_after rows c) rows legal) in
+      let after : (state_after rows c).next ≡ (rows_after rows c).next =
+      ap (λ (r : Rows). r.next) (chosen (verdict_of rows c) (rows_after rows c) rows legal) in
       omega (arith, after, next-rows_after rows c legal);
-  told = λ legal. subst (λ (e : Option Events). IsSome e) (sym (chosen (verdict_of rows c) (events_of rows c) None legal)) (told-events_of rows c legal);
+  told = λ legal. subst (λ (e : Option Events). IsSome e)
+      (sym (chosen (verdict_of rows c) (events_of rows c) None legal)) (told-events_of rows c legal);
 }
 
 -- replays
@@ -86,17 +91,20 @@ next-replay rows (c ∷ cs) legal =
 
 pub IsValid-replay : (rows : Rows) (cs : List Command) → IsValid rows → AreLegal rows cs → IsValid (replay rows cs)
 IsValid-replay rows [] valid legal = valid
-IsValid-replay rows (c ∷ cs) valid legal = IsValid-replay (rows_after rows c) cs (IsValid-rows_after rows c valid legal.0) legal.1
+IsValid-replay rows (c ∷ cs) valid legal = IsValid-replay (rows_after rows c) cs
+    (IsValid-rows_after rows c valid legal.0) legal.1
 
 pub replay-append : (rows : Rows) (xs ys : List Command) → replay rows (xs ++ ys) ≡ replay (replay rows xs) ys
 replay-append rows [] ys = refl
 replay-append rows (x ∷ xs) ys = replay-append (rows_after rows x) xs ys
 
-AreLegal-append : (rows : Rows) (xs ys : List Command) → AreLegal rows xs → AreLegal (replay rows xs) ys → AreLegal rows (xs ++ ys)
+AreLegal-append : (rows : Rows) (xs ys : List Command) → AreLegal rows xs → AreLegal (replay rows xs) ys
+    → AreLegal rows (xs ++ ys)
 AreLegal-append rows [] ys a b = b
 AreLegal-append rows (x ∷ xs) ys a b = (a.0, AreLegal-append (rows_after rows x) xs ys a.1 b)
 
-AreLegal-parts : (rows : Rows) (xs ys : List Command) → AreLegal rows (xs ++ ys) → AreLegal rows xs × AreLegal (replay rows xs) ys
+AreLegal-parts : (rows : Rows) (xs ys : List Command) → AreLegal rows (xs ++ ys)
+    → AreLegal rows xs × AreLegal (replay rows xs) ys
 AreLegal-parts rows [] ys h = (tt, h)
 AreLegal-parts rows (x ∷ xs) ys h =
     let rest = AreLegal-parts (rows_after rows x) xs ys h.1 in
@@ -116,7 +124,8 @@ step_legal : (rows : Rows) (c : Command) (cs : List Command) (v : Verdict) → v
     → ReplaysWhatWasLegal (if_legal v (rows_after rows c) rows) cs
     → let after = if_legal v (rows_after rows c) rows in
     let later = legal_ones after cs in
-    (state_after_all after cs ≡ replay rows (if_legal v (c ∷ later) later)) × AreLegal rows (if_legal v (c ∷ later) later)
+    (state_after_all after cs ≡ replay rows (if_legal v (c ∷ later) later))
+    × AreLegal rows (if_legal v (c ∷ later) later)
 step_legal rows c cs Ok is h = (h.replayed, (is, h.legal))
 step_legal rows c cs Same is h = (h.replayed, h.legal)
 step_legal rows c cs (Refused why) is h = (h.replayed, h.legal)

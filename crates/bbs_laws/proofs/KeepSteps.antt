@@ -45,13 +45,17 @@ module _ (P : Attempt → Type 0) (refused : (why : BoardRefusal) → P (Refuse 
   pub by_passing : (cs : Refusals) (attempt : Attempt) → (ArePassed cs → P attempt) → P (unless_refused cs attempt)
   by_passing [] attempt h = h tt
   by_passing (c ∷ cs) attempt h =
-      by_test c.0 (Refuse c.1) (unless_refused cs attempt) (λ e. refused c.1) (λ e. by_passing cs attempt (λ rest. h (e, rest)))
+      by_test c.0 (Refuse c.1) (unless_refused cs attempt) (λ e. refused c.1)
+      (λ e. by_passing cs attempt (λ rest. h (e, rest)))
 
-  pub by_knowing : {X : Type 0} (o : Option X) (attempt : X → Attempt) → ((x : X) → o ≡ Some x → P (attempt x)) → P (if_known o attempt)
+  pub by_knowing : {X : Type 0} (o : Option X) (attempt : X → Attempt) → ((x : X) → o ≡ Some x → P (attempt x))
+      → P (if_known o attempt)
   by_knowing None attempt h = refused Unknown
   by_knowing (Some x) attempt h = h x refl
 
-  pub by_joining : (o : Option CellRow) (epoch : ℕ) (attempt : CellRow → Attempt) → ((row : CellRow) → o ≡ Some row → row.epoch ≡ epoch → P (attempt row)) → P (if_joined o epoch attempt)
+  pub by_joining : (o : Option CellRow) (epoch : ℕ) (attempt : CellRow → Attempt)
+      → ((row : CellRow) → o ≡ Some row → row.epoch ≡ epoch → P (attempt row)) → P (if_joined o epoch attempt)
   by_joining None epoch attempt h = refused UnknownCell
   by_joining (Some row) epoch attempt h =
-      by_test (row.epoch == epoch) (attempt row) (Refuse (StaleEpoch row.epoch)) (λ e. h row refl (same_from row.epoch epoch e)) (λ e. refused (StaleEpoch row.epoch))
+      by_test (row.epoch == epoch) (attempt row) (Refuse (StaleEpoch row.epoch))
+      (λ e. h row refl (same_from row.epoch epoch e)) (λ e. refused (StaleEpoch row.epoch))

@@ -69,12 +69,18 @@ AreDesired-put row rows h fits room sum = record {
   wanted = sum;
 }
 
-pub AreDesired-without : (process : List ℕ) (rows : List Desired) → AreDesired rows → AreDesired (without_row name_order process_of process rows)
+pub AreDesired-without : (process : List ℕ) (rows : List Desired) → AreDesired rows
+    → AreDesired (without_row name_order process_of process rows)
 AreDesired-without process rows h = record {
   rising = IsRising-without_row name_order process_of process rows h.rising;
   few = few-without_row name_order process_of IsKeyOrder-name_order most_processes process rows h.rising h.few;
   each = each-without_row name_order process_of HasFewInstances process rows h.each;
-  wanted = omega (arith, h.wanted, sum_by-without_row name_order process_of IsKeyOrder-name_order (λ (d : Desired). d.instances) process rows h.rising);
+  wanted = omega (
+    arith,
+    h.wanted,
+    sum_by-without_row name_order process_of IsKeyOrder-name_order
+        (λ (d : Desired). d.instances) process rows h.rising,
+  );
 }
 
 -- actual rows
@@ -87,7 +93,8 @@ AreActual-put next row rows h fits room = record {
   each = each-put_row place_order place_of (IsActualRow next) row rows fits h.each;
 }
 
-pub AreActual-without : (next : ℕ) (place : Key × Presence) (rows : List Actual) → AreActual next rows → AreActual next (without_row place_order place_of place rows)
+pub AreActual-without : (next : ℕ) (place : Key × Presence) (rows : List Actual) → AreActual next rows
+    → AreActual next (without_row place_order place_of place rows)
 AreActual-without next place rows h = record {
   rising = IsRising-without_row place_order place_of place rows h.rising;
   few = few-without_row place_order place_of IsKeyOrder-place_order most_actual place rows h.rising h.few;
@@ -95,10 +102,12 @@ AreActual-without next place rows h = record {
 }
 
 -- tasks: a new one is born now, and one that is known keeps its birth
-born_before : (next : ℕ) (rows : List Task) → AllByRecursion (IsTaskRow next) rows → AllByRecursion (λ (t : Task). t.birth < next) rows
+born_before : (next : ℕ) (rows : List Task) → AllByRecursion (IsTaskRow next) rows
+    → AllByRecursion (λ (t : Task). t.birth < next) rows
 born_before next rows h = each_weaker (IsTaskRow next) (λ (t : Task). t.birth < next) (λ t is. is.born) rows h
 
-pub AreTasks-put_new : (next : ℕ) (row : Task) (rows : List Task) → AreTasks next rows → row.birth ≡ next → IsTaskRow (next + 1) row
+pub AreTasks-put_new : (next : ℕ) (row : Task) (rows : List Task) → AreTasks next rows → row.birth ≡ next
+    → IsTaskRow (next + 1) row
     → length rows < most_tasks → AreTasks (next + 1) (put_row name_order task_name_of row rows)
 AreTasks-put_new next row rows h born fits room =
     let later = AreTasks-longer next rows h in
@@ -107,7 +116,8 @@ AreTasks-put_new next row rows h born fits room =
       few = few-put_row name_order task_name_of IsKeyOrder-name_order most_tasks row rows h.rising h.few (λ _. room);
       each = each-put_row name_order task_name_of (IsTaskRow (next + 1)) row rows fits later.each;
       births = distinct-put_row_above name_order task_name_of (λ (t : Task). t.birth) row rows
-          (each_weaker (λ (t : Task). t.birth < next) (λ (t : Task). t.birth < row.birth) (λ t below. omega (arith, below, born)) rows (born_before next rows h.each)) h.births;
+          (each_weaker (λ (t : Task). t.birth < next) (λ (t : Task). t.birth < row.birth)
+          (λ t below. omega (arith, below, born)) rows (born_before next rows h.each)) h.births;
     }
 
 pub AreTasks-put_known : (next : ℕ) (row old : Task) (rows : List Task) → AreTasks next rows → IsTaskRow next row
@@ -117,10 +127,12 @@ AreTasks-put_known next row old rows h fits known same = record {
   rising = IsRising-put_row name_order task_name_of IsKeyOrder-name_order row rows h.rising;
   few = few-put_row name_order task_name_of IsKeyOrder-name_order most_tasks row rows h.rising h.few (λ none. cc);
   each = each-put_row name_order task_name_of (IsTaskRow next) row rows fits h.each;
-  births = distinct-put_row_known name_order task_name_of (λ (t : Task). t.birth) IsKeyOrder-name_order row old rows h.rising known same h.births;
+  births = distinct-put_row_known name_order task_name_of
+      (λ (t : Task). t.birth) IsKeyOrder-name_order row old rows h.rising known same h.births;
 }
 
-pub AreTasks-without : (next : ℕ) (name : List ℕ) (rows : List Task) → AreTasks next rows → AreTasks next (without_row name_order task_name_of name rows)
+pub AreTasks-without : (next : ℕ) (name : List ℕ) (rows : List Task) → AreTasks next rows
+    → AreTasks next (without_row name_order task_name_of name rows)
 AreTasks-without next name rows h = record {
   rising = IsRising-without_row name_order task_name_of name rows h.rising;
   few = few-without_row name_order task_name_of IsKeyOrder-name_order most_tasks name rows h.rising h.few;
@@ -139,7 +151,8 @@ AreCells-put_new next row rows h joined room =
       few = few-put_row name_order cell_name_of IsKeyOrder-name_order most_cells row rows h.rising h.few room;
       each = each-put_row name_order cell_name_of (HasJoined (next + 1)) row rows (omega (arith, joined)) later.each;
       epochs = distinct-put_row_above name_order cell_name_of (λ (c : CellRow). c.epoch) row rows
-          (each_weaker (HasJoined next) (λ (c : CellRow). c.epoch < row.epoch) (λ c before. omega (arith, before, joined)) rows h.each) h.epochs;
+          (each_weaker (HasJoined next) (λ (c : CellRow). c.epoch < row.epoch)
+          (λ c before. omega (arith, before, joined)) rows h.each) h.epochs;
     }
 
 pub AreCells-put_known : (next : ℕ) (row old : CellRow) (rows : List CellRow) → AreCells next rows → HasJoined next row
@@ -149,10 +162,12 @@ AreCells-put_known next row old rows h fits known same = record {
   rising = IsRising-put_row name_order cell_name_of IsKeyOrder-name_order row rows h.rising;
   few = few-put_row name_order cell_name_of IsKeyOrder-name_order most_cells row rows h.rising h.few (λ none. cc);
   each = each-put_row name_order cell_name_of (HasJoined next) row rows fits h.each;
-  epochs = distinct-put_row_known name_order cell_name_of (λ (c : CellRow). c.epoch) IsKeyOrder-name_order row old rows h.rising known same h.epochs;
+  epochs = distinct-put_row_known name_order cell_name_of
+      (λ (c : CellRow). c.epoch) IsKeyOrder-name_order row old rows h.rising known same h.epochs;
 }
 
-pub AreCells-without : (next : ℕ) (cell : List ℕ) (rows : List CellRow) → AreCells next rows → AreCells next (without_row name_order cell_name_of cell rows)
+pub AreCells-without : (next : ℕ) (cell : List ℕ) (rows : List CellRow) → AreCells next rows
+    → AreCells next (without_row name_order cell_name_of cell rows)
 AreCells-without next cell rows h = record {
   rising = IsRising-without_row name_order cell_name_of cell rows h.rising;
   few = few-without_row name_order cell_name_of IsKeyOrder-name_order most_cells cell rows h.rising h.few;

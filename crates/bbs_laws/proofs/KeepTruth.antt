@@ -48,14 +48,20 @@ Stands-advanced rows (row.Domain d) h = h
 
 -- nothing stands where a row was taken away
 free-without : (rows : Rows) (r : Row) → has_place_of (advanced (without_place_of rows r)) r ≡ false
-free-without rows (row.Desired d) = ap (λ o. is_some o) (find_row-without_row_same name_order process_of IsKeyOrder-name_order d.process rows.desired)
-free-without rows (row.Actual a) = ap (λ o. is_some o) (find_row-without_row_same place_order place_of IsKeyOrder-place_order (place_of a) rows.actual)
-free-without rows (row.Task t) = ap (λ o. is_some o) (find_row-without_row_same name_order task_name_of IsKeyOrder-name_order t.name rows.tasks)
-free-without rows (row.Cell c) = ap (λ o. is_some o) (find_row-without_row_same name_order cell_name_of IsKeyOrder-name_order c.cell rows.cells)
+free-without rows (row.Desired d) = ap (λ o. is_some o)
+    (find_row-without_row_same name_order process_of IsKeyOrder-name_order d.process rows.desired)
+free-without rows (row.Actual a) = ap (λ o. is_some o)
+    (find_row-without_row_same place_order place_of IsKeyOrder-place_order (place_of a) rows.actual)
+free-without rows (row.Task t) = ap (λ o. is_some o) (find_row-without_row_same name_order task_name_of
+    IsKeyOrder-name_order t.name rows.tasks)
+free-without rows (row.Cell c) = ap (λ o. is_some o) (find_row-without_row_same name_order cell_name_of
+    IsKeyOrder-name_order c.cell rows.cells)
 free-without rows (row.Domain d) =
-    ap (λ o. is_some o) (find_row-without_row_same name_order domain_name_of IsKeyOrder-name_order d.domain rows.domains)
+    ap (λ o. is_some o) (find_row-without_row_same name_order domain_name_of IsKeyOrder-name_order d.domain
+    rows.domains)
 
-says-put : (test : Bool) (r : Row) (old new : Rows) → has_place_of old r ≡ test → StandsIn new r → SaysSo (cond test Changed Created) r old new
+says-put : (test : Bool) (r : Row) (old new : Rows) → has_place_of old r ≡ test → StandsIn new r
+    → SaysSo (cond test Changed Created) r old new
 says-put true r old new place stands = (place, stands)
 says-put false r old new place stands = (place, stands)
 
@@ -67,7 +73,8 @@ module _ (rows : Rows) (now : Moment) where
   told-put : (r : Row) → IsTold (put r)
   told-put r = record {
     between = advanced (with_row rows r);
-    first = says-put (has_place_of rows r) r rows (advanced (with_row rows r)) refl (Stands-advanced (with_row rows r) r (Stands-with_row rows r));
+    first = says-put (has_place_of rows r) r rows (advanced (with_row rows r)) refl
+        (Stands-advanced (with_row rows r) r (Stands-with_row rows r));
     second = tt;
     alone = λ e. refl;
   }
@@ -86,9 +93,11 @@ module _ (rows : Rows) (now : Moment) where
   told-moved_to old end.Same stands = tt
   told-moved_to old (end.Refused why) stands = tt
 
-  told-moved : (asked : Op) (old : Task) (move : TaskMove) → (found_by rows asked).task ≡ Some old → IsTold (task_moved_to old (task_move old move now))
+  told-moved : (asked : Op) (old : Task) (move : TaskMove) → (found_by rows asked).task ≡ Some old
+      → IsTold (task_moved_to old (task_move old move now))
   told-moved asked old move known =
-      told-moved_to old (task_move old move now) (there name_order task_name_of IsKeyOrder-name_order rows.tasks (task_in asked) old known)
+      told-moved_to old (task_move old move now) (there name_order task_name_of IsKeyOrder-name_order rows.tasks
+      (task_in asked) old known)
 
   told-attempt : (asked : Op) → IsTold (attempt_at (found_by rows asked) now asked)
   told-attempt = each-attempt rows now (λ asked attempt. IsTold attempt) (λ asked why. tt) (λ asked. tt)
@@ -101,13 +110,19 @@ module _ (rows : Rows) (now : Moment) where
       record {
         between = between;
         first = says-put (has_place_of rows kept) kept rows between refl (Stands-with_row rows kept);
-        second = says-put (has_place_of between left) left between (advanced (with_row between left)) refl (Stands-advanced (with_row between left) left (Stands-with_row between left));
+        second = says-put (has_place_of between left) left between (advanced (with_row between left)) refl
+            (Stands-advanced (with_row between left) left (Stands-with_row between left));
         alone = λ e. cc;
       }))
-      (λ name memory disk tag. by_passing IsTold (λ why. tt) (new_task_refusals (found_by rows (op.NewTask name memory disk tag))) _ (λ passed. told-put _))
-      (λ asked move. by_knowing IsTold (λ why. tt) (found_by rows asked).task (λ old. task_moved_to old (task_move old move now)) (λ old known. told-moved asked old move known))
-      (λ asked epoch move. by_knowing IsTold (λ why. tt) (found_by rows asked).task (λ old. if_joined (found_by rows asked).cell epoch (λ c. task_moved_to old (task_move old move now))) (λ old known.
-      by_joining IsTold (λ why. tt) (found_by rows asked).cell epoch (λ c. task_moved_to old (task_move old move now)) (λ c joined same. told-moved asked old move known)))
+      (λ name memory disk tag. by_passing IsTold (λ why. tt)
+      (new_task_refusals (found_by rows (op.NewTask name memory disk tag))) _ (λ passed. told-put _))
+      (λ asked move. by_knowing IsTold (λ why. tt) (found_by rows asked).task
+      (λ old. task_moved_to old (task_move old move now)) (λ old known. told-moved asked old move known))
+      (λ asked epoch move. by_knowing IsTold (λ why. tt) (found_by rows asked).task
+      (λ old. if_joined (found_by rows asked).cell epoch (λ c. task_moved_to old (task_move old move now)))
+      (λ old known.
+      by_joining IsTold (λ why. tt) (found_by rows asked).cell epoch (λ c. task_moved_to old (task_move old move now))
+      (λ c joined same. told-moved asked old move known)))
 
 pub tells_truth : (rows : Rows) (c : Command) → TellsTruth rows c
 tells_truth rows c = told-attempt rows c.now c.op

@@ -74,20 +74,27 @@ IsOfFound found (row.Domain d) = found.domain ≡ Some d
 
 -- where refusals, Keep, and a put or a removal of such rows have it, each of these kinds has it
 module _ (P : Attempt → Type 0) (refused : (why : BoardRefusal) → P (Refuse why)) (kept : P Keep)
-    (puts : (r : Row) → IsNoTask r → P (put r)) (found : Found) (drops : (r : Row) → IsOfFound found r → P (drop_row r)) where
+    (puts : (r : Row) → IsNoTask r → P (put r)) (found : Found)
+    (drops : (r : Row) → IsOfFound found r → P (drop_row r)) where
   pub each-desire : (d : Desired) → P (desire found d)
-  each-desire d = by_passing P refused (desire_refusals found d) (put (row.Desired d)) (λ passed. puts (row.Desired d) tt)
+  each-desire d = by_passing P refused (desire_refusals found d) (put (row.Desired d))
+      (λ passed. puts (row.Desired d) tt)
 
   pub each-update : (instances : ℕ) (route : Option (List ℕ)) (port : ℕ) → P (update found instances route port)
   each-update instances route port =
-      let changed = λ (old : Desired). let new : Desired = record old { instances = instances; route = route; port = port } in new in
-      let resized = λ (old : Desired). unless_refused (resize_refusals found old instances) (put (row.Desired (changed old))) in
-      by_knowing P refused found.desired (λ old. cond (asks_for old instances route port) Keep (resized old)) (λ old known.
+      let changed = λ (old : Desired). let new : Desired =
+      record old { instances = instances; route = route; port = port } in new in
+      let resized = λ (old : Desired). unless_refused (resize_refusals found old instances)
+      (put (row.Desired (changed old))) in
+      by_knowing P refused found.desired (λ old. cond (asks_for old instances route port) Keep (resized old))
+      (λ old known.
       by_test P refused (asks_for old instances route port) Keep (resized old) (λ asked. kept) (λ other.
-      by_passing P refused (resize_refusals found old instances) (put (row.Desired (changed old))) (λ passed. puts (row.Desired (changed old)) tt)))
+      by_passing P refused (resize_refusals found old instances) (put (row.Desired (changed old)))
+      (λ passed. puts (row.Desired (changed old)) tt)))
 
   pub each-undesire : P (undesire found)
-  each-undesire = by_knowing P refused found.desired (λ d. drop_row (row.Desired d)) (λ d known. drops (row.Desired d) known)
+  each-undesire = by_knowing P refused found.desired (λ d. drop_row (row.Desired d))
+      (λ d known. drops (row.Desired d) known)
 
   pub each-make : (key : Key) (now : Moment) → P (make found key now)
   each-make key now =
@@ -102,20 +109,25 @@ module _ (P : Attempt → Type 0) (refused : (why : BoardRefusal) → P (Refuse 
 
   pub each-move_lrp : (move : LrpMove) (now : Moment) → P (move_lrp found move now)
   each-move_lrp move now =
-      by_knowing P refused found.ordinary (λ old. moved_to old (lrp_move old move now)) (λ old known. each-moved_to old (lrp_move old move now) known)
+      by_knowing P refused found.ordinary (λ old. moved_to old (lrp_move old move now))
+      (λ old known. each-moved_to old (lrp_move old move now) known)
 
   pub each-move_lrp_by_cell : (epoch : ℕ) (move : LrpMove) (now : Moment) → P (move_lrp_by_cell found epoch move now)
   each-move_lrp_by_cell epoch move now =
-      by_knowing P refused found.ordinary (λ old. if_joined found.cell epoch (λ c. moved_to old (lrp_move old move now))) (λ old known.
-      by_joining P refused found.cell epoch (λ c. moved_to old (lrp_move old move now)) (λ c joined same. each-moved_to old (lrp_move old move now) known))
+      by_knowing P refused found.ordinary (λ old. if_joined found.cell epoch
+      (λ c. moved_to old (lrp_move old move now))) (λ old known.
+      by_joining P refused found.cell epoch (λ c. moved_to old (lrp_move old move now))
+      (λ c joined same. each-moved_to old (lrp_move old move now) known))
 
   pub each-drop_aside : (aside : Option Actual) → ((old : Actual) → aside ≡ Some old → IsOfFound found (row.Actual old))
       → (instance : Instance)
       → P (drop_aside aside instance)
   each-drop_aside aside is_found instance =
-      let step = λ (old : Actual). cond (is_running_as old.state instance) (drop_row (row.Actual old)) (Refuse (stays_because old.state instance)) in
+      let step = λ (old : Actual). cond (is_running_as old.state instance) (drop_row (row.Actual old))
+      (Refuse (stays_because old.state instance)) in
       by_knowing P refused aside step (λ old known.
-      by_test P refused (is_running_as old.state instance) (drop_row (row.Actual old)) (Refuse (stays_because old.state instance))
+      by_test P refused (is_running_as old.state instance) (drop_row (row.Actual old))
+      (Refuse (stays_because old.state instance))
       (λ runs. drops (row.Actual old) (is_found old known)) (λ rests. refused (stays_because old.state instance)))
 
   pub each-join : (new : CellRow) → P (unless_refused (join_refusals found) (put (row.Cell new)))
@@ -124,19 +136,24 @@ module _ (P : Attempt → Type 0) (refused : (why : BoardRefusal) → P (Refuse 
   pub each-renew : (epoch ttl : ℕ) (now : Moment) → P (renew found epoch ttl now)
   each-renew epoch ttl now =
       let new = λ (old : CellRow). let row : CellRow = record old { until = now.0 + ttl } in row in
-      by_joining P refused found.cell epoch (λ old. cond (old.until == now.0 + ttl) Keep (put (row.Cell (new old)))) (λ old known same.
-      by_test P refused (old.until == now.0 + ttl) Keep (put (row.Cell (new old))) (λ is. kept) (λ other. puts (row.Cell (new old)) tt))
+      by_joining P refused found.cell epoch (λ old. cond (old.until == now.0 + ttl) Keep (put (row.Cell (new old))))
+      (λ old known same.
+      by_test P refused (old.until == now.0 + ttl) Keep (put (row.Cell (new old))) (λ is. kept)
+      (λ other. puts (row.Cell (new old)) tt))
 
   pub each-drain : (epoch : ℕ) → P (drain found epoch)
   each-drain epoch =
       let new = λ (old : CellRow). let row : CellRow = record old { evacuating = true } in row in
-      by_joining P refused found.cell epoch (λ old. cond old.evacuating Keep (put (row.Cell (new old)))) (λ old known same.
-      by_test P refused old.evacuating Keep (put (row.Cell (new old))) (λ is. kept) (λ other. puts (row.Cell (new old)) tt))
+      by_joining P refused found.cell epoch (λ old. cond old.evacuating Keep (put (row.Cell (new old))))
+      (λ old known same.
+      by_test P refused old.evacuating Keep (put (row.Cell (new old))) (λ is. kept)
+      (λ other. puts (row.Cell (new old)) tt))
 
   vanish_of : (old : Option CellRow) (now : Moment) → found.cell ≡ old → P (vanish old now)
   vanish_of None now known = refused why.UnknownCell
   vanish_of (Some old) now known =
-      by_test P refused (nat_lt now.0 old.until) (Refuse (why.LeaseHolds old.until)) (drop_row (row.Cell old)) (λ holds. refused (why.LeaseHolds old.until)) (λ ended. drops (row.Cell old) known)
+      by_test P refused (nat_lt now.0 old.until) (Refuse (why.LeaseHolds old.until)) (drop_row (row.Cell old))
+      (λ holds. refused (why.LeaseHolds old.until)) (λ ended. drops (row.Cell old) known)
 
   pub each-vanish : (now : Moment) → P (vanish found.cell now)
   each-vanish now = vanish_of found.cell now refl
@@ -162,29 +179,45 @@ module _ (P : Attempt → Type 0) (refused : (why : BoardRefusal) → P (Refuse 
       (λ still. refused (why.LeaseHolds (told_end old.until))) (λ ended. drops (row.Domain old) known))
 
 -- and so has each command, if those that keep an instance aside and the kinds of tasks have it
-module _ (rows : Rows) (now : Moment) (M : Op → Attempt → Type 0) (refused : (asked : Op) (why : BoardRefusal) → M asked (Refuse why)) (kept : (asked : Op) → M asked Keep)
-    (puts : (asked : Op) (r : Row) → IsNoTask r → M asked (put r)) (drops : (asked : Op) (r : Row) → IsOfFound (found_by rows asked) r → M asked (drop_row r))
+module _ (rows : Rows) (now : Moment) (M : Op → Attempt → Type 0)
+    (refused : (asked : Op) (why : BoardRefusal) → M asked (Refuse why)) (kept : (asked : Op) → M asked Keep)
+    (puts : (asked : Op) (r : Row) → IsNoTask r → M asked (put r))
+    (drops : (asked : Op) (r : Row) → IsOfFound (found_by rows asked) r → M asked (drop_row r))
     (sets_aside : (asked : Op) (place : Key × Presence) → aside_in asked ≡ Some place → (aside : Option Actual)
     (refusals : Refusals) (instance : Instance)
     → M asked (keeps_aside place.1 aside refusals (found_by rows asked) instance now))
-    (begins : (name : List ℕ) (memory disk : ℕ) (tag : Option (List ℕ)) → let asked = op.NewTask name memory disk tag in M asked (new_task (found_by rows asked) name memory disk tag now))
+    (begins : (name : List ℕ) (memory disk : ℕ) (tag : Option (List ℕ))
+    → let asked = op.NewTask name memory disk tag in M asked
+    (new_task (found_by rows asked) name memory disk tag now))
     (moves : (asked : Op) (move : TaskMove) → M asked (move_task (found_by rows asked) move now))
-    (moves_by_cell : (asked : Op) (epoch : ℕ) (move : TaskMove) → M asked (move_task_by_cell (found_by rows asked) epoch move now)) where
+    (moves_by_cell : (asked : Op) (epoch : ℕ) (move : TaskMove)
+    → M asked (move_task_by_cell (found_by rows asked) epoch move now)) where
   pub each-attempt : (asked : Op) → M asked (attempt_at (found_by rows asked) now asked)
-  each-attempt (op.Desire desired) = let a = op.Desire desired in each-desire (M a) (refused a) (kept a) (puts a) (found_by rows a) (drops a) desired
+  each-attempt (op.Desire desired) = let a = op.Desire desired in
+      each-desire (M a) (refused a) (kept a) (puts a) (found_by rows a) (drops a) desired
   each-attempt (op.Update process instances route port) =
-      let a = op.Update process instances route port in each-update (M a) (refused a) (kept a) (puts a) (found_by rows a) (drops a) instances route port
-  each-attempt (op.Undesire process) = let a = op.Undesire process in each-undesire (M a) (refused a) (kept a) (puts a) (found_by rows a) (drops a)
-  each-attempt (op.Make key) = let a = op.Make key in each-make (M a) (refused a) (kept a) (puts a) (found_by rows a) (drops a) key now
+      let a = op.Update process instances route port in each-update (M a) (refused a) (kept a) (puts a)
+      (found_by rows a) (drops a) instances route port
+  each-attempt (op.Undesire process) = let a = op.Undesire process in
+      each-undesire (M a) (refused a) (kept a) (puts a) (found_by rows a) (drops a)
+  each-attempt (op.Make key) = let a = op.Make key in each-make (M a) (refused a) (kept a) (puts a) (found_by rows a)
+      (drops a) key now
   each-attempt (op.Claim key instance cell) =
-      let a = op.Claim key instance cell in each-move_lrp_by_cell (M a) (refused a) (kept a) (puts a) (found_by rows a) (drops a) instance.epoch (lrp.Claim instance cell) now
+      let a = op.Claim key instance cell in each-move_lrp_by_cell (M a) (refused a) (kept a) (puts a) (found_by rows a)
+      (drops a) instance.epoch (lrp.Claim instance cell) now
   each-attempt (op.Start key instance cell) =
-      let a = op.Start key instance cell in each-move_lrp_by_cell (M a) (refused a) (kept a) (puts a) (found_by rows a) (drops a) instance.epoch (lrp.Start instance cell) now
-  each-attempt (op.Crash key instance) = let a = op.Crash key instance in each-move_lrp (M a) (refused a) (kept a) (puts a) (found_by rows a) (drops a) (lrp.Crash instance) now
-  each-attempt (op.Unclaim key instance) = let a = op.Unclaim key instance in each-move_lrp (M a) (refused a) (kept a) (puts a) (found_by rows a) (drops a) (lrp.Unclaim instance) now
-  each-attempt (op.Restart key) = let a = op.Restart key in each-move_lrp (M a) (refused a) (kept a) (puts a) (found_by rows a) (drops a) lrp.Restart now
-  each-attempt (op.Remove key instance) = let a = op.Remove key instance in each-move_lrp (M a) (refused a) (kept a) (puts a) (found_by rows a) (drops a) (lrp.Remove instance) now
-  each-attempt (op.PlaceFail key) = let a = op.PlaceFail key in each-move_lrp (M a) (refused a) (kept a) (puts a) (found_by rows a) (drops a) lrp.PlaceFail now
+      let a = op.Start key instance cell in each-move_lrp_by_cell (M a) (refused a) (kept a) (puts a) (found_by rows a)
+      (drops a) instance.epoch (lrp.Start instance cell) now
+  each-attempt (op.Crash key instance) = let a = op.Crash key instance in
+      each-move_lrp (M a) (refused a) (kept a) (puts a) (found_by rows a) (drops a) (lrp.Crash instance) now
+  each-attempt (op.Unclaim key instance) = let a = op.Unclaim key instance in
+      each-move_lrp (M a) (refused a) (kept a) (puts a) (found_by rows a) (drops a) (lrp.Unclaim instance) now
+  each-attempt (op.Restart key) = let a = op.Restart key in
+      each-move_lrp (M a) (refused a) (kept a) (puts a) (found_by rows a) (drops a) lrp.Restart now
+  each-attempt (op.Remove key instance) = let a = op.Remove key instance in
+      each-move_lrp (M a) (refused a) (kept a) (puts a) (found_by rows a) (drops a) (lrp.Remove instance) now
+  each-attempt (op.PlaceFail key) = let a = op.PlaceFail key in
+      each-move_lrp (M a) (refused a) (kept a) (puts a) (found_by rows a) (drops a) lrp.PlaceFail now
   each-attempt (op.Evacuate key instance) =
       let f = found_by rows (op.Evacuate key instance) in
       sets_aside (op.Evacuate key instance) (key, Evacuating) refl f.evacuating (aside_refusals f.evacuating f) instance
@@ -193,18 +226,24 @@ module _ (rows : Rows) (now : Moment) (M : Op → Attempt → Type 0) (refused :
       each-drop_aside (M a) (refused a) (kept a) (puts a) (found_by rows a) (drops a) (found_by rows a).evacuating
       (λ old known. inr (inl known)) instance
   each-attempt (op.NewTask name memory disk tag) = begins name memory disk tag
-  each-attempt (op.StartTask name instance cell) = moves_by_cell (op.StartTask name instance cell) instance.epoch (task.Start instance cell)
-  each-attempt (op.CompleteTask name instance failed) = moves (op.CompleteTask name instance failed) (task.Complete instance failed)
+  each-attempt (op.StartTask name instance cell) = moves_by_cell (op.StartTask name instance cell) instance.epoch
+      (task.Start instance cell)
+  each-attempt (op.CompleteTask name instance failed) = moves (op.CompleteTask name instance failed)
+      (task.Complete instance failed)
   each-attempt (op.CancelTask name) = moves (op.CancelTask name) task.Cancel
   each-attempt (op.ResolveTask name) = moves (op.ResolveTask name) task.Resolve
   each-attempt (op.DeleteTask name) = moves (op.DeleteTask name) task.Delete
   each-attempt (op.KickTask name) = moves (op.KickTask name) task.Kick
   each-attempt (op.ExpireTask name) = moves (op.ExpireTask name) task.Expire
   each-attempt (op.Join cell zone tag totals ttl) =
-      let a = op.Join cell zone tag totals ttl in each-join (M a) (refused a) (kept a) (puts a) (found_by rows a) (drops a) _
-  each-attempt (op.Renew cell epoch ttl) = let a = op.Renew cell epoch ttl in each-renew (M a) (refused a) (kept a) (puts a) (found_by rows a) (drops a) epoch ttl now
-  each-attempt (op.Drain cell epoch) = let a = op.Drain cell epoch in each-drain (M a) (refused a) (kept a) (puts a) (found_by rows a) (drops a) epoch
-  each-attempt (op.Vanish cell) = let a = op.Vanish cell in each-vanish (M a) (refused a) (kept a) (puts a) (found_by rows a) (drops a) now
+      let a = op.Join cell zone tag totals ttl in each-join (M a) (refused a) (kept a) (puts a) (found_by rows a)
+      (drops a) _
+  each-attempt (op.Renew cell epoch ttl) = let a = op.Renew cell epoch ttl in
+      each-renew (M a) (refused a) (kept a) (puts a) (found_by rows a) (drops a) epoch ttl now
+  each-attempt (op.Drain cell epoch) = let a = op.Drain cell epoch in
+      each-drain (M a) (refused a) (kept a) (puts a) (found_by rows a) (drops a) epoch
+  each-attempt (op.Vanish cell) = let a = op.Vanish cell in
+      each-vanish (M a) (refused a) (kept a) (puts a) (found_by rows a) (drops a) now
   each-attempt (op.Fresh domain ttl) = let a = op.Fresh domain ttl in each-fresh (M a) (refused a) (kept a) (puts a)
       (found_by rows a) (drops a) domain ttl now
   each-attempt (op.Forget domain) = let a = op.Forget domain in each-forget (M a) (refused a) (kept a) (puts a)

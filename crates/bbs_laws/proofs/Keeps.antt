@@ -48,7 +48,13 @@ pub changes : (next : ℕ) (attempt : Attempt) → judged next attempt ≡ verdi
 changes next (Refuse why) h = cc
 changes next Keep h = cc
 changes next (Change first second) h =
-    record { first = first; second = second; is = refl; room = below_from most_transitions next (tested (nat_le most_transitions next) h) }
+    record {
+      first = first;
+      second = second;
+      is = refl;
+      room =
+          below_from most_transitions next (tested (nat_le most_transitions next) h);
+    }
 
 pub legal_changes : (rows : Rows) (c : Command) → IsLegal rows c → Changes rows.next (attempt_of rows c)
 legal_changes rows c legal = changes rows.next (attempt_of rows c) legal
@@ -56,7 +62,8 @@ legal_changes rows c legal = changes rows.next (attempt_of rows c) legal
 module _ (rows : Rows) (valid : IsValid rows) (room : rows.next < most_transitions) (now : Moment) where
   pub IsValid-attempt_at : (asked : Op) → IsValid (changed_by rows (attempt_at (found_by rows asked) now asked))
   IsValid-attempt_at (op.Desire desired) = IsValid-desire rows valid room desired
-  IsValid-attempt_at (op.Update process instances route port) = IsValid-update rows valid room process instances route port
+  IsValid-attempt_at (op.Update process instances route port) =
+      IsValid-update rows valid room process instances route port
   IsValid-attempt_at (op.Undesire process) = IsValid-undesire rows valid room process
   IsValid-attempt_at (op.Make key) = IsValid-make rows valid room key now
   IsValid-attempt_at (op.Claim key instance cell) =
@@ -74,7 +81,8 @@ module _ (rows : Rows) (valid : IsValid rows) (room : rows.next < most_transitio
   IsValid-attempt_at (op.NewTask name memory disk tag) = IsValid-new_task rows valid room name memory disk tag now
   IsValid-attempt_at (op.StartTask name instance cell) =
       IsValid-move_task_by_cell rows valid room name instance cell (task.Start instance cell) now (λ before. before)
-  IsValid-attempt_at (op.CompleteTask name instance failed) = IsValid-move_task rows valid room name (task.Complete instance failed) now tt
+  IsValid-attempt_at (op.CompleteTask name instance failed) =
+      IsValid-move_task rows valid room name (task.Complete instance failed) now tt
   IsValid-attempt_at (op.CancelTask name) = IsValid-move_task rows valid room name task.Cancel now tt
   IsValid-attempt_at (op.ResolveTask name) = IsValid-move_task rows valid room name task.Resolve now tt
   IsValid-attempt_at (op.DeleteTask name) = IsValid-move_task rows valid room name task.Delete now tt
@@ -114,15 +122,23 @@ module _ (rows : Rows) (valid : IsValid rows) (now : Moment) where
       (λ asked r is after. after.desired.wanted) (λ asked r is after. after.desired.wanted)
       (λ asked place is aside refusals instance. each-keeps_aside FitsAtOnce (λ why after. tt) (λ after. tt) place.1
       aside refusals (found_by rows asked) instance now (λ old known runs passed after. valid.desired.wanted))
-      (λ name memory disk tag. by_passing FitsAtOnce (λ why after. tt) (new_task_refusals (found_by rows (op.NewTask name memory disk tag))) _ (λ passed after. after.desired.wanted))
-      (λ asked move. by_knowing FitsAtOnce (λ why after. tt) (found_by rows asked).task (λ old. task_moved_to old (task_move old move now)) (λ old known. fits-moved_to old (task_move old move now)))
-      (λ asked epoch move. by_knowing FitsAtOnce (λ why after. tt) (found_by rows asked).task (λ old. if_joined (found_by rows asked).cell epoch (λ c. task_moved_to old (task_move old move now))) (λ old known.
-      by_joining FitsAtOnce (λ why after. tt) (found_by rows asked).cell epoch (λ c. task_moved_to old (task_move old move now)) (λ c joined same. fits-moved_to old (task_move old move now))))
+      (λ name memory disk tag. by_passing FitsAtOnce (λ why after. tt)
+      (new_task_refusals (found_by rows (op.NewTask name memory disk tag))) _
+      (λ passed after. after.desired.wanted))
+      (λ asked move. by_knowing FitsAtOnce (λ why after. tt) (found_by rows asked).task
+      (λ old. task_moved_to old (task_move old move now)) (λ old known. fits-moved_to old (task_move old move now)))
+      (λ asked epoch move. by_knowing FitsAtOnce (λ why after. tt) (found_by rows asked).task
+      (λ old. if_joined (found_by rows asked).cell epoch (λ c. task_moved_to old (task_move old move now)))
+      (λ old known.
+      by_joining FitsAtOnce (λ why after. tt) (found_by rows asked).cell epoch
+      (λ c. task_moved_to old (task_move old move now)) (λ c joined same.
+      fits-moved_to old (task_move old move now))))
 
 pub wanted-first : (rows : Rows) (c : Command) → IsValid rows → IsLegal rows c → (first : Edit) (second : Option Edit)
     → attempt_of rows c ≡ Change first second → wanted (edited rows first) ≤ most_wanted
 wanted-first rows c valid legal first second is =
-    subst (λ (a : Attempt). FirstFits rows valid c.now a) is (fits-attempt rows valid c.now c.op (IsValid-rows_after rows c valid legal))
+    subst (λ (a : Attempt). FirstFits rows valid c.now a) is
+    (fits-attempt rows valid c.now c.op (IsValid-rows_after rows c valid legal))
 
 pub keeps_valid : (rows : Rows) (c : Command) → KeepsValid rows c
 keeps_valid rows c = record { valid = IsValid-rows_after rows c; fits = wanted-first rows c }

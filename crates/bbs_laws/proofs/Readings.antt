@@ -17,12 +17,14 @@ pub length-told_in : (base : Rows) (log : List Item) → length (told_in base lo
 length-told_in base [] = refl
 length-told_in base (i ∷ is) = let rest = length-told_in (after_item base i) is in omega (arith, rest)
 
-pub told_in-append : (base : Rows) (xs ys : List Item) → told_in base (xs ++ ys) ≡ told_in base xs ++ told_in (replay_log base xs) ys
+pub told_in-append : (base : Rows) (xs ys : List Item)
+    → told_in base (xs ++ ys) ≡ told_in base xs ++ told_in (replay_log base xs) ys
 told_in-append base [] ys = refl
 told_in-append base (x ∷ xs) ys = ap (λ ts. told_by base x ∷ ts) (told_in-append (after_item base x) xs ys)
 
 -- an item more
-pub told_in-one_more : (base : Rows) (log : List Item) (i : Item) → told_in base (log ++ i ∷ []) ≡ told_in base log ++ told_by (replay_log base log) i ∷ []
+pub told_in-one_more : (base : Rows) (log : List Item) (i : Item)
+    → told_in base (log ++ i ∷ []) ≡ told_in base log ++ told_by (replay_log base log) i ∷ []
 told_in-one_more base log i = told_in-append base log (i ∷ [])
 
 -- the first ones and those after them are the first ones of both numbers
@@ -35,7 +37,8 @@ taken n m xs =
 pub hears_on : (base : Rows) (log : List Item) (from n m : ℕ) → HearsOn base log from n m
 hears_on base log from n m =
     let told = told_in base log in
-    ap (λ ts. flat_map each_event (take n (drop from told)) ++ flat_map each_event (take m ts)) (sym (drop-drop n from told))
+    ap (λ ts. flat_map each_event (take n (drop from told)) ++ flat_map each_event (take m ts))
+    (sym (drop-drop n from told))
     ∙ sym (flat_map-append each_event (take n (drop from told)) (take m (drop n (drop from told))))
     ∙ ap (flat_map each_event) (taken n m (drop from told))
 
@@ -46,10 +49,12 @@ hears_the_same base log more from n within =
     let count = length-told_in base log in
     ap (λ ts. flat_map each_event (take n (drop from ts))) (told_in-append base log more)
     ∙ ap (λ ts. flat_map each_event (take n ts)) (drop-append-le from told after (omega (arith, count, within)))
-    ∙ ap (flat_map each_event) (take-append-le n (drop from told) after (omega (arith, count, within, length-drop from told)))
+    ∙ ap (flat_map each_event) (take-append-le n (drop from told) after
+    (omega (arith, count, within, length-drop from told)))
 
 -- what is heard where it is kept what each item told
-pub heard_of_told : (base : Rows) (log : List Item) (told : List (Option Events)) (from max : ℕ) (r : Result Heard OutOfMemory) → told ≡ told_in base log
+pub heard_of_told : (base : Rows) (log : List Item) (told : List (Option Events)) (from max : ℕ)
+    (r : Result Heard OutOfMemory) → told ≡ told_in base log
     → IfOk r (λ (h : Heard). h.events ≡ flat_map each_event (take max (drop from told)))
     → IfOk r (λ (h : Heard). h.upto ≡ from + min max (length told - from))
     → IfOk r (IsHeard base log from max)

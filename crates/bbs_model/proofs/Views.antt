@@ -49,11 +49,13 @@ later_then u v w f g = record {
 pub later_looks : (v w : PortView) → Looks v w → IsLater v w
 later_looks v w h = subst (IsLater v) (sym h.is) (later_others v h.others)
 
-pub later_called : (by : ℕ) (v : PortView) (c : Command) (end : Result Reply CallFault) (w : PortView) → IsCalled by v c end w → IsLater v w
+pub later_called : (by : ℕ) (v : PortView) (c : Command) (end : Result Reply CallFault) (w : PortView)
+    → IsCalled by v c end w → IsLater v w
 later_called by v c end w h =
     let middle = after_others v h.others in
     subst (IsLater v) (sym h.is)
-    (later_then v middle (after_own middle (added end by c)) (later_others v h.others) (later_own middle (added end by c)))
+    (later_then v middle (after_own middle (added end by c)) (later_others v h.others)
+    (later_own middle (added end by c)))
 
 pub quiet_same : (v : PortView) → IsQuiet v v
 quiet_same v = omega arith
@@ -71,31 +73,41 @@ quiet_second u v w f g q = omega (arith, f.counts, g.counts, q)
 -- then a look and a call come behind nothing of others
 pub quiet_looks : (v w : PortView) (h : Looks v w) → IsQuiet v w → h.others ≡ []
 quiet_looks v w h q =
-    let seen : length w.seen ≡ length v.seen + length h.others = ap (λ (x : PortView). length x.seen) h.is ∙ length-append v.seen h.others in
+    let seen : length w.seen ≡ length v.seen + length h.others =
+    ap (λ (x : PortView). length x.seen) h.is ∙ length-append v.seen h.others in
     let mine : length w.mine ≡ length v.mine = ap (λ (x : PortView). length x.mine) h.is in
     none_left h.others (omega (arith, seen, mine, q))
 
-pub quiet_called : (by : ℕ) (v : PortView) (c : Command) (end : Result Reply CallFault) (w : PortView) (h : IsCalled by v c end w)
+pub quiet_called : (by : ℕ) (v : PortView) (c : Command) (end : Result Reply CallFault) (w : PortView)
+    (h : IsCalled by v c end w)
     → IsQuiet v w → h.others ≡ []
 quiet_called by v c end w h q =
     let items = added end by c in
     let seen : length w.seen ≡ length (v.seen ++ h.others) + length items =
     ap (λ (x : PortView). length x.seen) h.is ∙ length-append (v.seen ++ h.others) items in
-    let mine : length w.mine ≡ length v.mine + length items = ap (λ (x : PortView). length x.mine) h.is ∙ length-append v.mine items in
+    let mine : length w.mine ≡ length v.mine + length items =
+    ap (λ (x : PortView). length x.mine) h.is ∙ length-append v.mine items in
     none_left h.others (omega (arith, seen, mine, length-append v.seen h.others, q))
 
 -- a look, and a call, behind which nobody else did anything
 pub looks_alone : (v : PortView) → length v.seen < 2 ^ 64 → Looks v v
-looks_alone v few = record { others = []; is = ap (λ (xs : List Item). record v { seen = xs }) (sym (append-nil v.seen)); few = few }
+looks_alone v few = record {
+  others = [];
+  is = ap (λ (xs : List Item). record v { seen = xs })
+      (sym (append-nil v.seen));
+  few = few;
+}
 
 pub called_alone : (by : ℕ) (v : PortView) (c : Command) (end : Result Reply CallFault) (w : PortView)
-    → Ends (verdict_of (rows_seen v) c) (length v.seen) (rows_seen v).next end → w ≡ after_own v (added end by c) → length w.seen < 2 ^ 64
+    → Ends (verdict_of (rows_seen v) c) (length v.seen) (rows_seen v).next end → w ≡ after_own v (added end by c)
+    → length w.seen < 2 ^ 64
     → IsCalled by v c end w
 called_alone by v c end w ends is few =
     let same : v ≡ after_others v [] = ap (λ (xs : List Item). record v { seen = xs }) (sym (append-nil v.seen)) in
     record {
       others = [];
-      ends = subst (λ (x : PortView). Ends (verdict_of (rows_seen x) c) (length x.seen) (rows_seen x).next end) same ends;
+      ends = subst (λ (x : PortView). Ends (verdict_of (rows_seen x) c) (length x.seen) (rows_seen x).next end) same
+          ends;
       is = is ∙ ap (λ (x : PortView). after_own x (added end by c)) same;
       few = few;
     }

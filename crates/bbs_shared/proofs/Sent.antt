@@ -24,6 +24,8 @@ at_desk_send D g s = search (sendable, crosses, board_send) depth 40
 
 pub shared_sync : (D : RattleType) (g : Ghosts D.Denot) → IsSend D → IsSync (shared.the_row D g)
 shared_sync D g s =
-    let field = desk.the_field_sync (at_desk.the_row D g) item.the_row (origin.the_row (board.the_row D g)) (ghosts D g no_dict) (at_desk_send D g s) in
-    let fields : IsSync (Struct (shape (shared.the_type D g))) = struct_sync (shape (shared.the_type D g)) (field, tt) in
+    let field = desk.the_field_sync (at_desk.the_row D g) item.the_row (origin.the_row (board.the_row D g))
+    (ghosts D g no_dict) (at_desk_send D g s) in
+    let fields : IsSync (Struct (shape (shared.the_type D g))) =
+    struct_sync (shape (shared.the_type D g)) (field, tt) in
     recorded_sync _ _ _ (shared.the_type D g).to_one fields

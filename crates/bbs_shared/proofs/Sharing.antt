@@ -16,14 +16,17 @@ use Rattle.bbs_shared.specs.declared.origin.Origin.{Origin}
 
 module _ {D : Type 0} where
   -- what a new pass has seen
-  new_seen : (at : BoardStanding D) (p : Pass (BoardStanding D) Item (Origin (View D))) → IsNew log_of origin_of at p → seen_by p ≡ whole_view at.board
+  new_seen : (at : BoardStanding D) (p : Pass (BoardStanding D) Item (Origin (View D))) → IsNew log_of origin_of at p
+      → seen_by p ≡ whole_view at.board
   new_seen at p new = λ j. record { base = ap base_of new.source j; seen = new.seen j; mine = new.mine j }
 
-  pub handed : (at : BoardStanding D) (z : TableId) (many : ℕ) (passes : List (Pass (BoardStanding D) Item (Origin (View D))))
+  pub handed : (at : BoardStanding D) (z : TableId) (many : ℕ)
+      (passes : List (Pass (BoardStanding D) Item (Origin (View D))))
       → AreDealt log_of origin_of at z many passes → AreHanded at.board z many passes
   handed at z many passes dealt = (dealt.0, dealt.1, λ k p is. new_seen at p (dealt.2 k p is))
 
-  module _ (told : D → Option Past) (at left : BoardStanding D) (passes : List (Pass (BoardStanding D) Item (Origin (View D)))) (began : at.board ≡ at.start)
+  module _ (told : D → Option Past) (at left : BoardStanding D)
+      (passes : List (Pass (BoardStanding D) Item (Origin (View D)))) (began : at.board ≡ at.start)
       (closed : IsClosed log_of origin_of by_of at left passes) (gone : HasGone told left.start left.board) where
     same_start : left.start ≡ at.start
     same_start = ap (λ (o : Origin (View D)). o.start) closed.source

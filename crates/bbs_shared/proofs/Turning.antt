@@ -36,8 +36,10 @@ module _ {D : Type 0} where
     pub base : base_of v.origin ≡ before.board.base
     pub is : w ≡ record v { seen = after.board.log; mine = v.mine ++ drop (length before.board.log) after.board.log }
 
-  pub turn_at : {F R : Type 0} (g : Once F (MutBor (BoardStanding D) × Unit {0}) (R × (MutBor (BoardStanding D) × Unit {0}))) (f : F) (n : ℕ)
-      (v w : DeskView Item (Origin (View D))) (r : R) (t : Turned log_of origin_of g f by_of n v w r) → TurnAt v w t.ran.shown.now t.ran.left.now
+  pub turn_at : {F R : Type 0} (g : Once F (MutBor (BoardStanding D) × Unit {0})
+      (R × (MutBor (BoardStanding D) × Unit {0}))) (f : F) (n : ℕ)
+      (v w : DeskView Item (Origin (View D))) (r : R) (t : Turned log_of origin_of g f by_of n v w r)
+      → TurnAt v w t.ran.shown.now t.ran.left.now
   turn_at g f n v w r t = record {
     saw = subst (λ (b : BoardStanding D). Begins v.seen b.board.log) (sym t.ran.shows) t.saw;
     base = ap base_of t.source ∙ ap (λ (b : BoardStanding D). b.board.base) (sym t.ran.shows);
@@ -54,7 +56,8 @@ module _ {D : Type 0} where
     pub seen_after : w.seen ≡ after.board.log
     seen_after = ap (λ (x : DeskView Item (Origin (View D))). x.seen) t.is
 
-    module _ (by : ℕ) (c : Command) (end : Result Reply CallFault) (log : after.board.log ≡ before.board.log ++ added end by c) where
+    module _ (by : ℕ) (c : Command) (end : Result Reply CallFault)
+        (log : after.board.log ≡ before.board.log ++ added end by c) where
       seen_more : after.board.log ≡ (v.seen ++ t.saw.0) ++ added end by c
       seen_more = log ∙ ap (λ (xs : List Item). xs ++ added end by c) t.saw.1
 
@@ -67,7 +70,8 @@ module _ {D : Type 0} where
           subst (λ (r : Rows). EndsAt r (v.seen ++ t.saw.0) c end) (sym t.base)
           (subst (λ (xs : List Item). EndsAt before.board.base xs c end) t.saw.1 ends)
 
-      pub shared_called : Ends (verdict_of (rows_of before.board) c) (length before.board.log) (rows_of before.board).next end → length after.board.log < 2 ^ 64
+      pub shared_called : Ends (verdict_of (rows_of before.board) c) (length before.board.log)
+          (rows_of before.board).next end → length after.board.log < 2 ^ 64
           → IsCalled by (port_view_of v) c end (port_view_of w)
       shared_called ends few = record {
         others = t.saw.0;
@@ -93,10 +97,12 @@ module _ {D : Type 0} where
       }
 
       -- what was read of the board's base and of its log is so of what is seen now
-      pub of_seen : (P : Rows → List Item → Type 0) → P before.board.base before.board.log → P (port_view_of w).base (port_view_of w).seen
+      pub of_seen : (P : Rows → List Item → Type 0) → P before.board.base before.board.log
+          → P (port_view_of w).base (port_view_of w).seen
       of_seen P is =
           subst (λ (r : Rows). P r (port_view_of w).seen) (sym (ap base_of same_origin ∙ t.base))
-          (subst (λ (xs : List Item). P before.board.base xs) (sym (seen_after ∙ ap (λ (b : BoardStanding D). b.board.log) read.same)) is)
+          (subst (λ (xs : List Item). P before.board.base xs)
+          (sym (seen_after ∙ ap (λ (b : BoardStanding D). b.board.log) read.same)) is)
 
 module _ {D : Type 0} (told : D → Option Past) (start : View D) where
   -- at its start it has not gone on yet
@@ -105,7 +111,8 @@ module _ {D : Type 0} (told : D → Option Past) (start : View D) where
 
   -- a call goes on from there
   pub gone_further : (v w : View D) (c : Command) (end : Result Reply CallFault) (by moment : ℕ)
-      → Ends (verdict_of (rows_of v) c) (length v.log) (rows_of v).next end → Grows (is_done end) (added end by c) moment v w
+      → Ends (verdict_of (rows_of v) c) (length v.log) (rows_of v).next end
+      → Grows (is_done end) (added end by c) moment v w
       → Goes (told v.disk) (told w.disk) (Passes v.waits (verdict_of (rows_of v) c) (is_done end) (rows_of v) c)
       → HasGone told start v → HasGone told start w
   gone_further v w c end by moment ends grows does gone =

@@ -9,7 +9,8 @@ use Rattle.bbs_model.specs.declared.verdict.Verdict.{Verdict}
 use Rattle.bbs_model.specs.declared.verdict.Verdict.TheVariants.{Ok, Same, Refused}
 use Rattle.bbs_laws.proofs.Public.{IsValid-rows_after}
 
-by_verdict : (rows : Rows) (c : Command) → IsValid rows → (v : Verdict) → verdict_of rows c ≡ v → IsValid (if_legal v (rows_after rows c) rows)
+by_verdict : (rows : Rows) (c : Command) → IsValid rows → (v : Verdict) → verdict_of rows c ≡ v
+    → IsValid (if_legal v (rows_after rows c) rows)
 by_verdict rows c valid Ok is = IsValid-rows_after rows c valid is
 by_verdict rows c valid Same is = valid
 by_verdict rows c valid (Refused why) is = valid

@@ -29,7 +29,8 @@ module _ (rows : Rows) (c : Command) (valid : IsValid rows) (legal : IsLegal row
   doable a is = by_attempt a (sym is) (ap (judged rows.next) is ∙ legal)
 
 -- what was looked up, and what that comes to
-module _ (rows : Rows) (c : Command) (found : Found) (a : Attempt) (found_is : found ≡ found_by rows c.op) (a_is : a ≡ attempt_at found c.now c.op) where
+module _ (rows : Rows) (c : Command) (found : Found) (a : Attempt) (found_is : found ≡ found_by rows c.op)
+    (a_is : a ≡ attempt_at found c.now c.op) where
   pub attempt_is : a ≡ attempt_of rows c
   attempt_is = a_is ∙ ap (λ (f : Found). attempt_at f c.now c.op) found_is
 

@@ -50,29 +50,39 @@ no_others (Err (fault.Disk place)) by c n ne = rw (other_number by n ne) refl
 no_others (Err fault.OutOfMemory) by c n ne = refl
 
 -- what was acknowledged was stored
-was_stored : (v : Verdict) (place stamp place' stamp' : ℕ) (rows : Rows) (c : Command) (p q : Past) → Ends v place stamp (Ok (reply.Ok place' stamp')) → StoresBy v true rows c p q → Stores true rows c p q
+was_stored : (v : Verdict) (place stamp place' stamp' : ℕ) (rows : Rows) (c : Command) (p q : Past)
+    → Ends v place stamp (Ok (reply.Ok place' stamp')) → StoresBy v true rows c p q → Stores true rows c p q
 was_stored verdict.Ok place stamp place' stamp' rows c p q ends stores = stores
 was_stored verdict.Same place stamp place' stamp' rows c p q ends stores = absurd (cc (ends))
 was_stored (verdict.Refused why) place stamp place' stamp' rows c p q ends stores = absurd (cc (ends))
 
 module _ {D : Type 0} (told : D → Option Past) (v w : View D) (c : Command) (by moment : ℕ) where
   abbrev Writes : Result Reply CallFault → Type 0
-  Writes end = v.waits ≡ false → doubts_in (added end by c) ≡ 0 → (w.waits ≡ false) × Goes (told v.disk) (told w.disk) (WritesOn (rows_of v) (added end by c))
+  Writes end = v.waits ≡ false → doubts_in (added end by c) ≡ 0
+      → (w.waits ≡ false) × Goes (told v.disk) (told w.disk) (WritesOn (rows_of v) (added end by c))
 
   -- a call that adds nothing leaves the disk as it was
-  idle_writes : (done : Bool) → Grows done [] moment v w → v.waits ≡ false → (w.waits ≡ false) × Goes (told v.disk) (told w.disk) (WritesOn (rows_of v) [])
+  idle_writes : (done : Bool) → Grows done [] moment v w → v.waits ≡ false
+      → (w.waits ≡ false) × Goes (told v.disk) (told w.disk) (WritesOn (rows_of v) [])
   idle_writes done grows calm =
       let same = grows.idle refl in (
         ap (λ (x : View D). x.waits) same ∙ calm,
-        subst (λ (d : D). Goes (told v.disk) (told d) (WritesOn (rows_of v) [])) (sym (ap (λ (x : View D). x.disk) same)) (goes_same (told v.disk) (WritesOn (rows_of v) []) (λ p is. writes_nothing (rows_of v) p)),
+        subst (λ (d : D). Goes (told v.disk) (told d) (WritesOn (rows_of v) []))
+            (sym (ap (λ (x : View D). x.disk) same)) (goes_same (told v.disk) (WritesOn (rows_of v) [])
+            (λ p is. writes_nothing (rows_of v) p)),
       )
 
-  pub call_writes : (end : Result Reply CallFault) → Ends (verdict_of (rows_of v) c) (length v.log) (rows_of v).next end → Grows (is_done end) (added end by c) moment v w
-      → Goes (told v.disk) (told w.disk) (Passes v.waits (verdict_of (rows_of v) c) (is_done end) (rows_of v) c) → Writes end
+  pub call_writes : (end : Result Reply CallFault) → Ends (verdict_of (rows_of v) c) (length v.log) (rows_of v).next end
+      → Grows (is_done end) (added end by c) moment v w
+      → Goes (told v.disk) (told w.disk) (Passes v.waits (verdict_of (rows_of v) c) (is_done end) (rows_of v) c)
+      → Writes end
   call_writes (Ok (reply.Ok place stamp)) ends grows goes calm none = (
     grows.calm refl,
-    goes_weaker (told v.disk) (told w.disk) (Passes v.waits (verdict_of (rows_of v) c) true (rows_of v) c) (WritesOn (rows_of v) (Done by c ∷ []))
-        (λ p q i j passes. stores_writes by (rows_of v) c p q (was_stored (verdict_of (rows_of v) c) (length v.log) (rows_of v).next place stamp (rows_of v) c p q ends (passes.stores calm))) goes,
+    goes_weaker (told v.disk) (told w.disk) (Passes v.waits (verdict_of (rows_of v) c) true (rows_of v) c)
+        (WritesOn (rows_of v) (Done by c ∷ []))
+        (λ p q i j passes. stores_writes by (rows_of v) c p q
+        (was_stored (verdict_of (rows_of v) c) (length v.log) (rows_of v).next place stamp (rows_of v) c p q ends
+        (passes.stores calm))) goes,
   )
   call_writes (Ok (reply.Same place)) ends grows goes calm none = idle_writes false grows calm
   call_writes (Ok (reply.Refused why place)) ends grows goes calm none = idle_writes false grows calm
@@ -80,8 +90,10 @@ module _ {D : Type 0} (told : D → Option Past) (v w : View D) (c : Command) (b
   call_writes (Err fault.OutOfMemory) ends grows goes calm none = idle_writes false grows calm
 
 module _ {D : Type 0} (by : ℕ) (v w : View D) (c : Command) (end : Result Reply CallFault) (moment : ℕ)
-    (ends : Ends (verdict_of (rows_of v) c) (length v.log) (rows_of v).next end) (grows : Grows (is_done end) (added end by c) moment v w) where
-  mine_more : (log : List Item) → log ≡ v.log ++ added end by c → by_number by log ≡ by_number by v.log ++ added end by c
+    (ends : Ends (verdict_of (rows_of v) c) (length v.log) (rows_of v).next end)
+    (grows : Grows (is_done end) (added end by c) moment v w) where
+  mine_more : (log : List Item) → log ≡ v.log ++ added end by c
+      → by_number by log ≡ by_number by v.log ++ added end by c
   mine_more log is =
       ap (by_number by) is ∙ filter-append (λ (i : Item). by_of i == by) v.log (added end by c)
       ∙ ap (λ (xs : List Item). by_number by v.log ++ xs) (own_added end by c)
@@ -94,12 +106,14 @@ module _ {D : Type 0} (by : ℕ) (v w : View D) (c : Command) (end : Result Repl
       view_is base log base_is log_is =
           ap (λ (r : Rows). record { base = r; seen = log; mine = by_number by log }) base_is
           ∙ ap (λ (l : List Item). record { base = v.base; seen = l; mine = by_number by log }) log_is
-          ∙ ap (λ (l : List Item). record { base = v.base; seen = v.log ++ added end by c; mine = l }) (mine_more log log_is)
+          ∙ ap (λ (l : List Item). record { base = v.base; seen = v.log ++ added end by c; mine = l })
+          (mine_more log log_is)
 
   pub sole_called : length w.log < 2 ^ 64 → IsCalled by (seen_of by v) c end (seen_of by w)
   sole_called few = called_alone by (seen_of by v) c end (seen_of by w) ends sees_more few
 
-  pub sole_went : (told : D → Option Past) (name : ℕ) → Goes (told v.disk) (told w.disk) (Passes v.waits (verdict_of (rows_of v) c) (is_done end) (rows_of v) c) → Went told by by name name v w
+  pub sole_went : (told : D → Option Past) (name : ℕ) → Goes (told v.disk) (told w.disk)
+      (Passes v.waits (verdict_of (rows_of v) c) (is_done end) (rows_of v) c) → Went told by by name name v w
   sole_went told name goes = record {
     by_is = refl;
     name_is = refl;
@@ -110,6 +124,7 @@ module _ {D : Type 0} (by : ℕ) (v w : View D) (c : Command) (end : Result Repl
     grows = grows.log;
     own = own_added end by c;
     others = no_others end by c;
-    disk = goes_weaker (told v.disk) (told w.disk) (Passes v.waits (verdict_of (rows_of v) c) (is_done end) (rows_of v) c) Extends (λ p q i j passes. passes.extends) goes;
+    disk = goes_weaker (told v.disk) (told w.disk) (Passes v.waits (verdict_of (rows_of v) c) (is_done end)
+        (rows_of v) c) Extends (λ p q i j passes. passes.extends) goes;
     writes = call_writes told v w c by moment end ends grows goes;
   }

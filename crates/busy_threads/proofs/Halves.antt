@@ -5,7 +5,8 @@ use Rattle.std.proofs.lemmas.Bool.{cases_lt}
 use Rattle.busy_threads.specs.Places.{AreReady, AreChanged}
 
 module _ {X : Type 0} (P : ℕ → X → Type 0) where
-  pub front_of : (base : ℕ) (all xs ys : List X) → all ≡ xs ++ ys → 0 < length xs → AreReady P base all → AreReady P base xs
+  pub front_of : (base : ℕ) (all xs ys : List X) → all ≡ xs ++ ys → 0 < length xs → AreReady P base all
+      → AreReady P base xs
   front_of base all xs ys is some r =
       record {
         some = some;
@@ -14,14 +15,16 @@ module _ {X : Type 0} (P : ℕ → X → Type 0) where
             (r.each k d (omega (arith, ap length is, length-append xs ys)));
       }
 
-  pub back_of : (base h middle : ℕ) (all xs ys : List X) → all ≡ xs ++ ys → length xs ≡ h → middle ≡ base + h → h < length all → AreReady P base all → AreReady P middle ys
+  pub back_of : (base h middle : ℕ) (all xs ys : List X) → all ≡ xs ++ ys → length xs ≡ h → middle ≡ base + h
+      → h < length all → AreReady P base all → AreReady P middle ys
   back_of base h middle all xs ys is count at inside r =
       record {
         some = omega (arith, ap length is, length-append xs ys);
         room = omega (arith, r.room, ap length is, length-append xs ys);
         each = λ k d lt. subst (λ n. P n (get_or ys k d)) {x = base + (h + k)} (omega arith)
             (subst (P (base + (h + k))) (ap (λ l. get_or l (h + k) d) is
-            ∙ (get_or-append_right xs ys h (h + k) d count (omega arith) ∙ ap (λ n. get_or ys n d) {x = h + k - h} (omega arith)))
+            ∙ (get_or-append_right xs ys h (h + k) d count (omega arith) ∙ ap (λ n. get_or ys n d) {x = h + k - h}
+            (omega arith)))
             (r.each (h + k) d (omega (arith, ap length is, length-append xs ys))));
       }
 
@@ -33,9 +36,12 @@ module _ {X : Type 0} (R : ℕ → X → X → Type 0) where
       record {
         length_is = omega (arith, ap length is, length-append xs ys, length-append xs' ys', a.length_is, b.length_is);
         each = λ k d lt. ⊎_elim
-            (λ p. subst (λ x. R (base + k) x (get_or (xs' ++ ys') k d)) (sym (ap (λ l. get_or l k d) is ∙ get_or_append_left xs ys d k (omega arith)))
-            (subst (R (base + k) (get_or xs k d)) (sym (get_or_append_left xs' ys' d k (omega arith))) (a.each k d (omega arith))))
-            (λ p. subst (λ x. R (base + k) x (get_or (xs' ++ ys') k d)) (sym (ap (λ l. get_or l k d) is ∙ get_or-append_right xs ys h k d count p))
+            (λ p. subst (λ x. R (base + k) x (get_or (xs' ++ ys') k d))
+            (sym (ap (λ l. get_or l k d) is ∙ get_or_append_left xs ys d k (omega arith)))
+            (subst (R (base + k) (get_or xs k d)) (sym (get_or_append_left xs' ys' d k (omega arith)))
+            (a.each k d (omega arith))))
+            (λ p. subst (λ x. R (base + k) x (get_or (xs' ++ ys') k d))
+            (sym (ap (λ l. get_or l k d) is ∙ get_or-append_right xs ys h k d count p))
             (subst (R (base + k) (get_or ys (k - h) d)) (sym (get_or-append_right xs' ys' h k d count' p))
             (subst (λ n. R n (get_or ys (k - h) d) (get_or ys' (k - h) d)) {x = middle + (k - h)} (omega arith)
             (b.each (k - h) d (omega (arith, ap length is, length-append xs ys))))))

@@ -19,5 +19,6 @@ within_less (j ∷ js) free totals h =
 pub left_containers : (js : List Job) (free : Amounts) → (fold less free js).containers ≡ free.containers - length js
 left_containers [] free = omega arith
 left_containers (j ∷ js) free =
-    let rest : (fold less (less free j) js).containers ≡ free.containers - 1 - length js = left_containers js (less free j) in
+    let rest : (fold less (less free j) js).containers ≡ free.containers - 1 - length js =
+    left_containers js (less free j) in
     omega (arith, rest)

@@ -22,16 +22,20 @@ further : (n number : ℕ) → n + (number + 1) ≡ suc n + number
 further n number = omega arith
 
 -- the step of a batch, where steps are counted from that number
-step_at : (number : ℕ) (site : Site) (bs : List Batch) (n : ℕ) (b : Batch) → slice_get bs n ≡ Some b → slice_get (steps_from number site bs) n ≡ Some (step_from (n + number) b (planned (site_then site (take n bs)) b.cells))
+step_at : (number : ℕ) (site : Site) (bs : List Batch) (n : ℕ) (b : Batch) → slice_get bs n ≡ Some b
+    → slice_get (steps_from number site bs) n ≡ Some (step_from (n + number) b
+    (planned (site_then site (take n bs)) b.cells))
 step_at number site [] n b e = cc
 step_at number site (x ∷ xs) zero b e =
     ap (λ (y : Batch). Some (step_from number y (planned site y.cells))) (inside x b e)
     ∙ ap (λ (m : ℕ). Some (step_from m b (planned site b.cells))) (here number)
 step_at number site (x ∷ xs) (suc n) b e =
     step_at (number + 1) (after_step site x.cells) xs n b e
-    ∙ ap (λ (m : ℕ). Some (step_from m b (planned (site_then (after_step site x.cells) (take n xs)) b.cells))) (further n number)
+    ∙ ap (λ (m : ℕ). Some (step_from m b (planned (site_then (after_step site x.cells) (take n xs)) b.cells)))
+    (further n number)
 
-site_at : (site : Site) (bs : List Batch) (n : ℕ) (b : Batch) → slice_get bs n ≡ Some b → site_then site (take (suc n) bs) ≡ after_step (site_then site (take n bs)) b.cells
+site_at : (site : Site) (bs : List Batch) (n : ℕ) (b : Batch) → slice_get bs n ≡ Some b
+    → site_then site (take (suc n) bs) ≡ after_step (site_then site (take n bs)) b.cells
 site_at site [] n b e = cc
 site_at site (x ∷ xs) zero b e = ap (λ (y : Batch). after_step site y.cells) (inside x b e)
 site_at site (x ∷ xs) (suc n) b e = site_at (after_step site x.cells) xs n b e

@@ -32,7 +32,8 @@ both key xs ys = sum_by-append (λ (s : Stay). cond (same_key s.key key) 1 0) xs
 jobs-append : (xs ys : List Container) → jobs_of (xs ++ ys) ≡ jobs_of xs ++ jobs_of ys
 jobs-append xs ys =
     ap (map (λ (c : Container). c.job)) (filter-append (λ (c : Container). not (has_ended c.state)) xs ys)
-    ∙ map-append (λ (c : Container). c.job) (filter (λ (c : Container). not (has_ended c.state)) xs) (filter (λ (c : Container). not (has_ended c.state)) ys)
+    ∙ map-append (λ (c : Container). c.job) (filter (λ (c : Container). not (has_ended c.state)) xs)
+    (filter (λ (c : Container). not (has_ended c.state)) ys)
 
 jobs-of_containers : (js : List Job) → jobs_of (map job_container js) ≡ map (λ j. j.job) js
 jobs-of_containers [] = refl
@@ -48,8 +49,10 @@ module _ (cell zone : List ℕ) (key : Key) where
       ap (map (stay_at cell zone)) (filter_map-append instance_in xs ys)
       ∙ map-append (stay_at cell zone) (filter_map instance_in xs) (filter_map instance_in ys)
 
-  one_there : (name : JobName) (rest : List JobName) → there key (stays_at cell zone (name ∷ rest)) ≡ cond (is_instance key name) 1 0 + there key (stays_at cell zone rest)
-  one_there (Lrp k) rest = sum_by-cons (λ (s : Stay). cond (same_key s.key key) 1 0) (stay_at cell zone k) (stays_at cell zone rest)
+  one_there : (name : JobName) (rest : List JobName) → there key (stays_at cell zone (name ∷ rest))
+      ≡ cond (is_instance key name) 1 0 + there key (stays_at cell zone rest)
+  one_there (Lrp k) rest = sum_by-cons (λ (s : Stay). cond (same_key s.key key) 1 0) (stay_at cell zone k)
+      (stays_at cell zone rest)
   one_there (Task t) rest = nothing_first (there key (stays_at cell zone rest))
 
   there-of_jobs : (js : List Job) → there key (stays_at cell zone (map (λ j. j.job) js)) ≡ times_in key js
@@ -65,7 +68,9 @@ held key c = there key (stays_on c)
 
 held_with : (key : Key) (js : List Job) (c : Answer) → held key (with_jobs js c) ≡ held key c + times_in key js
 held_with key js c =
-    ap (λ (ns : List JobName). there key (stays_at c.cell c.zone ns)) (jobs-append c.containers (map job_container js) ∙ ap (λ (ns : List JobName). jobs_of c.containers ++ ns) (jobs-of_containers js))
+    ap (λ (ns : List JobName). there key (stays_at c.cell c.zone ns))
+    (jobs-append c.containers (map job_container js) ∙ ap (λ (ns : List JobName). jobs_of c.containers ++ ns)
+    (jobs-of_containers js))
     ∙ ap (there key) (at-append c.cell c.zone key (jobs_of c.containers) (map (λ j. j.job) js))
     ∙ both key (stays_at c.cell c.zone (jobs_of c.containers)) (stays_at c.cell c.zone (map (λ j. j.job) js))
     ∙ ap (λ (n : ℕ). held key c + n) (there-of_jobs c.cell c.zone key js)
@@ -78,21 +83,27 @@ after_with batch js c = cond (is_lost batch c.cell) (emptied c) (with_jobs js c)
 abbrev held_open : Key → List (List ℕ) → Answer → ℕ
 held_open key lost c = cond (is_open lost c) (held key c) 0
 
-open_with : (key : Key) (js : List Job) (c : Answer) (draining : Bool) → cond (not draining) (held key (with_jobs js c)) 0 ≡ cond (not draining) (held key c) 0 + cond (not draining) (times_in key js) 0
+open_with : (key : Key) (js : List Job) (c : Answer) (draining : Bool)
+    → cond (not draining) (held key (with_jobs js c)) 0 ≡ cond (not draining) (held key c) 0 + cond (not draining)
+    (times_in key js) 0
 open_with key js c true = refl
 open_with key js c false = held_with key js c
 
-one_cell : (key : Key) (batch : List (List ℕ)) (js : List Job) (c : Answer) → held_open key [] (after_with batch js c) ≡ held_open key batch c + cond (is_open batch c) (times_in key js) 0
+one_cell : (key : Key) (batch : List (List ℕ)) (js : List Job) (c : Answer)
+    → held_open key [] (after_with batch js c) ≡ held_open key batch c + cond (is_open batch c) (times_in key js) 0
 one_cell key batch js c =
-    elim (is_lost batch c.cell) as (λ b. held_open key [] (cond b (emptied c) (with_jobs js c)) ≡ cond (not b && not c.evacuating) (held key c) 0 + cond (not b && not c.evacuating) (times_in key js) 0) [
+    elim (is_lost batch c.cell) as (λ b. held_open key [] (cond b (emptied c) (with_jobs js c))
+    ≡ cond (not b && not c.evacuating) (held key c) 0 + cond (not b && not c.evacuating) (times_in key js) 0) [
       | true ↦ refl
       | false ↦ open_with key js c c.evacuating
     ]
 
 -- where it stands on cells that told their state
-on_cells : (key : Key) (site : Site) (lost : List (List ℕ)) → there key (flat_map stays_on (open_cells site lost)) ≡ sum_by (held_open key lost) site.cells
+on_cells : (key : Key) (site : Site) (lost : List (List ℕ))
+    → there key (flat_map stays_on (open_cells site lost)) ≡ sum_by (held_open key lost) site.cells
 on_cells key site lost =
-    count-flat_map (λ (s : Stay). same_key s.key key) stays_on (open_cells site lost) ∙ sum_by-filter (held key) (is_open lost) site.cells
+    count-flat_map (λ (s : Stay). same_key s.key key) stays_on (open_cells site lost) ∙ sum_by-filter (held key)
+    (is_open lost) site.cells
 
 module _ (site : Site) (batch : List (List ℕ)) (key : Key) where
   abbrev on_it : Answer → List Job
@@ -102,24 +113,39 @@ module _ (site : Site) (batch : List (List ℕ)) (key : Key) where
   abbrev pub put_on : ℕ
   put_on = sum_by (λ c. times_in key (on_it c)) (open_cells site batch)
 
-  after_cells : there key (flat_map stays_on (open_cells (after_step site batch) [])) ≡ there key (flat_map stays_on (open_cells site batch)) + put_on
+  after_cells : there key (flat_map stays_on (open_cells (after_step site batch) []))
+      ≡ there key (flat_map stays_on (open_cells site batch)) + put_on
   after_cells =
       on_cells key (after_step site batch) []
-      ∙ fold-map (λ (n : ℕ) (c : Answer). n + held_open key [] c) (λ (c : Answer). after_batch batch (jobs_of_loss site batch) (plan site batch) c) 0 site.cells
-      ∙ sum_by-same (λ (c : Answer). held_open key [] (after_with batch (on_it c) c)) (λ c. held_open key batch c + cond (is_open batch c) (times_in key (on_it c)) 0) site.cells (λ c inside. one_cell key batch (on_it c) c)
+      ∙ fold-map (λ (n : ℕ) (c : Answer). n + held_open key [] c)
+      (λ (c : Answer). after_batch batch (jobs_of_loss site batch) (plan site batch) c) 0 site.cells
+      ∙ sum_by-same (λ (c : Answer). held_open key [] (after_with batch (on_it c) c))
+      (λ c. held_open key batch c + cond (is_open batch c) (times_in key (on_it c)) 0) site.cells
+      (λ c inside. one_cell key batch (on_it c) c)
       ∙ sum_by-plus (held_open key batch) (λ c. cond (is_open batch c) (times_in key (on_it c)) 0) site.cells
-      ∙ ap (λ (n : ℕ). n + sum_by (λ c. cond (is_open batch c) (times_in key (on_it c)) 0) site.cells) (sym (on_cells key site batch))
-      ∙ ap (λ (n : ℕ). there key (flat_map stays_on (open_cells site batch)) + n) (sym (sum_by-filter (λ c. times_in key (on_it c)) (is_open batch) site.cells))
+      ∙ ap (λ (n : ℕ). n + sum_by (λ c. cond (is_open batch c) (times_in key (on_it c)) 0) site.cells)
+      (sym (on_cells key site batch))
+      ∙ ap (λ (n : ℕ). there key (flat_map stays_on (open_cells site batch)) + n)
+      (sym (sum_by-filter (λ c. times_in key (on_it c)) (is_open batch) site.cells))
 
   -- a step has no silent cell, so what stands on such cells stays
-  same_silent : All (λ s. is_lost batch s.cell ≡ false) site.silent_stays → silent_stays (after_step site batch) [] ≡ silent_stays site batch
+  same_silent : All (λ s. is_lost batch s.cell ≡ false) site.silent_stays
+      → silent_stays (after_step site batch) [] ≡ silent_stays site batch
   same_silent telling =
       filter_all (λ (s : Stay). not (is_lost [] s.cell)) site.silent_stays (λ k d lt. refl)
-      ∙ sym (filter_all (λ (s : Stay). not (is_lost batch s.cell)) site.silent_stays (All-weaker (λ (s : Stay). is_lost batch s.cell ≡ false) (λ s. not (is_lost batch s.cell) ≡ true) (λ s e. ap not e) site.silent_stays telling))
+      ∙ sym (filter_all (λ (s : Stay). not (is_lost batch s.cell)) site.silent_stays
+      (All-weaker (λ (s : Stay). is_lost batch s.cell ≡ false) (λ s. not (is_lost batch s.cell) ≡ true)
+      (λ s e. ap not e) site.silent_stays telling))
 
-  pub copies-after_step : All (λ s. is_lost batch s.cell ≡ false) site.silent_stays → copies (after_step site batch) [] key ≡ copies site batch key + put_on
+  pub copies-after_step : All (λ s. is_lost batch s.cell ≡ false) site.silent_stays
+      → copies (after_step site batch) [] key ≡ copies site batch key + put_on
   copies-after_step telling =
-      let before : copies site batch key ≡ there key (flat_map stays_on (open_cells site batch)) + there key (silent_stays site batch) = both key (flat_map stays_on (open_cells site batch)) (silent_stays site batch) in
-      let then : copies (after_step site batch) [] key ≡ there key (flat_map stays_on (open_cells (after_step site batch) [])) + there key (silent_stays (after_step site batch) []) = both key (flat_map stays_on (open_cells (after_step site batch) [])) (silent_stays (after_step site batch) []) in
-      let silent : there key (silent_stays (after_step site batch) []) ≡ there key (silent_stays site batch) = ap (there key) (same_silent telling) in
+      let before : copies site batch key ≡ there key (flat_map stays_on (open_cells site batch)) + there key
+      (silent_stays site batch) = both key (flat_map stays_on (open_cells site batch)) (silent_stays site batch) in
+      let then : copies (after_step site batch) [] key ≡ there key
+      (flat_map stays_on (open_cells (after_step site batch) [])) + there key
+      (silent_stays (after_step site batch) []) = both key
+      (flat_map stays_on (open_cells (after_step site batch) [])) (silent_stays (after_step site batch) []) in
+      let silent : there key (silent_stays (after_step site batch) []) ≡ there key (silent_stays site batch) =
+      ap (there key) (same_silent telling) in
       omega (arith, before, then, silent, after_cells)

@@ -50,25 +50,32 @@ stands_few cells =
     let given = sum_by-ones (λ (s : Stand). 1) (map stand_of cells) (λ s i. refl) in
     omega (arith, all, told, given, length-map cells stand_of)
 
-pub few_planned : (site : Site) (batch : List (List ℕ)) → IsSite site → (p : Plan) → p ≡ planned site batch → length p.stands ≤ 2 ^ 32
+pub few_planned : (site : Site) (batch : List (List ℕ)) → IsSite site → (p : Plan) → p ≡ planned site batch
+    → length p.stands ≤ 2 ^ 32
 few_planned site batch h p is =
     let fewer : length (open_cells site batch) ≤ length site.cells = shorter (is_open batch) site.cells in
-    let all : length (stands_from (stands_before site batch) (jobs_of_loss site batch)) ≡ length (stands_before site batch) = as_many_then (stands_before site batch) (jobs_of_loss site batch) in
-    subst (λ (q : Plan). length q.stands ≤ 2 ^ 32) (sym is) (omega (arith, all, stands_few (open_cells site batch), fewer, h.cells.few))
+    let all : length (stands_from (stands_before site batch) (jobs_of_loss site batch))
+    ≡ length (stands_before site batch) = as_many_then (stands_before site batch) (jobs_of_loss site batch) in
+    subst (λ (q : Plan). length q.stands ≤ 2 ^ 32) (sym is)
+    (omega (arith, all, stands_few (open_cells site batch), fewer, h.cells.few))
 
 -- the steps, the jobs that were placed and the site behind the last step, with one batch more
 module _ (old new : Course) (number : ℕ) (b : Batch) (h : TakesStep old number b new) (rest : List Batch) where
-  pub steps_next : new.steps ++ steps_from (number + 1) new.site rest ≡ old.steps ++ steps_from number old.site (b ∷ rest)
+  pub steps_next : new.steps ++ steps_from (number + 1) new.site rest ≡ old.steps
+      ++ steps_from number old.site (b ∷ rest)
   steps_next =
       ap (λ (ss : List Step). ss ++ steps_from (number + 1) new.site rest) h.steps
-      ∙ append_assoc old.steps (step_from number b (planned old.site b.cells) ∷ []) (steps_from (number + 1) new.site rest)
-      ∙ ap (λ (s : Site). old.steps ++ step_from number b (planned old.site b.cells) ∷ steps_from (number + 1) s rest) h.site
+      ∙ append_assoc old.steps (step_from number b (planned old.site b.cells) ∷ [])
+      (steps_from (number + 1) new.site rest)
+      ∙ ap (λ (s : Site). old.steps ++ step_from number b (planned old.site b.cells) ∷ steps_from (number + 1) s rest)
+      h.site
 
   pub moved_next : new.moved.items ++ jobs_moved new.site rest ≡ old.moved.items ++ jobs_moved old.site (b ∷ rest)
   moved_next =
       ap (λ (js : List JobName). js ++ jobs_moved new.site rest) h.moved
       ∙ append_assoc old.moved.items (placed_in (planned old.site b.cells).placements) (jobs_moved new.site rest)
-      ∙ ap (λ (s : Site). old.moved.items ++ (placed_in (planned old.site b.cells).placements ++ jobs_moved s rest)) h.site
+      ∙ ap (λ (s : Site). old.moved.items ++ (placed_in (planned old.site b.cells).placements ++ jobs_moved s rest))
+      h.site
 
   pub site_next : site_then new.site rest ≡ site_then old.site (b ∷ rest)
   site_next = ap (λ (s : Site). site_then s rest) h.site

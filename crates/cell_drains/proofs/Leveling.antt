@@ -19,12 +19,18 @@ sound_cell c h = record {
   within = record {
     memory = h.within.memory;
     disk = h.within.disk;
-    containers = omega (arith, h.within.containers, min-le_left c.free.containers (c.totals.containers - length c.containers));
+    containers = omega (
+      arith,
+      h.within.containers,
+      min-le_left c.free.containers
+          (c.totals.containers - length c.containers),
+    );
   };
   containers = h.containers;
 }
 
-level_cell : (c : Answer) → IsSoundAnswer c → length c.containers + (levelled_cell c).free.containers ≤ c.totals.containers
+level_cell : (c : Answer) → IsSoundAnswer c → length c.containers + (levelled_cell c).free.containers
+    ≤ c.totals.containers
 level_cell c h = omega (arith, h.containers, min-le_right c.free.containers (c.totals.containers - length c.containers))
 
 pub IsSite-levelled : (site : Site) → IsSite site → IsSite (levelled site)
@@ -32,7 +38,8 @@ IsSite-levelled site h = record {
   cells = record {
     few = omega (arith, h.cells.few, length-map site.cells levelled_cell);
     differ = subst Differ (same_names site.cells) h.cells.differ;
-    each = All-map IsSoundAnswer levelled_cell site.cells (All-weaker IsSoundAnswer (λ c. IsSoundAnswer (levelled_cell c)) sound_cell site.cells h.cells.each);
+    each = All-map IsSoundAnswer levelled_cell site.cells
+        (All-weaker IsSoundAnswer (λ c. IsSoundAnswer (levelled_cell c)) sound_cell site.cells h.cells.each);
   };
   jobs = h.jobs;
   few = h.few;
@@ -41,4 +48,5 @@ IsSite-levelled site h = record {
 pub IsLevel-levelled : (site : Site) → IsSite site → IsLevel (levelled site)
 IsLevel-levelled site h =
     All-map (λ (c : Answer). length c.containers + c.free.containers ≤ c.totals.containers) levelled_cell site.cells
-    (All-weaker IsSoundAnswer (λ c. length c.containers + (levelled_cell c).free.containers ≤ c.totals.containers) level_cell site.cells h.cells.each)
+    (All-weaker IsSoundAnswer (λ c. length c.containers + (levelled_cell c).free.containers ≤ c.totals.containers)
+    level_cell site.cells h.cells.each)

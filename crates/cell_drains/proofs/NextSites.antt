@@ -22,15 +22,19 @@ use Rattle.cell_drains.proofs.Amounts.{left_containers, within_less}
 use Rattle.cell_drains.proofs.Slots.{few_on}
 
 -- the cells keep their names
-name_kept : (batch : List (List ℕ)) (js : List Job) (ps : List Placement) (c : Answer) → c.cell ≡ (after_batch batch js ps c).cell
+name_kept : (batch : List (List ℕ)) (js : List Job) (ps : List Placement) (c : Answer)
+    → c.cell ≡ (after_batch batch js ps c).cell
 name_kept batch js ps c =
-    elim (is_lost batch c.cell) as (λ b. c.cell ≡ (cond b (emptied c) (with_jobs (jobs_on c.cell js ps) c)).cell) [ true ↦ refl | false ↦ refl ]
+    elim (is_lost batch c.cell) as (λ b. c.cell ≡ (cond b (emptied c) (with_jobs (jobs_on c.cell js ps) c)).cell)
+    [ true ↦ refl | false ↦ refl ]
 
-names_kept : (batch : List (List ℕ)) (js : List Job) (ps : List Placement) (cs : List Answer) → map (λ (c : Answer). c.cell) cs ≡ map (λ (c : Answer). c.cell) (map (after_batch batch js ps) cs)
+names_kept : (batch : List (List ℕ)) (js : List Job) (ps : List Placement) (cs : List Answer)
+    → map (λ (c : Answer). c.cell) cs ≡ map (λ (c : Answer). c.cell) (map (after_batch batch js ps) cs)
 names_kept batch js ps [] = refl
 names_kept batch js ps (c ∷ cs) = λ i. name_kept batch js ps c i ∷ names_kept batch js ps cs i
 
-pub cells_differ : (site : Site) (batch : List (List ℕ)) → Differ (map (λ (c : Answer). c.cell) site.cells) → Differ (map (λ (c : Answer). c.cell) (after_step site batch).cells)
+pub cells_differ : (site : Site) (batch : List (List ℕ)) → Differ (map (λ (c : Answer). c.cell) site.cells)
+    → Differ (map (λ (c : Answer). c.cell) (after_step site batch).cells)
 cells_differ site batch h = subst Differ (names_kept batch (jobs_of_loss site batch) (plan site batch) site.cells) h
 
 -- some of those behind are taken out
@@ -39,14 +43,16 @@ module _ {X A : Type 0} (f : X → A) (p : X → Bool) where
   all_thin P [] h = h
   all_thin P (y ∷ ys) h =
       elim (p y) as (λ b. All P (map f (cond b (y ∷ filter p ys) (filter p ys)))) [
-        | true ↦ All-cons P (f y) (map f (filter p ys)) (All-head P (f y) (map f ys) h) (all_thin P ys (All-tail P (f y) (map f ys) h))
+        | true ↦ All-cons P (f y) (map f (filter p ys)) (All-head P (f y) (map f ys) h)
+            (all_thin P ys (All-tail P (f y) (map f ys) h))
         | false ↦ all_thin P ys (All-tail P (f y) (map f ys) h)
       ]
 
   all_behind : (P : A → Type 0) (xs ys : List X) → All P (map f (xs ++ ys)) → All P (map f (xs ++ filter p ys))
   all_behind P [] ys h = all_thin P ys h
   all_behind P (x ∷ xs) ys h =
-      All-cons P (f x) (map f (xs ++ filter p ys)) (All-head P (f x) (map f (xs ++ ys)) h) (all_behind P xs ys (All-tail P (f x) (map f (xs ++ ys)) h))
+      All-cons P (f x) (map f (xs ++ filter p ys)) (All-head P (f x) (map f (xs ++ ys)) h)
+      (all_behind P xs ys (All-tail P (f x) (map f (xs ++ ys)) h))
 
   pub differ_behind : (xs ys : List X) → Differ (map f (xs ++ ys)) → Differ (map f (xs ++ filter p ys))
   differ_behind [] ys h = filter_differs f p ys h
@@ -61,10 +67,12 @@ JobsDiffer site = (p : Wanted → Bool) → AreJobs (map instance_job (filter p 
 
 pub jobs_differ : (site : Site) (batch : List (List ℕ)) → JobsDiffer site → JobsDiffer (after_step site batch)
 jobs_differ site batch h = λ p.
-    differ_behind (λ (j : Job). j.job) (λ (j : Job). list_any (leaves j.job) (plan site batch)) (map instance_job (filter p site.wanted)) site.pending (h p)
+    differ_behind (λ (j : Job). j.job) (λ (j : Job). list_any (leaves j.job) (plan site batch))
+    (map instance_job (filter p site.wanted)) site.pending (h p)
 
 -- a cell with jobs for which it has containers
-module _ (c : Answer) (js : List Job) (few : length js ≤ c.free.containers) (level : length c.containers + c.free.containers ≤ c.totals.containers) where
+module _ (c : Answer) (js : List Job) (few : length js ≤ c.free.containers)
+    (level : length c.containers + c.free.containers ≤ c.totals.containers) where
   as_long : length (with_jobs js c).containers ≡ length c.containers + length js
   as_long =
       let both = length-append c.containers (map job_container js) in
@@ -94,18 +102,23 @@ module _ (site : Site) (batch : List (List ℕ)) (h : IsSite site) (level : IsLe
   on_it c = jobs_on c.cell (jobs_of_loss site batch) (plan site batch)
 
   level_at : (c : Answer) → Contains site.cells c → length c.containers + c.free.containers ≤ c.totals.containers
-  level_at c inside = All-contains (λ (a : Answer). length a.containers + a.free.containers ≤ a.totals.containers) site.cells c level inside
+  level_at c inside = All-contains (λ (a : Answer). length a.containers + a.free.containers ≤ a.totals.containers)
+      site.cells c level inside
 
   sound_cell : (c : Answer) → Contains site.cells c → IsSoundAnswer (after c)
   sound_cell c inside =
       elim (is_lost batch c.cell) as (λ b. IsSoundAnswer (cond b (emptied c) (with_jobs (on_it c) c))) [
         | true ↦ sound_emptied c
-        | false ↦ sound_with c (on_it c) (few_on site batch h c inside) (level_at c inside) (All-contains IsSoundAnswer site.cells c h.cells.each inside)
+        | false ↦ sound_with c (on_it c) (few_on site batch h c inside) (level_at c inside)
+            (All-contains IsSoundAnswer site.cells c h.cells.each inside)
       ]
 
-  level_cell : (c : Answer) → Contains site.cells c → length (after c).containers + (after c).free.containers ≤ (after c).totals.containers
+  level_cell : (c : Answer) → Contains site.cells c → length (after c).containers + (after c).free.containers
+      ≤ (after c).totals.containers
   level_cell c inside =
-      elim (is_lost batch c.cell) as (λ b. length (cond b (emptied c) (with_jobs (on_it c) c)).containers + (cond b (emptied c) (with_jobs (on_it c) c)).free.containers ≤ (cond b (emptied c) (with_jobs (on_it c) c)).totals.containers) [
+      elim (is_lost batch c.cell) as (λ b. length (cond b (emptied c) (with_jobs (on_it c) c)).containers +
+      (cond b (emptied c) (with_jobs (on_it c) c)).free.containers
+      ≤ (cond b (emptied c) (with_jobs (on_it c) c)).totals.containers) [
         | true ↦ omega arith
         | false ↦ level_with c (on_it c) (few_on site batch h c inside) (level_at c inside)
       ]

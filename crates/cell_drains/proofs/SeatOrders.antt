@@ -27,9 +27,11 @@ tags_exact (Some a) (Some b) e = ap Some (IsKeyOrder-name_order.exact a b e)
 pub IsKeyOrder-seat_order : IsKeyOrder seat_order
 IsKeyOrder-seat_order = record {
   total = then_total (on_total (λ s. s.tag) (options_total IsKeyOrder-name_order.total))
-      (then_total (on_total (λ s. s.zone) IsKeyOrder-name_order.total) (on_total (λ s. s.cell) IsKeyOrder-name_order.total));
+      (then_total (on_total (λ s. s.zone) IsKeyOrder-name_order.total)
+      (on_total (λ s. s.cell) IsKeyOrder-name_order.total));
   exact = λ x y e i.
-      let first = both_tie (option_cmp name_order x.tag y.tag) (ordering_then (name_order x.zone y.zone) (name_order x.cell y.cell)) e in
+      let first = both_tie (option_cmp name_order x.tag y.tag)
+      (ordering_then (name_order x.zone y.zone) (name_order x.cell y.cell)) e in
       let rest = both_tie (name_order x.zone y.zone) (name_order x.cell y.cell) first.1 in
       record {
         tag = tags_exact x.tag y.tag first.0 i;

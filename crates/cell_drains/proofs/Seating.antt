@@ -42,7 +42,8 @@ module _ {X A : Type 0} (f : X → A) (xs : List X) (differ : Differ (map f xs))
       others [] within unlike = All-nil (λ a. f y ≢ a)
       others (z ∷ zs) within unlike =
           All-cons (λ a. f y ≢ a) (f z) (map f zs)
-          (λ e. All-head (λ w. y ≢ w) z zs unlike (same_element f xs y z (apart (map f xs) differ) (All-head (Contains xs) y ys inside) (All-head (Contains xs) z zs within) e))
+          (λ e. All-head (λ w. y ≢ w) z zs unlike (same_element f xs y z (apart (map f xs) differ)
+          (All-head (Contains xs) y ys inside) (All-head (Contains xs) z zs within) e))
           (others zs (All-tail (Contains xs) z zs within) (All-tail (λ w. y ≢ w) z zs unlike))
 
 -- in order
@@ -50,7 +51,8 @@ sorted_differ : (ss : List Seat) → Differ (names ss) → Differ (names (by_sea
 sorted_differ ss h =
     names_of_some (λ (s : Seat). s.cell) ss h (by_seat ss)
     (All-table seat_order (λ (s : Seat). s) (Contains ss) ss (All-contains_itself ss))
-    (subst Differ (same (by_seat ss)) (differ-from_rising seat_order (λ (s : Seat). s) IsKeyOrder-seat_order (by_seat ss) (IsRising-table seat_order (λ (s : Seat). s) IsKeyOrder-seat_order ss)))
+    (subst Differ (same (by_seat ss)) (differ-from_rising seat_order (λ (s : Seat). s) IsKeyOrder-seat_order
+    (by_seat ss) (IsRising-table seat_order (λ (s : Seat). s) IsKeyOrder-seat_order ss)))
   where
     same : (xs : List Seat) → map (λ (s : Seat). s) xs ≡ xs
     same [] = refl
@@ -60,7 +62,8 @@ sorted_differ ss h =
 found_name : (ss : List Seat) (name : List ℕ) (s : Seat) → seat_named ss name ≡ Some s → s.cell ≡ name
 found_name [] name s e = cc
 found_name (x ∷ xs) name s e =
-    elim (same_name x.cell name) as (λ b. same_name x.cell name ≡ b → cond b (Some x) (seat_named xs name) ≡ Some s → s.cell ≡ name) [
+    elim (same_name x.cell name) as (λ b. same_name x.cell name ≡ b → cond b (Some x) (seat_named xs name) ≡ Some s
+    → s.cell ≡ name) [
       | true ↦ λ t is. ap (λ (y : Seat). y.cell) (sym (inside is)) ∙ name_from_test x.cell name t
       | false ↦ λ t is. found_name xs name s is
     ] refl e
@@ -74,24 +77,29 @@ module _ (ss : List Seat) where
   all_found P [] h = h
   all_found P (n ∷ ns) h =
       let rest = all_found P ns (All-tail P n ns h) in
-      elim (seat_named ss n) as (λ (o : Option Seat). seat_named ss n ≡ o → All P (names (cons_option o (as_named ss ns)))) [
+      elim (seat_named ss n) as (λ (o : Option Seat). seat_named ss n ≡ o
+      → All P (names (cons_option o (as_named ss ns)))) [
         | None ↦ λ e. rest
-        | (Some s) ↦ λ e. All-cons P s.cell (names (as_named ss ns)) (subst P (sym (found_name ss n s e)) (All-head P n ns h)) rest
+        | (Some s) ↦ λ e. All-cons P s.cell (names (as_named ss ns))
+            (subst P (sym (found_name ss n s e)) (All-head P n ns h)) rest
       ] refl
 
   found_differ : (ns : List (List ℕ)) → Differ ns → Differ (names (as_named ss ns))
   found_differ [] h = h
   found_differ (n ∷ ns) h =
       let rest = found_differ ns (tail-differs n ns h) in
-      elim (seat_named ss n) as (λ (o : Option Seat). seat_named ss n ≡ o → Differ (names (cons_option o (as_named ss ns)))) [
+      elim (seat_named ss n) as (λ (o : Option Seat). seat_named ss n ≡ o
+      → Differ (names (cons_option o (as_named ss ns)))) [
         | None ↦ λ e. rest
         | (Some s) ↦ λ e.
             AllPairs-cons (λ a b. a ≢ b) s.cell (names (as_named ss ns))
-            (subst (λ (m : List ℕ). All (λ b. m ≢ b) (names (as_named ss ns))) (sym (found_name ss n s e)) (all_found (λ b. n ≢ b) ns (head-differs n ns h)))
+            (subst (λ (m : List ℕ). All (λ b. m ≢ b) (names (as_named ss ns))) (sym (found_name ss n s e))
+            (all_found (λ b. n ≢ b) ns (head-differs n ns h)))
             rest
       ] refl
 
-cells_differ : (site : Site) (names_given : Option (List (List ℕ))) → IsSite site → NamesDiffer names_given → Differ (names (in_drain site names_given))
+cells_differ : (site : Site) (names_given : Option (List (List ℕ))) → IsSite site → NamesDiffer names_given
+    → Differ (names (in_drain site names_given))
 cells_differ site None h given = sorted_differ (seats site) (subst Differ (same_names site.cells) h.cells.differ)
 cells_differ site (Some ns) h given = found_differ (seats site) ns (given ns refl)
 

@@ -37,27 +37,35 @@ module _ (job : JobName) where
     abbrev call : Container → Option Todo
     call c = each_todo (act.Up (Some job)) now cell draining c
 
-    calls_of : (cs : List Container) → filter_map (each_todo (act.Up (Some job)) now cell draining) (filter (λ c. is_same_job job c.job) cs) ≡ filter_map (each_todo (act.Up (Some job)) now cell draining) cs
+    calls_of : (cs : List Container) → filter_map (each_todo (act.Up (Some job)) now cell draining)
+        (filter (λ c. is_same_job job c.job) cs) ≡ filter_map (each_todo (act.Up (Some job)) now cell draining) cs
     calls_of [] = refl
     calls_of (c ∷ cs) =
-        elim (of_job c) as (λ t. of_job c ≡ t → filter_map (each_todo (act.Up (Some job)) now cell draining) (cond t (c ∷ filter (λ d. is_same_job job d.job) cs) (filter (λ d. is_same_job job d.job) cs)) ≡ cons_option (call c) (filter_map (each_todo (act.Up (Some job)) now cell draining) cs)) [
+        elim (of_job c) as (λ t. of_job c ≡ t → filter_map (each_todo (act.Up (Some job)) now cell draining)
+        (cond t (c ∷ filter (λ d. is_same_job job d.job) cs) (filter (λ d. is_same_job job d.job) cs))
+        ≡ cons_option (call c) (filter_map (each_todo (act.Up (Some job)) now cell draining) cs)) [
           | true ↦ λ is. ap (cons_option (call c)) (calls_of cs)
           | false ↦ λ is.
               calls_of cs
-              ∙ ap (λ b. cons_option (cond b (start_todo now cell c.job c.instance) None) (filter_map (each_todo (act.Up (Some job)) now cell draining) cs)) (sym (others c is))
+              ∙ ap (λ b. cons_option (cond b (start_todo now cell c.job c.instance) None)
+              (filter_map (each_todo (act.Up (Some job)) now cell draining) cs)) (sym (others c is))
         ] refl
 
-  any_of : (cs : List Container) → list_any (comes_up (Some job)) (filter (λ c. is_same_job job c.job) cs) ≡ list_any (comes_up (Some job)) cs
+  any_of : (cs : List Container) → list_any (comes_up (Some job)) (filter (λ c. is_same_job job c.job) cs)
+      ≡ list_any (comes_up (Some job)) cs
   any_of [] = refl
   any_of (c ∷ cs) =
-      elim (of_job c) as (λ t. of_job c ≡ t → list_any (comes_up (Some job)) (cond t (c ∷ filter (λ d. is_same_job job d.job) cs) (filter (λ d. is_same_job job d.job) cs)) ≡ (comes_up (Some job) c || list_any (comes_up (Some job)) cs)) [
+      elim (of_job c) as (λ t. of_job c ≡ t → list_any (comes_up (Some job))
+      (cond t (c ∷ filter (λ d. is_same_job job d.job) cs) (filter (λ d. is_same_job job d.job) cs))
+      ≡ (comes_up (Some job) c || list_any (comes_up (Some job)) cs)) [
         | true ↦ λ is. ap (λ b. comes_up (Some job) c || b) (any_of cs)
         | false ↦ λ is. any_of cs ∙ ap (λ b. b || list_any (comes_up (Some job)) cs) (sym (others c is))
       ] refl
 
 -- the calls of an act are those for the containers of the job that it names
 pub asked_calls : (a : CellAct) (now : Moment) (cell : List ℕ) (draining : Bool) (cs : List Container)
-    → filter_map (each_todo a now cell draining) (those_of (named_in a) cs) ≡ filter_map (each_todo a now cell draining) cs
+    → filter_map (each_todo a now cell draining) (those_of (named_in a) cs)
+    ≡ filter_map (each_todo a now cell draining) cs
 asked_calls (act.Join zone tag totals ttl) now cell draining cs = refl
 asked_calls (act.Renew ttl) now cell draining cs = refl
 asked_calls (act.Claim job memory disk) now cell draining cs = refl
@@ -89,22 +97,31 @@ those_of_none (Some job) = refl
 
 -- the calls of an act that is not refused, by the containers that it asks
 module _ (now : Moment) (rep : CellRep) (asked : List Container) where
-  planned_in : (a : CellAct) (o : Option Joined) → asked ≡ those_of (named_in a) (option_map_or (λ (j : Joined). j.store.containers) o []) → None ≡ each_refusal a o → ((j : Joined) → o ≡ Some j → plan_joined a now rep.cell o ≡ each_plan a now rep.cell j)
-      → or_idle (filter_map (each_todo a now rep.cell (option_map_or (λ (j : Joined). j.draining) o false)) asked) ≡ plan_joined a now rep.cell o
+  planned_in : (a : CellAct) (o : Option Joined) → asked
+      ≡ those_of (named_in a) (option_map_or (λ (j : Joined). j.store.containers) o []) → None ≡ each_refusal a o
+      → ((j : Joined) → o ≡ Some j → plan_joined a now rep.cell o ≡ each_plan a now rep.cell j)
+      → or_idle (filter_map (each_todo a now rep.cell (option_map_or (λ (j : Joined). j.draining) o false)) asked)
+      ≡ plan_joined a now rep.cell o
   planned_in a None is none same = absurd (cc)
   planned_in a (Some j) is none same =
       ap (λ cs. or_idle (filter_map (each_todo a now rep.cell j.draining) cs)) is
       ∙ ap or_idle (asked_calls a now rep.cell j.draining j.store.containers)
-      ∙ elim (refused_each a j.store.containers) as (λ t. None ≡ cond t (Some (Store Unknown)) None → or_idle (filter_map (each_todo a now rep.cell j.draining) j.store.containers) ≡ cond t (Local (Store Unknown) ∷ []) (or_idle (filter_map (each_todo a now rep.cell j.draining) j.store.containers))) [
+      ∙ elim (refused_each a j.store.containers) as (λ t. None ≡ cond t (Some (Store Unknown)) None
+      → or_idle (filter_map (each_todo a now rep.cell j.draining) j.store.containers)
+      ≡ cond t (Local (Store Unknown) ∷ []) (or_idle (filter_map
+      (each_todo a now rep.cell j.draining) j.store.containers))) [
         | true ↦ λ e. absurd (cc)
         | false ↦ λ e. refl
       ] none
       ∙ sym (same j refl)
 
-  pub planned : (a : CellAct) → IsOfEach a → asked ≡ those_of (named_in a) (containers_of rep) → None ≡ each_refusal a rep.joined
+  pub planned : (a : CellAct) → IsOfEach a → asked ≡ those_of (named_in a) (containers_of rep)
+      → None ≡ each_refusal a rep.joined
       → or_idle (filter_map (each_todo a now rep.cell (is_draining rep)) asked) ≡ plan a now rep
-  planned (act.Up job) each is none = planned_in (act.Up job) rep.joined is none (λ j e. ap (plan_joined (act.Up job) now rep.cell) e)
-  planned act.Settle each is none = planned_in act.Settle rep.joined is none (λ j e. ap (plan_joined act.Settle now rep.cell) e)
+  planned (act.Up job) each is none = planned_in (act.Up job) rep.joined is none
+      (λ j e. ap (plan_joined (act.Up job) now rep.cell) e)
+  planned act.Settle each is none = planned_in act.Settle rep.joined is none
+      (λ j e. ap (plan_joined act.Settle now rep.cell) e)
   planned (act.Join zone tag totals ttl) each is none = absurd each
   planned (act.Renew ttl) each is none = absurd each
   planned (act.Claim job memory disk) each is none = absurd each
@@ -115,19 +132,25 @@ module _ (now : Moment) (rep : CellRep) (asked : List Container) where
 
 -- an act that is refused does nothing but say so
 module _ (now : Moment) (rep : CellRep) (why : RepRefusal) where
-  refused_in : (a : CellAct) (o : Option Joined) → Some why ≡ each_refusal a o → ((j : Joined) → o ≡ Some j → plan_joined a now rep.cell o ≡ each_plan a now rep.cell j)
+  refused_in : (a : CellAct) (o : Option Joined) → Some why ≡ each_refusal a o
+      → ((j : Joined) → o ≡ Some j → plan_joined a now rep.cell o ≡ each_plan a now rep.cell j)
       → Local why ∷ [] ≡ plan_joined a now rep.cell o
   refused_in a None e same = ap (λ (x : Option RepRefusal). Local (unwrap_or x why) ∷ []) e
   refused_in a (Some j) e same =
-      elim (refused_each a j.store.containers) as (λ t. Some why ≡ cond t (Some (Store Unknown)) None → Local why ∷ [] ≡ cond t (Local (Store Unknown) ∷ []) (or_idle (filter_map (each_todo a now rep.cell j.draining) j.store.containers))) [
+      elim (refused_each a j.store.containers) as (λ t. Some why ≡ cond t (Some (Store Unknown)) None
+      → Local why ∷ [] ≡ cond t (Local (Store Unknown) ∷ [])
+      (or_idle (filter_map (each_todo a now rep.cell j.draining) j.store.containers))) [
         | true ↦ λ k. ap (λ (x : Option RepRefusal). Local (unwrap_or x why) ∷ []) k
         | false ↦ λ k. absurd (cc)
       ] e
       ∙ sym (same j refl)
 
-  pub planned_refused : (a : CellAct) → IsOfEach a → Some why ≡ each_refusal a rep.joined → Local why ∷ [] ≡ plan a now rep
-  planned_refused (act.Up job) each e = refused_in (act.Up job) rep.joined e (λ j is. ap (plan_joined (act.Up job) now rep.cell) is)
-  planned_refused act.Settle each e = refused_in act.Settle rep.joined e (λ j is. ap (plan_joined act.Settle now rep.cell) is)
+  pub planned_refused : (a : CellAct) → IsOfEach a → Some why ≡ each_refusal a rep.joined
+      → Local why ∷ [] ≡ plan a now rep
+  planned_refused (act.Up job) each e = refused_in (act.Up job) rep.joined e
+      (λ j is. ap (plan_joined (act.Up job) now rep.cell) is)
+  planned_refused act.Settle each e = refused_in act.Settle rep.joined e
+      (λ j is. ap (plan_joined act.Settle now rep.cell) is)
   planned_refused (act.Join zone tag totals ttl) each e = absurd each
   planned_refused (act.Renew ttl) each e = absurd each
   planned_refused (act.Claim job memory disk) each e = absurd each

@@ -40,19 +40,22 @@ module _ (job : Job) (rep : CellRep) (j : Joined) (h : IsStore j.store) where
   new = with_store rep j room
 
   record Stood (refused : Bool) (rep' : CellRep) : Type 0 where
-    containers : containers_of rep' ≡ cond refused j.store.containers (j.store.containers ++ next_container j.store job.job job.memory job.disk ∷ [])
+    containers : containers_of rep' ≡ cond refused j.store.containers
+        (j.store.containers ++ next_container j.store job.job job.memory job.disk ∷ [])
     last : last_of rep'.joined ≡ j.store.last + 1
 
   given_up : Stood true (without new (next_of j.store))
   given_up =
-      let after : Result StoreView StoreRefusal → CellRep = λ r. result_unwrap_or (store_result new (record j { store = room }) r) new in
+      let after : Result StoreView StoreRefusal → CellRep = λ r.
+      result_unwrap_or (store_result new (record j { store = room }) r) new in
       let e = gives_up j.store job.job job.memory job.disk h in
       record { containers = ap (λ r. containers_of (after r)) e; last = ap (λ r. last_of (after r).joined) e }
 
   stood : Stood false new
   stood = record { containers = refl; last = refl }
 
-  told_stands : (name : JobName) (cell : List ℕ) (e : CallEnd) → Stood (is_refusal e) (left (claim_op cell name (next_of j.store)) e new)
+  told_stands : (name : JobName) (cell : List ℕ) (e : CallEnd)
+      → Stood (is_refusal e) (left (claim_op cell name (next_of j.store)) e new)
   told_stands (Lrp key) cell (Got (reply.Ok place stamp)) = stood
   told_stands (Lrp key) cell (Got (reply.Same place)) = stood
   told_stands (Lrp key) cell (Got (reply.Refused why place)) = given_up
@@ -69,7 +72,8 @@ module _ (job : Job) (rep : CellRep) (j : Joined) (h : IsStore j.store) where
   After now a r =
       let claimed = claimed_next (next_container j.store job.job job.memory job.disk) r in
       let todo = claim_todo now (λ c. claim_op rep.cell job.job c.instance) claimed in
-      IsAnswer todo a → IsLeftByStart job (Some j) a (after_todo todo a.end (with_store rep j (store_claimed j.store claimed)))
+      IsAnswer todo a → IsLeftByStart job (Some j) a (after_todo todo a.end
+      (with_store rep j (store_claimed j.store claimed)))
 
   refused_stands : (now : Moment) (a : Called) (why : StoreRefusal) → After now a (Err why)
   refused_stands now a why answer = record {
@@ -87,18 +91,26 @@ module _ (job : Job) (rep : CellRep) (j : Joined) (h : IsStore j.store) where
 
   job_stands : (now : Moment) (a : Called) → After now a (reserving j.store job.job job.memory job.disk)
   job_stands now a =
-      elim (nat_lt (free_of j.store).memory job.memory) as (λ x. After now a (cond x (Err NoMemoryLeft) (cond (nat_lt (free_of j.store).disk job.disk) (Err NoDiskLeft) (cond ((free_of j.store).containers == 0) (Err NoSlot) (Ok room))))) [
+      elim (nat_lt (free_of j.store).memory job.memory) as
+      (λ x. After now a (cond x (Err NoMemoryLeft) (cond (nat_lt (free_of j.store).disk job.disk) (Err NoDiskLeft)
+      (cond ((free_of j.store).containers == 0) (Err NoSlot) (Ok room))))) [
         | true ↦ refused_stands now a NoMemoryLeft
-        | false ↦ elim (nat_lt (free_of j.store).disk job.disk) as (λ x. After now a (cond x (Err NoDiskLeft) (cond ((free_of j.store).containers == 0) (Err NoSlot) (Ok room)))) [
-          | true ↦ refused_stands now a NoDiskLeft
-          | false ↦ elim ((free_of j.store).containers == 0) as (λ x. After now a (cond x (Err NoSlot) (Ok room))) [ true ↦ refused_stands now a NoSlot | false ↦ called_stands now a ]
-        ]
+        | false ↦ elim (nat_lt (free_of j.store).disk job.disk) as
+            (λ x. After now a (cond x (Err NoDiskLeft) (cond ((free_of j.store).containers == 0) (Err NoSlot)
+            (Ok room)))) [
+              | true ↦ refused_stands now a NoDiskLeft
+              | false ↦ elim ((free_of j.store).containers == 0) as
+                  (λ x. After now a (cond x (Err NoSlot) (Ok room)))
+                  [ true ↦ refused_stands now a NoSlot | false ↦ called_stands now a ]
+            ]
       ]
 
 performed : (job : Job) (now : Moment) (rep : CellRep) (o : Option Joined) → rep.joined ≡ o → HasStore o → (a : Called)
-    → IsAnswer (job_todo job now rep.cell o) a → IsLeftByStart job o a (after_todo (job_todo job now rep.cell o) a.end (job_begun job rep o))
+    → IsAnswer (job_todo job now rep.cell o) a → IsLeftByStart job o a
+    (after_todo (job_todo job now rep.cell o) a.end (job_begun job rep o))
 performed job now rep None e h a answer = record {
-  containers = ap (λ (o : Option Joined). containers_of (record rep { joined = o })) e ∙ ap (λ (b : Called). after_start job None b.command b.end) (sym answer);
+  containers = ap (λ (o : Option Joined). containers_of (record rep { joined = o })) e ∙ ap
+      (λ (b : Called). after_start job None b.command b.end) (sym answer);
   last = ap last_of e ∙ ap (λ (b : Called). last_after None b.command) (sym answer);
 }
 performed job now rep (Some j) e h a answer = job_stands job rep j h now a answer
@@ -110,7 +122,8 @@ record Once (t : Todo) (rep rep' : CellRep) (as' : List Called) : Type 0 where
   answer : IsAnswer t one
   left_is : rep' ≡ after_todo t one.end rep
 
-once : (by : ℕ) (actor : List ℕ) (ends : Option WireEnds) (t : Todo) (rep : CellRep) (v : PortView) (as' : List Called) (rep' : CellRep) (w : PortView)
+once : (by : ℕ) (actor : List ℕ) (ends : Option WireEnds) (t : Todo) (rep : CellRep) (v : PortView) (as' : List Called)
+    (rep' : CellRep) (w : PortView)
     → Follows by actor ends (t ∷ []) rep v as' rep' w → Once t rep rep' as'
 once by actor ends t rep v [] rep' w f = absurd f
 once by actor ends t rep v (a ∷ []) rep' w f = record { one = a; only = refl; answer = f.1; left_is = f.3.0 }
@@ -131,7 +144,8 @@ starts_stand by job now s s' a h started out_is =
     ⊎_elim
     (λ p.
     let o = once by s.rep.cell s.ends t rep s.view p.new s'.rep s'.view p.follows in
-    let is : o.one ≡ a = first_is o.one a (sym o.only ∙ append_cancel_left s.out p.new (a ∷ []) (sym p.out_is ∙ out_is)) in
+    let is : o.one ≡ a = first_is o.one a (sym o.only ∙ append_cancel_left s.out p.new (a ∷ []) (sym p.out_is ∙ out_is))
+    in
     subst (λ (b : Called). IsLeftByStart job s.rep.joined b s'.rep) is
     (subst (λ (r : CellRep). IsLeftByStart job s.rep.joined o.one r) (sym o.left_is)
     (performed job now s.rep s.rep.joined refl h o.one o.answer)))
@@ -139,10 +153,12 @@ starts_stand by job now s s' a h started out_is =
     let out : s'.out ≡ s.out ++ starved ∷ [] = ap (λ (x : Stage). x.out) e in
     let is : starved ≡ a = first_is starved a (append_cancel_left s.out (starved ∷ []) (a ∷ []) (sym out ∙ out_is)) in
     subst (λ (b : Called). IsLeftByStart job s.rep.joined b s'.rep) is
-    (subst (λ (x : Stage). IsLeftByStart job s.rep.joined starved x.rep) (sym e) (record { containers = refl; last = refl })))
+    (subst (λ (x : Stage). IsLeftByStart job s.rep.joined starved x.rep) (sym e)
+    (record { containers = refl; last = refl })))
     started
 
-answers : (cell : List ℕ) (j : Joined) → IsStore j.store → (rep : CellRep) → rep.cell ≡ cell → IsAnswerOf rep (answer_in cell j)
+answers : (cell : List ℕ) (j : Joined) → IsStore j.store → (rep : CellRep) → rep.cell ≡ cell
+    → IsAnswerOf rep (answer_in cell j)
 answers cell j h rep e = record {
   cell = sym e;
   rising = h.rising;
@@ -157,7 +173,8 @@ abbrev some_or : Answer → Option Answer → Answer
 some_or d None = d
 some_or d (Some x) = x
 
-told : (rep : CellRep) (a : Answer) (o : Option Joined) → HasStore o → option_map (answer_in rep.cell) o ≡ Some a → IsAnswerOf rep a
+told : (rep : CellRep) (a : Answer) (o : Option Joined) → HasStore o → option_map (answer_in rep.cell) o ≡ Some a
+    → IsAnswerOf rep a
 told rep a None k e = absurd (cc)
 told rep a (Some j) k e = subst (IsAnswerOf rep) (ap (some_or a) e) (answers rep.cell j k rep refl)
 

@@ -15,8 +15,10 @@ use Rattle.bbs_laws.proofs.Public.{replay_log-append, told_in-one_more}
 use Rattle.plain_step.specs.Plain.{IsPlain}
 use Rattle.cell_tests.specs.Failing.{EndsHere}
 
-pub plain_doubt : (base rows : Rows) (log after : List Item) (told told_after : List (Option Events)) (by : ℕ) (c : Command)
-    → IsPlain base rows log told → after ≡ log ++ Doubt by c ∷ [] → told_after ≡ told ++ None ∷ [] → IsPlain base rows after told_after
+pub plain_doubt : (base rows : Rows) (log after : List Item) (told told_after : List (Option Events)) (by : ℕ)
+    (c : Command)
+    → IsPlain base rows log told → after ≡ log ++ Doubt by c ∷ [] → told_after ≡ told ++ None ∷ []
+    → IsPlain base rows after told_after
 plain_doubt base rows log after told told_after by c p after_is told_is = record {
   replayed = p.replayed ∙ sym (replay_log-append base log (Doubt by c ∷ [])) ∙ ap (replay_log base) (sym after_is);
   valid = p.valid;

@@ -17,23 +17,28 @@ use Rattle.container_store.proofs.Numbered.{Entries, at_itself, here_number, not
 abbrev pub at : ℕ → Entries → Option Container
 at n es = lookup (is_at (nat_cmp n)) es
 
-module _ (n : ℕ) (c : Container) (cs : List Container) (b : T (below_all nat_cmp n (keyed nat_cmp number_of (c ∷ cs)))) where
+module _ (n : ℕ) (c : Container) (cs : List Container)
+    (b : T (below_all nat_cmp n (keyed nat_cmp number_of (c ∷ cs)))) where
   pub below_first : n < number_of c
-  below_first = lt_from_less n (number_of c) (less_from_test (nat_cmp n (number_of c)) (first_of_both (is_lt (nat_cmp n (number_of c))) (below_all nat_cmp n (keyed nat_cmp number_of cs)) b))
+  below_first = lt_from_less n (number_of c) (less_from_test (nat_cmp n (number_of c))
+      (first_of_both (is_lt (nat_cmp n (number_of c))) (below_all nat_cmp n (keyed nat_cmp number_of cs)) b))
 
   pub below_others : T (below_all nat_cmp n (keyed nat_cmp number_of cs))
   below_others = second_of_both (is_lt (nat_cmp n (number_of c))) (below_all nat_cmp n (keyed nat_cmp number_of cs)) b
 
 -- what is found passes the test, and is above what all are above
-pub below_found : (p : Container → Bool) (n : ℕ) (cs : List Container) (c : Container) → T (below_all nat_cmp n (keyed nat_cmp number_of cs)) → find p cs ≡ Some c → n < number_of c
+pub below_found : (p : Container → Bool) (n : ℕ) (cs : List Container) (c : Container)
+    → T (below_all nat_cmp n (keyed nat_cmp number_of cs)) → find p cs ≡ Some c → n < number_of c
 below_found p n [] c b f = absurd (cc)
 below_found p n (x ∷ xs) c b f =
     elim (p x) as (λ t. cond t (Some x) (find p xs) ≡ Some c → n < number_of c) [
-      | true ↦ λ k. let one : x ≡ c = ap (λ o. unwrap_or o c) k in subst (λ (y : Container). n < number_of y) one (below_first n x xs b)
+      | true ↦ λ k. let one : x ≡ c = ap (λ o. unwrap_or o c) k in
+          subst (λ (y : Container). n < number_of y) one (below_first n x xs b)
       | false ↦ λ k. below_found p n xs c (below_others n x xs b) k
     ] f
 
-below_held : (n m : ℕ) (es : Entries) (c : Container) → AreNumbered es → T (below_all nat_cmp n (keyed nat_cmp number_of (values_of es))) → at m es ≡ Some c → n < m
+below_held : (n m : ℕ) (es : Entries) (c : Container) → AreNumbered es
+    → T (below_all nat_cmp n (keyed nat_cmp number_of (values_of es))) → at m es ≡ Some c → n < m
 below_held n m [] c h b f = absurd (cc)
 below_held n m (e ∷ es) c h b f =
     elim (is_at (nat_cmp m) e.0) as (λ t. is_at (nat_cmp m) e.0 ≡ t → cond t (Some e.1) (at m es) ≡ Some c → n < m) [
@@ -55,7 +60,8 @@ found_passes p (x ∷ xs) c f =
     ] refl f
 
 -- what is found stands at its number
-pub found_held : (p : Container → Bool) (es : Entries) (c : Container) → AreNumbered es → IsRising nat_cmp number_of (values_of es)
+pub found_held : (p : Container → Bool) (es : Entries) (c : Container) → AreNumbered es
+    → IsRising nat_cmp number_of (values_of es)
     → find p (values_of es) ≡ Some c → at (number_of c) es ≡ Some c
 found_held p [] c h r f = absurd (cc)
 found_held p (e ∷ es) c h r f =
@@ -65,14 +71,17 @@ found_held p (e ∷ es) c h r f =
           let key : number_of c ≡ e.0 = sym (h.0 ∙ ap number_of one) in
           ap (λ t. cond t (Some e.1) (at (number_of c) es)) (ap (λ m. is_at (nat_cmp m) e.0) key ∙ at_itself e.0) ∙ k
       | false ↦ λ k.
-          let low = below_found p (number_of e.1) (values_of es) c (below_rest nat_cmp number_of e.1 (values_of es) r) k in
+          let low = below_found p (number_of e.1) (values_of es) c
+          (below_rest nat_cmp number_of e.1 (values_of es) r) k in
           let key : e.0 ≡ number_of e.1 = h.0 in
-          ap (λ t. cond t (Some e.1) (at (number_of c) es)) (not_here (number_of c) e.0 (λ s. omega (arith, s, key, low)))
+          ap (λ t. cond t (Some e.1) (at (number_of c) es)) (not_here (number_of c) e.0
+          (λ s. omega (arith, s, key, low)))
           ∙ found_held p es c h.1 (IsRising-tail nat_cmp number_of e.1 (values_of es) r) k
     ] f
 
 -- where none passes, none that stands at a number does
-none_held : (p : Container → Bool) (n : ℕ) (es : Entries) (c : Container) → find p (values_of es) ≡ None → at n es ≡ Some c → p c ≡ false
+none_held : (p : Container → Bool) (n : ℕ) (es : Entries) (c : Container) → find p (values_of es) ≡ None
+    → at n es ≡ Some c → p c ≡ false
 none_held p n [] c f k = absurd (cc)
 none_held p n (e ∷ es) c f k =
     elim (p e.1) as (λ t. p e.1 ≡ t → cond t (Some e.1) (find p (values_of es)) ≡ None → p c ≡ false) [
@@ -85,12 +94,14 @@ none_held p n (e ∷ es) c f k =
     ] refl f
 
 -- no container that passes has a lower number than what is found
-first_found : (p : Container → Bool) (n : ℕ) (es : Entries) (c d : Container) → AreNumbered es → IsRising nat_cmp number_of (values_of es)
+first_found : (p : Container → Bool) (n : ℕ) (es : Entries) (c d : Container) → AreNumbered es
+    → IsRising nat_cmp number_of (values_of es)
     → find p (values_of es) ≡ Some c → at n es ≡ Some d → p d ≡ true → number_of c ≤ n
 first_found p n [] c d h r f k q = absurd (cc)
 first_found p n (e ∷ es) c d h r f k q =
     let key : e.0 ≡ number_of e.1 = h.0 in
-    elim (is_at (nat_cmp n) e.0) as (λ t. is_at (nat_cmp n) e.0 ≡ t → cond t (Some e.1) (at n es) ≡ Some d → number_of c ≤ n) [
+    elim (is_at (nat_cmp n) e.0) as (λ t. is_at (nat_cmp n) e.0 ≡ t → cond t (Some e.1) (at n es) ≡ Some d
+    → number_of c ≤ n) [
       | true ↦ λ is m.
           let one : e.1 ≡ d = ap (λ o. unwrap_or o d) m in
           let passes : p e.1 ≡ true = ap p one ∙ q in
@@ -108,7 +119,8 @@ first_found p n (e ∷ es) c d h r f k q =
           ] f
     ] refl k
 
-module _ (p : Container → Bool) (es : Entries) (h : AreNumbered es) (r : IsRising nat_cmp number_of (values_of es)) where
+module _ (p : Container → Bool) (es : Entries) (h : AreNumbered es)
+    (r : IsRising nat_cmp number_of (values_of es)) where
   -- none passes, where none that stands at its number does
   pub find-none : ((c : Container) → at (number_of c) es ≡ Some c → p c ≡ true → ⊥) → None ≡ find p (values_of es)
   find-none never = by (find p (values_of es)) refl

@@ -36,16 +36,20 @@ module _ (s : Inside) (h : IsInside s) (v : StoreView) (view_is : store_view_of 
   -- the container of an instance is the one of its number, where it has the store's epoch
   pub find-held : (i : Instance) → i.epoch ≡ s.epoch → get nat_cmp s.containers i.number ≡ find_container i v.containers
   find-held i same =
-      sym (find_by_number i s.epoch s.last same s.containers.entries h.numbered h.store.given) ∙ ap (find_container i) same_list
+      sym (find_by_number i s.epoch s.last same s.containers.entries h.numbered h.store.given) ∙ ap
+      (find_container i) same_list
 
   pub find-other : (i : Instance) → i.epoch ≢ s.epoch → None ≡ find_container i v.containers
   find-other i other =
-      sym (find_elsewhere i s.epoch s.last other (values_of s.containers.entries) h.store.given) ∙ ap (find_container i) same_list
+      sym (find_elsewhere i s.epoch s.last other (values_of s.containers.entries) h.store.given) ∙ ap
+      (find_container i) same_list
 
   -- the next container of all
-  module _ (after : ℕ) (r : List (ℕ × Container)) (range : IsRangeOf nat_cmp (Excluded after) Unbounded s.containers r) where
+  module _ (after : ℕ) (r : List (ℕ × Container)) (range : IsRangeOf nat_cmp
+      (Excluded after) Unbounded s.containers r) where
     later_all : (c : Container) → is_later None after c ≡ true → nat_cmp after (number_of c) ≡ Less
-    later_all c e = less_from_lt after (number_of c) (ltb-true after (number_of c) (and_parts (ltb after (number_of c)) true e).0)
+    later_all c e = less_from_lt after (number_of c) (ltb-true after (number_of c)
+        (and_parts (ltb after (number_of c)) true e).0)
 
     pub next-none : r ≡ [] → None ≡ find (is_later None after) v.containers
     next-none is =
@@ -53,23 +57,28 @@ module _ (s : Inside) (h : IsInside s) (v : StoreView) (view_is : store_view_of 
         (λ c held later. let gone = range.5 is (number_of c) (later_all c later, tt) in absurd (cc))
         ∙ ap (find (is_later None after)) same_list
 
-    pub next-some : (e : ℕ × Container) (t : List (ℕ × Container)) → r ≡ e ∷ t → Some e.1 ≡ find (is_later None after) v.containers
+    pub next-some : (e : ℕ × Container) (t : List (ℕ × Container)) → r ≡ e ∷ t
+        → Some e.1 ≡ find (is_later None after) v.containers
     next-some e t is =
         let inside : IsEntryInRange nat_cmp (Excluded after) Unbounded s.containers e =
-        All-head (IsEntryInRange nat_cmp (Excluded after) Unbounded s.containers) e t (subst (All (IsEntryInRange nat_cmp (Excluded after) Unbounded s.containers)) is range.0) in
+        All-head (IsEntryInRange nat_cmp (Excluded after) Unbounded s.containers) e t
+        (subst (All (IsEntryInRange nat_cmp (Excluded after) Unbounded s.containers)) is range.0) in
         let number : number_of e.1 ≡ e.0 = found_number e.0 s.containers.entries e.1 h.numbered inside.1 in
         let low : after < number_of e.1 = subst (λ n. after < n) (sym number) (lt_from_less after e.0 inside.0.0) in
-        let least : (d : Container) → get nat_cmp s.containers (number_of d) ≡ Some d → is_later None after d ≡ true → e.0 ≤ number_of d =
+        let least : (d : Container) → get nat_cmp s.containers (number_of d) ≡ Some d → is_later None after d ≡ true
+        → e.0 ≤ number_of d =
         λ d held later.
         le_from_not_gt e.0 (number_of d)
-        (subst (λ (xs : List (ℕ × Container)). IfSome (slice_get xs 0) (λ x. is_gt (nat_cmp x.0 (number_of d)) ≡ false)) is
+        (subst (λ (xs : List (ℕ × Container)). IfSome (slice_get xs 0) (λ x. is_gt (nat_cmp x.0 (number_of d)) ≡ false))
+        is
         (range.2 (number_of d) (later_all d later, tt) (ap is_some held))) in
         find-least (is_later None after) s.containers.entries h.numbered h.store.rising e.0 e.1 inside.1
         (ap (λ b. b && true) (lt-ltb after (number_of e.1) low)) least
         ∙ ap (find (is_later None after)) same_list
 
   -- the next container of a job
-  module _ (job : JobName) (after : ℕ) (r : List JobEntry) (range : IsKeyRangeOf entry_order (Excluded (job_entry job after)) Unbounded s.jobs r) where
+  module _ (job : JobName) (after : ℕ) (r : List JobEntry)
+      (range : IsKeyRangeOf entry_order (Excluded (job_entry job after)) Unbounded s.jobs r) where
     abbrev from : JobEntry
     from = job_entry job after
 
@@ -80,10 +89,13 @@ module _ (s : Inside) (h : IsInside s) (v : StoreView) (view_is : store_view_of 
     later_of : (c : Container) → is_later (Some job) after c ≡ true → entry_order from (entry_of c) ≡ Less
     later_of c e =
         by_number from (entry_of c) (of_job c e)
-        ∙ less_from_lt after (number_of c) (ltb-true after (number_of c) (and_parts (ltb after (number_of c)) (is_same_job job c.job) e).0)
+        ∙ less_from_lt after (number_of c) (ltb-true after (number_of c)
+        (and_parts (ltb after (number_of c)) (is_same_job job c.job) e).0)
 
-    there : (c : Container) → get nat_cmp s.containers (number_of c) ≡ Some c → contains entry_order s.jobs (entry_of c) ≡ true
-    there c held = h.jobs (entry_of c) ∙ ap (is_entry_of (entry_of c)) held ∙ test_from_entry (entry_of c) (entry_of c) refl
+    there : (c : Container) → get nat_cmp s.containers (number_of c) ≡ Some c
+        → contains entry_order s.jobs (entry_of c) ≡ true
+    there c held = h.jobs (entry_of c) ∙ ap (is_entry_of (entry_of c)) held ∙ test_from_entry (entry_of c)
+        (entry_of c) refl
 
     pub next_of-none : r ≡ [] → None ≡ find (is_later (Some job) after) v.containers
     next_of-none is =
@@ -96,10 +108,12 @@ module _ (s : Inside) (h : IsInside s) (v : StoreView) (view_is : store_view_of 
 
     module _ (k : JobEntry) (t : List JobEntry) (is : r ≡ k ∷ t) where
       inside : IsKeyInRange entry_order (Excluded from) Unbounded s.jobs k
-      inside = All-head (IsKeyInRange entry_order (Excluded from) Unbounded s.jobs) k t (subst (All (IsKeyInRange entry_order (Excluded from) Unbounded s.jobs)) is range.0)
+      inside = All-head (IsKeyInRange entry_order (Excluded from) Unbounded s.jobs) k t
+          (subst (All (IsKeyInRange entry_order (Excluded from) Unbounded s.jobs)) is range.0)
 
       -- no container of the job that comes later stands before it
-      not_before : (c : Container) → get nat_cmp s.containers (number_of c) ≡ Some c → is_later (Some job) after c ≡ true → is_gt (entry_order k (entry_of c)) ≡ false
+      not_before : (c : Container) → get nat_cmp s.containers (number_of c) ≡ Some c
+          → is_later (Some job) after c ≡ true → is_gt (entry_order k (entry_of c)) ≡ false
       not_before c held later =
           subst (λ (xs : List JobEntry). IfSome (slice_get xs 0) (λ x. is_gt (entry_order x (entry_of c)) ≡ false)) is
           (range.2 (entry_of c) (later_of c later, tt) (there c held))
@@ -119,19 +133,24 @@ module _ (s : Inside) (h : IsInside s) (v : StoreView) (view_is : store_view_of 
             let less : nat_cmp after (number_of c) ≡ Less =
             sym (by_number from (entry_of c) key) ∙ ap (entry_order from) (sym entry_is) ∙ inside.0.0 in
             let later : is_later (Some job) after c ≡ true =
-            ap (λ b. b && is_same_job job c.job) (lt-ltb after (number_of c) (lt_from_less after (number_of c) less)) ∙ same in
-            let least : (d : Container) → get nat_cmp s.containers (number_of d) ≡ Some d → is_later (Some job) after d ≡ true → k.number ≤ number_of d =
+            ap (λ b. b && is_same_job job c.job) (lt-ltb after (number_of c) (lt_from_less after (number_of c) less)) ∙
+            same in
+            let least : (d : Container) → get nat_cmp s.containers (number_of d) ≡ Some d
+            → is_later (Some job) after d ≡ true → k.number ≤ number_of d =
             λ d there_d later_d.
             let one : k.job ≡ (entry_of d).job = ap (λ (x : JobEntry). x.job) entry_is ∙ sym key ∙ of_job d later_d in
-            le_from_not_gt k.number (number_of d) (ap is_gt (sym (by_number k (entry_of d) one)) ∙ not_before d there_d later_d) in
-            find-least (is_later (Some job) after) s.containers.entries h.numbered h.store.rising k.number c held later least
+            le_from_not_gt k.number (number_of d) (ap is_gt (sym (by_number k (entry_of d) one)) ∙ not_before d there_d
+            later_d) in
+            find-least (is_later (Some job) after) s.containers.entries h.numbered h.store.rising k.number c held later
+            least
             ∙ ap (find (is_later (Some job) after)) same_list
 
         pub next_of-other : is_same_job job c.job ≡ false → None ≡ find (is_later (Some job) after) v.containers
         next_of-other other =
             find-none (is_later (Some job) after) s.containers.entries h.numbered h.store.rising
             (λ d there_d later_d.
-            let one : k.job ≡ job_key job = between from k (entry_of d) inside.0.0 (not_before d there_d later_d) (of_job d later_d) in
+            let one : k.job ≡ job_key job = between from k (entry_of d) inside.0.0 (not_before d there_d later_d)
+            (of_job d later_d) in
             let same = same_from_key job c.job (sym one ∙ ap (λ (x : JobEntry). x.job) entry_is) in
             absurd (cc))
             ∙ ap (find (is_later (Some job) after)) same_list

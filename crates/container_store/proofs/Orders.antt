@@ -33,7 +33,8 @@ option_exact (Some x) (Some y) e = ap (λ (n : ℕ). Some n) (nat_cmp-IsAntisymm
 
 pub IsKeyOrder-job_order : IsKeyOrder job_order
 IsKeyOrder-job_order = record {
-  total = then_total (on_total (λ k. k.index) (options_total nat_cmp_total)) (on_total (λ k. k.name) IsKeyOrder-name_order.total);
+  total = then_total (on_total (λ k. k.index) (options_total nat_cmp_total))
+      (on_total (λ k. k.name) IsKeyOrder-name_order.total);
   exact = λ x y e i.
       let ties = both_tie (option_cmp nat_cmp x.index y.index) _ e in
       record {
@@ -67,13 +68,16 @@ test_from_entry a b e =
     ap is_eq (subst (λ (x : JobEntry). entry_order a x ≡ Equal) e (tied_itself IsKeyOrder-entry_order.total a))
 
 -- what stands between two containers of a job is of that job
-pub between : (x y z : JobEntry) → entry_order x y ≡ Less → is_gt (entry_order y z) ≡ false → x.job ≡ z.job → y.job ≡ x.job
+pub between : (x y z : JobEntry) → entry_order x y ≡ Less → is_gt (entry_order y z) ≡ false → x.job ≡ z.job
+    → y.job ≡ x.job
 between x y z less below same =
-    elim (job_order x.job y.job) as (λ o. job_order x.job y.job ≡ o → ordering_then o (nat_cmp x.number y.number) ≡ Less → y.job ≡ x.job) [
+    elim (job_order x.job y.job) as (λ o. job_order x.job y.job ≡ o → ordering_then o (nat_cmp x.number y.number) ≡ Less
+    → y.job ≡ x.job) [
       | Less ↦ λ is h.
           let back : job_order y.job z.job ≡ Greater =
           ap (job_order y.job) (sym same) ∙ IsKeyOrder-job_order.total.antisymm y.job x.job ∙ ap ordering_reverse is in
-          let above : is_gt (entry_order y z) ≡ true = ap (λ o. is_gt (ordering_then o (nat_cmp y.number z.number))) back in
+          let above : is_gt (entry_order y z) ≡ true = ap (λ o. is_gt (ordering_then o (nat_cmp y.number z.number)))
+          back in
           absurd (cc)
       | Equal ↦ λ is h. sym (IsKeyOrder-job_order.exact x.job y.job is)
       | Greater ↦ λ is h. absurd (cc)

@@ -31,34 +31,46 @@ use Rattle.converge_laws.proofs.Claims.{IsClaiming, ground, there-before}
 use Rattle.converge_laws.proofs.ClaimRows.{settled-ground, settled-rows, aside-done, suspect-done, aside-same, suspect-same, names-still, names-claimed}
 use Rattle.converge_laws.proofs.ClaimTasks.{IsTaskAt, task-done, task-names-still, task-names-claimed}
 
-module _ (rows : Rows) (before after : List Answer) (now : Moment) (cs : List Command) (g : IsClaiming rows before after now cs) where
+module _ (rows : Rows) (before after : List Answer) (now : Moment) (cs : List Command)
+    (g : IsClaiming rows before after now cs) where
   abbrev new : Rows
   new = state_after_all rows cs
 
   -- a row that names a container goes on to name it
-  names-kept : (key : Key) (instance : Instance) (p : Presence) → row_names (find_actual rows key p) instance ≡ true → row_names (find_actual new key p) instance ≡ true
+  names-kept : (key : Key) (instance : Instance) (p : Presence) → row_names (find_actual rows key p) instance ≡ true
+      → row_names (find_actual new key p) instance ≡ true
   names-kept key instance Ordinary named = (names-still rows before after now cs g) key instance named
-  names-kept key instance Evacuating named = ap (λ (r : Option Actual). row_names r instance) ((aside-same rows before after now cs g) key) ∙ named
-  names-kept key instance Suspect named = ap (λ (r : Option Actual). row_names r instance) ((suspect-same rows before after now cs g) key) ∙ named
+  names-kept key instance Evacuating named = ap (λ (r : Option Actual). row_names r instance)
+      ((aside-same rows before after now cs g) key) ∙ named
+  names-kept key instance Suspect named = ap (λ (r : Option Actual). row_names r instance)
+      ((suspect-same rows before after now cs g) key) ∙ named
 
-  named-still : (j : JobName) (instance : Instance) → is_named_for j rows instance ≡ true → is_named_for j new instance ≡ true
+  named-still : (j : JobName) (instance : Instance) → is_named_for j rows instance ≡ true
+      → is_named_for j new instance ≡ true
   named-still (job.Lrp key) instance named =
       let by = named-by rows key instance named in
       named-from new key instance by.0 (names-kept key instance by.0 by.1)
   named-still (job.Task name) instance named = (task-names-still rows before after now cs g) name instance named
 
-  named-claimed : (j : JobName) (instance : Instance) (cell : List ℕ) (c : Command) → Contains cs c → IsClaimOf j instance cell c.op → is_named_for j new instance ≡ true
+  named-claimed : (j : JobName) (instance : Instance) (cell : List ℕ) (c : Command) → Contains cs c
+      → IsClaimOf j instance cell c.op → is_named_for j new instance ≡ true
   named-claimed (job.Lrp key) instance cell c inside claims =
-      named-from new key instance Ordinary ((names-claimed rows before after now cs g) key c instance cell inside claims)
-  named-claimed (job.Task name) instance cell c inside claims = (task-names-claimed rows before after now cs g) name c instance cell inside claims
+      named-from new key instance Ordinary ((names-claimed rows before after now cs g) key c instance cell inside
+      claims)
+  named-claimed (job.Task name) instance cell c inside claims =
+      (task-names-claimed rows before after now cs g) name c instance cell inside claims
 
-  all-named : (y : Answer) (c : Container) → Contains after y → is_there new now y.cell y.epoch ≡ true → Contains y.containers c → is_named new c ≡ true
+  all-named : (y : Answer) (c : Container) → Contains after y → is_there new now y.cell y.epoch ≡ true
+      → Contains y.containers c → is_named new c ≡ true
   all-named y c in_y there in_c =
       let x = zip_back (IsWith cs) before after y g.with_claims in_y in
-      let here : is_there rows now y.cell y.epoch ≡ true = sym ((ground rows before after now cs g).there y.cell y.epoch) ∙ there in
+      let here : is_there rows now y.cell y.epoch ≡ true =
+      sym ((ground rows before after now cs g).there y.cell y.epoch) ∙ there in
       ⊎_elim
-      (λ (old : Contains x.0.containers c). named-still c.job c.instance (g.cleared.clear x.0 c x.1 ((there-before rows before after now cs g) x.0 y x.2.same here) old).1)
-      (λ (fresh : IsClaimed cs c.job c.instance x.0.cell × (is_uncompleted c.state ≡ true)). named-claimed c.job c.instance x.0.cell fresh.0.command fresh.0.inside fresh.0.claims)
+      (λ (old : Contains x.0.containers c). named-still c.job c.instance
+      (g.cleared.clear x.0 c x.1 ((there-before rows before after now cs g) x.0 y x.2.same here) old).1)
+      (λ (fresh : IsClaimed cs c.job c.instance x.0.cell × (is_uncompleted c.state ≡ true)).
+      named-claimed c.job c.instance x.0.cell fresh.0.command fresh.0.inside fresh.0.claims)
       (x.2.new c in_c)
 
   valid-new : IsValid new
@@ -66,9 +78,12 @@ module _ (rows : Rows) (before after : List Answer) (now : Moment) (cs : List Co
 
   pub claims-converge : IsConverged new after now
   claims-converge = record {
-    ordinary = λ key. (settled-ground rows before after now cs g) key (find_actual new key Ordinary) ((settled-rows rows before after now cs g) key);
+    ordinary = λ key. (settled-ground rows before after now cs g) key (find_actual new key Ordinary)
+        ((settled-rows rows before after now cs g) key);
     aside = λ key. (aside-done rows before after now cs g) key;
     suspected = λ key. (suspect-done rows before after now cs g) key;
-    tasks = λ t inside. subst ((IsTaskAt rows before after now cs g) t.name) (find_row-Contains name_order task_name_of IsKeyOrder-name_order t new.tasks valid-new.tasks.rising inside) ((task-done rows before after now cs g) t.name);
+    tasks = λ t inside. subst ((IsTaskAt rows before after now cs g) t.name)
+        (find_row-Contains name_order task_name_of IsKeyOrder-name_order t new.tasks valid-new.tasks.rising inside)
+        ((task-done rows before after now cs g) t.name);
     containers = all-named;
   }

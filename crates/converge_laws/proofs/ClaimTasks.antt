@@ -30,7 +30,8 @@ use Rattle.converge_laws.proofs.Runs.{about_some, run-other, run-took}
 use Rattle.converge_laws.proofs.TaskMoves.{IsNowRunning, after-start, started}
 use Rattle.converge_laws.proofs.Claims.{subject_for, claim-about, same_task_as, IsClaiming, of_round, ground, held-more, held-new, claim-is}
 
-module _ (rows : Rows) (before after : List Answer) (now : Moment) (cs : List Command) (g : IsClaiming rows before after now cs) where
+module _ (rows : Rows) (before after : List Answer) (now : Moment) (cs : List Command)
+    (g : IsClaiming rows before after now cs) where
   abbrev new : Rows
   new = state_after_all rows cs
 
@@ -50,14 +51,19 @@ module _ (rows : Rows) (before after : List Answer) (now : Moment) (cs : List Co
       pub was : the_task rows ≡ Some old
       pub now_running : IsNowRunning old instance cell (the_task new)
 
-    task-claimed : (c : Command) (instance : Instance) (cell : List ℕ) → Contains cs c → c.op ≡ op.StartTask name instance cell
+    task-claimed : (c : Command) (instance : Instance) (cell : List ℕ) → Contains cs c
+        → c.op ≡ op.StartTask name instance cell
         → (old : Task) × (the_task rows ≡ Some old) × IsNowRunning old instance cell (the_task new)
     task-claimed c instance cell inside claims =
         run-took the_task (λ (d : Command). subject_in d ≢ OfTask name) (λ r d h other. stays-task r d h name other)
-        (λ (r : Option Task). (old : Task) × (the_task rows ≡ Some old) × IsNowRunning old instance cell r) c rows cs (of_round rows before after now cs g).ops g.apart g.taken inside (λ d in_d other same. other (same ∙ sym (ap subject_of claims)))
+        (λ (r : Option Task). (old : Task) × (the_task rows ≡ Some old) × IsNowRunning old instance cell r) c rows cs
+        (of_round rows before after now cs g).ops g.apart g.taken inside
+        (λ d in_d other same. other (same ∙ sym (ap subject_of claims)))
         (λ start same h.
-        let command : c ≡ at now (op.StartTask name instance cell) = (claim-is rows before after now cs g) c (op.StartTask name instance cell) inside claims in
-        let accepted : IsAccepted (verdict_of start (at now (op.StartTask name instance cell))) = subst (λ (d : Command). IsAccepted (verdict_of start d)) command h in
+        let command : c ≡ at now (op.StartTask name instance cell) =
+        (claim-is rows before after now cs g) c (op.StartTask name instance cell) inside claims in
+        let accepted : IsAccepted (verdict_of start (at now (op.StartTask name instance cell))) =
+        subst (λ (d : Command). IsAccepted (verdict_of start d)) command h in
         let m = after-start start now name instance cell accepted in (
           m.old,
           sym same ∙ m.found,
@@ -65,17 +71,34 @@ module _ (rows : Rows) (before after : List Answer) (now : Moment) (cs : List Co
               (subst (IsNowRunning m.old instance cell) (sym m.after) (started m.old now instance cell m.taken)),
         ))
 
-    task-fate : IsTaskClaimed ⊎ ((the_task new ≡ the_task rows) × ((c : Command) → Contains cs c → subject_in c ≢ OfTask name))
+    task-fate : IsTaskClaimed ⊎ ((the_task new ≡ the_task rows)
+        × ((c : Command) → Contains cs c → subject_in c ≢ OfTask name))
     task-fate =
         ⊎_elim
         (λ (found : (c : Command) × Contains cs c × (subject_in c ≡ OfTask name)).
         let p = g.places.claims found.0 found.1 in
         let about : subject_for p.0 ≡ OfTask name = sym (claim-about p.0 p.1 p.2 found.0.op p.3) ∙ found.2 in
-        let claims : found.0.op ≡ op.StartTask name p.1 p.2 = subst (λ (j : JobName). IsClaimOf j p.1 p.2 found.0.op) (same_task_as p.0 name about) p.3 in
+        let claims : found.0.op ≡ op.StartTask name p.1 p.2 =
+        subst (λ (j : JobName). IsClaimOf j p.1 p.2 found.0.op) (same_task_as p.0 name about) p.3 in
         let r = task-claimed found.0 p.1 p.2 found.1 claims in
-        inl (record { command = found.0; instance = p.1; cell = p.2; inside = found.1; claims = claims; there = p.4; old = r.0; was = r.1; now_running = r.2 }))
+        inl (record {
+          command = found.0;
+          instance = p.1;
+          cell = p.2;
+          inside = found.1;
+          claims = claims;
+          there =
+              p.4;
+          old = r.0;
+          was = r.1;
+          now_running = r.2;
+        }))
         (λ (none : (c : Command) → Contains cs c → subject_in c ≢ OfTask name).
-        inr (run-other the_task (λ (d : Command). subject_in d ≢ OfTask name) (λ r d h other. stays-task r d h name other) rows cs (of_round rows before after now cs g).ops none, none))
+        inr (
+          run-other the_task (λ (d : Command). subject_in d ≢ OfTask name)
+              (λ r d h other. stays-task r d h name other) rows cs (of_round rows before after now cs g).ops none,
+          none,
+        ))
         (about_some (OfTask name) cs)
 
     -- the task, if there is one, is settled
@@ -83,17 +106,23 @@ module _ (rows : Rows) (before after : List Answer) (now : Moment) (cs : List Co
     IsTaskAt None = Unit {0}
     IsTaskAt (Some t) = IsTaskSettled new after now name t.state
 
-    task-kept : (t : Task) (s : TaskState) → t.state ≡ s → (t.state ≡ task.Pending → ⊥) → MayTaskBePlaced rows before now name s → IsTaskSettled new after now name s
+    task-kept : (t : Task) (s : TaskState) → t.state ≡ s → (t.state ≡ task.Pending → ⊥)
+        → MayTaskBePlaced rows before now name s → IsTaskSettled new after now name s
     task-kept t task.Pending state claimed' h = claimed' state
     task-kept t (task.Running instance cell) state claimed' h =
-        held-ground rows new after now (job.Task name) instance cell ((ground rows before after now cs g).there cell instance.epoch) ∙ (held-more rows before after now cs g) (job.Task name) instance cell h
+        held-ground rows new after now (job.Task name) instance cell
+        ((ground rows before after now cs g).there cell instance.epoch) ∙ (held-more rows before after now cs g)
+        (job.Task name) instance cell h
     task-kept t (task.Completed failed) state claimed' h = tt
     task-kept t (task.Resolving failed) state claimed' h = tt
 
-    task-settled : (t : Task) → the_task rows ≡ Some t → (t.state ≡ task.Pending → ⊥) → IsTaskSettled new after now name t.state
-    task-settled t is claimed' = task-kept t t.state refl claimed' (subst (IsTaskPlaceable rows before now name) is (g.cleared.planned.tasks name))
+    task-settled : (t : Task) → the_task rows ≡ Some t → (t.state ≡ task.Pending → ⊥)
+        → IsTaskSettled new after now name t.state
+    task-settled t is claimed' = task-kept t t.state refl claimed'
+        (subst (IsTaskPlaceable rows before now name) is (g.cleared.planned.tasks name))
 
-    not_pending : (t : Task) (held : Instance) (where' : List ℕ) → t.state ≡ task.Running held where' → t.state ≡ task.Pending → ⊥
+    not_pending : (t : Task) (held : Instance) (where' : List ℕ) → t.state ≡ task.Running held where'
+        → t.state ≡ task.Pending → ⊥
     not_pending t held where' is other = cc
 
     settled-started : IsTaskClaimed → IsTaskAt (the_task new)
@@ -101,11 +130,17 @@ module _ (rows : Rows) (before after : List Answer) (now : Moment) (cs : List Co
         let n = c.now_running in
         subst IsTaskAt (sym n.is)
         (⊎_elim
-        (λ (fresh : (c.old.state ≡ task.Pending) × (n.new.state ≡ task.Running c.instance c.cell) × (n.new.name ≡ c.old.name)).
+        (λ (fresh : (c.old.state ≡ task.Pending) × (n.new.state ≡ task.Running c.instance c.cell)
+        × (n.new.name ≡ c.old.name)).
         subst (IsTaskSettled new after now name) (sym fresh.1)
-        (held-ground rows new after now (job.Task name) c.instance c.cell ((ground rows before after now cs g).there c.cell c.instance.epoch) ∙ (held-new rows before after now cs g) c.command (job.Task name) c.instance c.cell c.inside c.claims c.there))
-        (λ (own : (n.new ≡ c.old) × (held : Instance) × (where' : List ℕ) × (c.old.state ≡ task.Running held where') × (is_same_instance c.instance held ≡ true)).
-        subst (λ (t : Task). IsTaskSettled new after now name t.state) (sym own.0) (task-settled c.old c.was (not_pending c.old own.1 own.2 own.3)))
+        (held-ground rows new after now (job.Task name) c.instance c.cell
+        ((ground rows before after now cs g).there c.cell c.instance.epoch) ∙
+        (held-new rows before after now cs g) c.command (job.Task name) c.instance c.cell c.inside c.claims
+        c.there))
+        (λ (own : (n.new ≡ c.old) × (held : Instance) × (where' : List ℕ) × (c.old.state ≡ task.Running held where')
+        × (is_same_instance c.instance held ≡ true)).
+        subst (λ (t : Task). IsTaskSettled new after now name t.state) (sym own.0)
+        (task-settled c.old c.was (not_pending c.old own.1 own.2 own.3)))
         n.how)
 
     pub task-done : IsTaskAt (the_task new)
@@ -115,27 +150,35 @@ module _ (rows : Rows) (before after : List Answer) (now : Moment) (cs : List Co
         subst IsTaskAt (sym other.0)
         (elim (the_task rows) as (λ (r : Option Task). the_task rows ≡ r → IsTaskAt r) [
           | None ↦ λ is. tt
-          | (Some t) ↦ λ is. task-settled t is (λ state. let p = g.places.tasks_placed name t is state in other.1 p.0 p.1 p.2)
+          | (Some t) ↦ λ is. task-settled t is (λ state. let p = g.places.tasks_placed name t is state in
+              other.1 p.0 p.1 p.2)
         ] refl))
         task-fate
 
-    pub task-names-still : (instance : Instance) → task_names (the_task rows) instance ≡ true → task_names (the_task new) instance ≡ true
+    pub task-names-still : (instance : Instance) → task_names (the_task rows) instance ≡ true
+        → task_names (the_task new) instance ≡ true
     task-names-still instance named =
         ⊎_elim
         (λ (c : IsTaskClaimed).
-        let old : is_holder (runner_of c.old.state) instance ≡ true = ap (λ (r : Option Task). task_names r instance) (sym c.was) ∙ named in
+        let old : is_holder (runner_of c.old.state) instance ≡ true =
+        ap (λ (r : Option Task). task_names r instance) (sym c.was) ∙ named in
         ap (λ (r : Option Task). task_names r instance) c.now_running.is
         ∙ ⊎_elim
-        (λ (fresh : (c.old.state ≡ task.Pending) × (c.now_running.new.state ≡ task.Running c.instance c.cell) × (c.now_running.new.name ≡ c.old.name)).
-        let none : is_holder (runner_of c.old.state) instance ≡ false = ap (λ (s : TaskState). is_holder (runner_of s) instance) fresh.0 in
+        (λ (fresh : (c.old.state ≡ task.Pending) × (c.now_running.new.state ≡ task.Running c.instance c.cell)
+        × (c.now_running.new.name ≡ c.old.name)).
+        let none : is_holder (runner_of c.old.state) instance ≡ false =
+        ap (λ (s : TaskState). is_holder (runner_of s) instance) fresh.0 in
         absurd cc)
-        (λ (own : (c.now_running.new ≡ c.old) × (held : Instance) × (where' : List ℕ) × (c.old.state ≡ task.Running held where') × (is_same_instance c.instance held ≡ true)).
+        (λ (own : (c.now_running.new ≡ c.old) × (held : Instance) × (where' : List ℕ)
+        × (c.old.state ≡ task.Running held where') × (is_same_instance c.instance held ≡ true)).
         ap (λ (t : Task). is_holder (runner_of t.state) instance) own.0 ∙ old)
         c.now_running.how)
-        (λ (other : (the_task new ≡ the_task rows) × ((c : Command) → Contains cs c → subject_in c ≢ OfTask name)). ap (λ (r : Option Task). task_names r instance) other.0 ∙ named)
+        (λ (other : (the_task new ≡ the_task rows) × ((c : Command) → Contains cs c → subject_in c ≢ OfTask name)).
+        ap (λ (r : Option Task). task_names r instance) other.0 ∙ named)
         task-fate
 
-    pub task-names-claimed : (c : Command) (instance : Instance) (cell : List ℕ) → Contains cs c → c.op ≡ op.StartTask name instance cell → task_names (the_task new) instance ≡ true
+    pub task-names-claimed : (c : Command) (instance : Instance) (cell : List ℕ) → Contains cs c
+        → c.op ≡ op.StartTask name instance cell → task_names (the_task new) instance ≡ true
     task-names-claimed c instance cell inside claims =
         let r = task-claimed c instance cell inside claims in
         let n = r.2 in
@@ -143,6 +186,8 @@ module _ (rows : Rows) (before after : List Answer) (now : Moment) (cs : List Co
         ∙ ⊎_elim
         (λ (fresh : (r.0.state ≡ task.Pending) × (n.new.state ≡ task.Running instance cell) × (n.new.name ≡ r.0.name)).
         ap (λ (s : TaskState). is_holder (runner_of s) instance) fresh.1 ∙ instance_itself instance)
-        (λ (own : (n.new ≡ r.0) × (held : Instance) × (where' : List ℕ) × (r.0.state ≡ task.Running held where') × (is_same_instance instance held ≡ true)).
-        ap (λ (t : Task). is_holder (runner_of t.state) instance) own.0 ∙ ap (λ (s : TaskState). is_holder (runner_of s) instance) own.3 ∙ own.4)
+        (λ (own : (n.new ≡ r.0) × (held : Instance) × (where' : List ℕ) × (r.0.state ≡ task.Running held where')
+        × (is_same_instance instance held ≡ true)).
+        ap (λ (t : Task). is_holder (runner_of t.state) instance) own.0 ∙ ap
+        (λ (s : TaskState). is_holder (runner_of s) instance) own.3 ∙ own.4)
         n.how

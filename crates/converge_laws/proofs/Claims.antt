@@ -32,7 +32,8 @@ use Rattle.converge_laws.proofs.Runs.{run-ground}
 use Rattle.converge_laws.proofs.StopStage.{alike}
 
 -- a claim is of a round, and is about the row of its job
-pub claim-of_round : (j : JobName) (instance : Instance) (cell : List ℕ) (o : Op) → IsClaimOf j instance cell o → IsOfRound o
+pub claim-of_round : (j : JobName) (instance : Instance) (cell : List ℕ) (o : Op) → IsClaimOf j instance cell o
+    → IsOfRound o
 claim-of_round (job.Lrp key) instance cell o e = subst IsOfRound (sym e) tt
 claim-of_round (job.Task name) instance cell o e = subst IsOfRound (sym e) tt
 
@@ -40,7 +41,8 @@ abbrev pub subject_for : JobName → Subject
 subject_for (job.Lrp key) = ordinary_of key
 subject_for (job.Task name) = OfTask name
 
-pub claim-about : (j : JobName) (instance : Instance) (cell : List ℕ) (o : Op) → IsClaimOf j instance cell o → subject_of o ≡ subject_for j
+pub claim-about : (j : JobName) (instance : Instance) (cell : List ℕ) (o : Op) → IsClaimOf j instance cell o
+    → subject_of o ≡ subject_for j
 claim-about (job.Lrp key) instance cell o e = ap subject_of e
 claim-about (job.Task name) instance cell o e = ap subject_of e
 
@@ -58,11 +60,13 @@ same_task_as (job.Task n) name e = cc
 
 -- no claim is about an EVACUATING row
 pub not_aside : (j : JobName) (key : Key) → subject_for j ≢ OfPlace (key, Evacuating)
-not_aside (job.Lrp k) key e = let other : Ordinary ≡ Evacuating = ap (λ (s : Subject). (place_in (key, Ordinary) s).1) e in absurd cc
+not_aside (job.Lrp k) key e = let other : Ordinary ≡ Evacuating =
+    ap (λ (s : Subject). (place_in (key, Ordinary) s).1) e in absurd cc
 not_aside (job.Task n) key e = cc
 
 -- nor changes a SUSPECT row
-pub claim-unsuspected : (j : JobName) (instance : Instance) (cell : List ℕ) (o : Op) → IsClaimOf j instance cell o → suspect_in o ≡ None
+pub claim-unsuspected : (j : JobName) (instance : Instance) (cell : List ℕ) (o : Op) → IsClaimOf j instance cell o
+    → suspect_in o ≡ None
 claim-unsuspected (job.Lrp key) instance cell o e = ap suspect_in e
 claim-unsuspected (job.Task name) instance cell o e = ap suspect_in e
 
@@ -74,25 +78,34 @@ pub record IsClaiming (rows : Rows) (before after : List Answer) (now : Moment) 
   pub taken : AreAccepted rows cs
   pub moments : (c : Command) → Contains cs c → c.now ≡ now
   pub places : PlacesAll rows now cs
-  pub answered : (cell : List ℕ) (epoch : ℕ) → is_there rows now cell epoch ≡ true → IsSome (answer_from before cell epoch)
+  pub answered : (cell : List ℕ) (epoch : ℕ) → is_there rows now cell epoch ≡ true
+      → IsSome (answer_from before cell epoch)
   pub with_claims : AreWith cs before after
 
-module _ (rows : Rows) (before after : List Answer) (now : Moment) (cs : List Command) (g : IsClaiming rows before after now cs) where
+module _ (rows : Rows) (before after : List Answer) (now : Moment) (cs : List Command)
+    (g : IsClaiming rows before after now cs) where
   abbrev pub new : Rows
   new = state_after_all rows cs
 
   pub of_round : AreOfRound now cs
-  of_round = record { ops = λ c inside. let p = g.places.claims c inside in claim-of_round p.0 p.1 p.2 c.op p.3; moments = g.moments }
+  of_round = record {
+    ops = λ c inside. let p = g.places.claims c inside in
+        claim-of_round p.0 p.1 p.2 c.op p.3;
+    moments = g.moments;
+  }
 
   pub ground : KeepsGround now rows new
   ground = run-ground rows now cs of_round
 
-  pub there-before : (x y : Answer) → IsSameCell x y → is_there rows now y.cell y.epoch ≡ true → is_there rows now x.cell x.epoch ≡ true
+  pub there-before : (x y : Answer) → IsSameCell x y → is_there rows now y.cell y.epoch ≡ true
+      → is_there rows now x.cell x.epoch ≡ true
   there-before x y same there =
-      ap (λ (n : List ℕ). is_there rows now n x.epoch) (sym same.cell) ∙ ap (λ (e : ℕ). is_there rows now y.cell e) (sym same.epoch) ∙ there
+      ap (λ (n : List ℕ). is_there rows now n x.epoch) (sym same.cell) ∙ ap (λ (e : ℕ). is_there rows now y.cell e)
+      (sym same.epoch) ∙ there
 
   -- each container of a cell that is there has not ended
-  pub runs-there : (y : Answer) (c : Container) → Contains after y → is_there rows now y.cell y.epoch ≡ true → Contains y.containers c → is_uncompleted c.state ≡ true
+  pub runs-there : (y : Answer) (c : Container) → Contains after y → is_there rows now y.cell y.epoch ≡ true
+      → Contains y.containers c → is_uncompleted c.state ≡ true
   runs-there y c in_y there in_c =
       let x = zip_back (IsWith cs) before after y g.with_claims in_y in
       ⊎_elim
@@ -101,34 +114,46 @@ module _ (rows : Rows) (before after : List Answer) (now : Moment) (cs : List Co
       (x.2.new c in_c)
 
   -- so a container that a cell has is held
-  pub held-any : (j : JobName) (instance : Instance) (cell : List ℕ) (y : Answer) (c : Container) → is_there rows now cell instance.epoch ≡ true
-      → answer_from after cell instance.epoch ≡ Some y → Contains y.containers c → is_container_of j instance c ≡ true → is_held rows after now j instance cell ≡ true
+  pub held-any : (j : JobName) (instance : Instance) (cell : List ℕ) (y : Answer) (c : Container)
+      → is_there rows now cell instance.epoch ≡ true
+      → answer_from after cell instance.epoch ≡ Some y → Contains y.containers c → is_container_of j instance c ≡ true
+      → is_held rows after now j instance cell ≡ true
   held-any j instance cell y c there from inside looks =
       let at = find-passes (is_answer_of cell instance.epoch) after y from in
       let same : (y.cell, y.epoch) ≡ (cell, instance.epoch) = same_cell y (cell, instance.epoch) at.1 in
-      let there' : is_there rows now y.cell y.epoch ≡ true = subst (λ (p : List ℕ × ℕ). is_there rows now p.0 p.1 ≡ true) (sym same) there in
+      let there' : is_there rows now y.cell y.epoch ≡ true =
+      subst (λ (p : List ℕ × ℕ). is_there rows now p.0 p.1 ≡ true) (sym same) there in
       let found = find-some (is_container_of j instance) y.containers c inside looks in
       let in_y = (find-passes (is_container_of j instance) y.containers found.0 found.1).0 in
       held-from rows after now j instance cell y found.0 there from found.1 (runs-there y found.0 at.0 there' in_y)
 
   -- a container that was held is held
-  pub held-more : (j : JobName) (instance : Instance) (cell : List ℕ) → is_held rows before now j instance cell ≡ true → is_held rows after now j instance cell ≡ true
+  pub held-more : (j : JobName) (instance : Instance) (cell : List ℕ) → is_held rows before now j instance cell ≡ true
+      → is_held rows after now j instance cell ≡ true
   held-more j instance cell held =
       let h = held-in rows before now j instance cell held in
-      let y = zip_find (IsWith cs) (is_answer_of cell instance.epoch) (λ a b r. alike cell instance.epoch a b r.same) before after h.answer g.with_claims h.from in
+      let y = zip_find (IsWith cs) (is_answer_of cell instance.epoch)
+      (λ a b r. alike cell instance.epoch a b r.same) before after h.answer g.with_claims h.from in
       let at = find-passes (is_container_of j instance) h.answer.containers h.container h.inside in
       held-any j instance cell y.0 h.container h.there y.1 (y.2.stays h.container at.0) at.1
 
   -- and one that was claimed
-  pub held-new : (c : Command) (j : JobName) (instance : Instance) (cell : List ℕ) → Contains cs c → IsClaimOf j instance cell c.op → is_there rows now cell instance.epoch ≡ true
+  pub held-new : (c : Command) (j : JobName) (instance : Instance) (cell : List ℕ) → Contains cs c
+      → IsClaimOf j instance cell c.op → is_there rows now cell instance.epoch ≡ true
       → is_held rows after now j instance cell ≡ true
   held-new c j instance cell inside claims there =
       let x = it_is (answer_from before cell instance.epoch) (g.answered cell instance.epoch there) in
       let at = find-passes (is_answer_of cell instance.epoch) before x.0 x.1 in
       let same : (x.0.cell, x.0.epoch) ≡ (cell, instance.epoch) = same_cell x.0 (cell, instance.epoch) at.1 in
-      let y = zip_find (IsWith cs) (is_answer_of cell instance.epoch) (λ a b r. alike cell instance.epoch a b r.same) before after x.0 g.with_claims x.1 in
+      let y = zip_find (IsWith cs) (is_answer_of cell instance.epoch)
+      (λ a b r. alike cell instance.epoch a b r.same) before after x.0 g.with_claims x.1 in
       let cell' : cell ≡ x.0.cell = ap (λ (p : List ℕ × ℕ). p.0) (sym same) in
-      let is : IsClaimed cs j instance x.0.cell = record { command = c; inside = inside; claims = subst (λ (n : List ℕ). IsClaimOf j instance n c.op) cell' claims } in
+      let is : IsClaimed cs j instance x.0.cell = record {
+        command = c;
+        inside = inside;
+        claims =
+            subst (λ (n : List ℕ). IsClaimOf j instance n c.op) cell' claims;
+      } in
       let d = y.2.claimed j instance is (ap (λ (p : List ℕ × ℕ). p.1) (sym same)) in
       held-any j instance cell y.0 d.0 there y.1 d.1 (looks_like j instance d.0 d.2 d.3)
 

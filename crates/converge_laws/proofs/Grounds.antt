@@ -32,7 +32,8 @@ module _ (now : Moment) (old new : Rows) (ground : KeepsGround now old new) wher
   runs_there-ground None = refl
   runs_there-ground (Some a) = runs_in-ground a.state
 
-  domain-ground : (domain : Option (List ℕ)) → option_map_or (told.fresh_in new now) domain true ≡ option_map_or (told.fresh_in old now) domain true
+  domain-ground : (domain : Option (List ℕ)) → option_map_or (told.fresh_in new now) domain true
+      ≡ option_map_or (told.fresh_in old now) domain true
   domain-ground None = refl
   domain-ground (Some name) = ground.fresh name
 
@@ -40,21 +41,27 @@ module _ (now : Moment) (old new : Rows) (ground : KeepsGround now old new) wher
   may_go-ground a = domain-ground a.domain
 
   pub retirable-ground : (key : Key) (a : Actual) → told.is_retirable new now key a ≡ told.is_retirable old now key a
-  retirable-ground key a = ap (λ (b : Bool). not b && told.may_go new now a) (ground.wanted key) ∙ ap (λ (b : Bool). not (told.wants old key) && b) (may_go-ground a)
+  retirable-ground key a = ap (λ (b : Bool). not b && told.may_go new now a) (ground.wanted key) ∙ ap
+      (λ (b : Bool). not (told.wants old key) && b) (may_go-ground a)
 
-  pub ordinary-ground : (key : Key) (row : Option Actual) → told.ordinary_work new now key row ≡ told.ordinary_work old now key row
+  pub ordinary-ground : (key : Key) (row : Option Actual)
+      → told.ordinary_work new now key row ≡ told.ordinary_work old now key row
   ordinary-ground key None = ap (λ (b : Bool). told.asked_if b (op.Make key)) (ground.wanted key)
   ordinary-ground key (Some a) =
       ap (λ (b : Bool). cond b (Some (op.Remove key (holder_of a.state)))
-      (cond (told.is_lost new now a.state) (told.given_up (told.wants new key) key a.state) (cond (told.wants new key) (told.restart_if_due key a now a.state) None))) (retirable-ground key a)
+      (cond (told.is_lost new now a.state) (told.given_up (told.wants new key) key a.state)
+      (cond (told.wants new key) (told.restart_if_due key a now a.state) None))) (retirable-ground key a)
       ∙ ap (λ (b : Bool). cond (told.is_retirable old now key a) (Some (op.Remove key (holder_of a.state)))
-      (cond b (told.given_up (told.wants new key) key a.state) (cond (told.wants new key) (told.restart_if_due key a now a.state) None))) (lost-ground a.state)
+      (cond b (told.given_up (told.wants new key) key a.state)
+      (cond (told.wants new key) (told.restart_if_due key a now a.state) None))) (lost-ground a.state)
       ∙ ap (λ (b : Bool). cond (told.is_retirable old now key a) (Some (op.Remove key (holder_of a.state)))
-      (cond (told.is_lost old now a.state) (told.given_up b key a.state) (cond b (told.restart_if_due key a now a.state) None))) (ground.wanted key)
+      (cond (told.is_lost old now a.state) (told.given_up b key a.state)
+      (cond b (told.restart_if_due key a now a.state) None))) (ground.wanted key)
 
   state-ground : (t : Task) (s : TaskState) → told.asked_of_task new now t s ≡ told.asked_of_task old now t s
   state-ground t task.Pending = refl
-  state-ground t (task.Running instance cell) = ap (λ (b : Bool). told.asked_if (not b) (op.CancelTask t.name)) (ground.there cell instance.epoch)
+  state-ground t (task.Running instance cell) = ap (λ (b : Bool). told.asked_if (not b) (op.CancelTask t.name))
+      (ground.there cell instance.epoch)
   state-ground t (task.Completed failed) = refl
   state-ground t (task.Resolving failed) = refl
 

@@ -30,7 +30,8 @@ it_is None h = absurd cc
 it_is (Some x) h = (x, refl)
 
 -- what holds of each row holds of the one that is found
-pub find_row-each : {K X : Type 0} (R : K → K → Ordering) (key : X → K) (P : X → Type 0) (q : K) (x : X) (xs : List X) → AllByRecursion P xs → find_row R key q xs ≡ Some x → P x
+pub find_row-each : {K X : Type 0} (R : K → K → Ordering) (key : X → K) (P : X → Type 0) (q : K) (x : X) (xs : List X)
+    → AllByRecursion P xs → find_row R key q xs ≡ Some x → P x
 find_row-each R key P q x [] h e = absurd cc
 find_row-each R key P q x (y ∷ ys) h e =
     elim (eq_by_cmp R q (key y)) as (λ (b : Bool). cond b (Some y) (find_row R key q ys) ≡ Some x → P x) [
@@ -52,14 +53,17 @@ found-there rows got stores now heard cell epoch there =
     let inside : Contains stores x.0 = heard.inside x.0 a.0 in
     let y = find-some (is_answer_of cell epoch) stores x.0 inside a.1 in
     let b = find-passes (is_answer_of cell epoch) stores y.0 y.1 in
-    let cells : y.0.cell ≡ x.0.cell = ap (λ (p : List ℕ × ℕ). p.0) (same_cell y.0 (cell, epoch) b.1 ∙ sym (same_cell x.0 (cell, epoch) a.1)) in
+    let cells : y.0.cell ≡ x.0.cell = ap (λ (p : List ℕ × ℕ). p.0)
+    (same_cell y.0 (cell, epoch) b.1 ∙ sym (same_cell x.0 (cell, epoch) a.1)) in
     let one : y.0 ≡ x.0 = heard.differ y.0 x.0 b.0 inside cells in
     record { answer = x.0; in_got = x.1; in_stores = y.1 ∙ ap (λ (z : Answer). Some z) one }
 
 module _ (rows : Rows) (stores : List Answer) (now : Moment) (job : JobName) (instance : Instance) (cell : List ℕ) where
   -- a container of a cell that is there and that has not ended is held
-  pub held-from : (x : Answer) (c : Container) → is_there rows now cell instance.epoch ≡ true → answer_from stores cell instance.epoch ≡ Some x
-      → container_in job instance x ≡ Some c → is_uncompleted c.state ≡ true → is_held rows stores now job instance cell ≡ true
+  pub held-from : (x : Answer) (c : Container) → is_there rows now cell instance.epoch ≡ true
+      → answer_from stores cell instance.epoch ≡ Some x
+      → container_in job instance x ≡ Some c → is_uncompleted c.state ≡ true
+      → is_held rows stores now job instance cell ≡ true
   held-from x c there from inside runs =
       ap (λ (b : Bool). b && has_container stores job instance cell) there
       ∙ ap (λ (o : Option Answer). option_map_or (keeps_running job instance) o false) from
@@ -78,9 +82,11 @@ module _ (rows : Rows) (stores : List Answer) (now : Moment) (job : JobName) (in
   both_true true b e = (refl, e)
   both_true false b e = absurd cc
 
-  kept-in : (x : Answer) → keeps_running job instance x ≡ true → (c : Container) × (container_in job instance x ≡ Some c) × (is_uncompleted c.state ≡ true)
+  kept-in : (x : Answer) → keeps_running job instance x ≡ true
+      → (c : Container) × (container_in job instance x ≡ Some c) × (is_uncompleted c.state ≡ true)
   kept-in x e =
-      elim (container_in job instance x) as (λ (o : Option Container). container_in job instance x ≡ o → option_map_or (λ (k : Container). is_uncompleted k.state) o false ≡ true
+      elim (container_in job instance x) as (λ (o : Option Container). container_in job instance x ≡ o
+      → option_map_or (λ (k : Container). is_uncompleted k.state) o false ≡ true
       → (c : Container) × (container_in job instance x ≡ Some c) × (is_uncompleted c.state ≡ true)) [
         | None ↦ λ is f. absurd cc
         | (Some c) ↦ λ is f. (c, is, f)
@@ -89,7 +95,8 @@ module _ (rows : Rows) (stores : List Answer) (now : Moment) (job : JobName) (in
   pub held-in : is_held rows stores now job instance cell ≡ true → IsHeldIn
   held-in e =
       let parts = both_true (is_there rows now cell instance.epoch) (has_container stores job instance cell) e in
-      elim (answer_from stores cell instance.epoch) as (λ (o : Option Answer). answer_from stores cell instance.epoch ≡ o → option_map_or (keeps_running job instance) o false ≡ true → IsHeldIn) [
+      elim (answer_from stores cell instance.epoch) as (λ (o : Option Answer). answer_from stores cell instance.epoch
+      ≡ o → option_map_or (keeps_running job instance) o false ≡ true → IsHeldIn) [
         | None ↦ λ is f. absurd cc
         | (Some x) ↦ λ is f.
             let k = kept-in x f in
@@ -97,10 +104,15 @@ module _ (rows : Rows) (stores : List Answer) (now : Moment) (job : JobName) (in
       ] refl parts.1
 
 -- which cells are there decides whether a container is held, and the answers
-pub held-ground : (old new : Rows) (stores : List Answer) (now : Moment) (job : JobName) (instance : Instance) (cell : List ℕ)
-    → is_there new now cell instance.epoch ≡ is_there old now cell instance.epoch → is_held new stores now job instance cell ≡ is_held old stores now job instance cell
-held-ground old new stores now job instance cell same = ap (λ (b : Bool). b && has_container stores job instance cell) same
+pub held-ground : (old new : Rows) (stores : List Answer) (now : Moment) (job : JobName) (instance : Instance)
+    (cell : List ℕ)
+    → is_there new now cell instance.epoch ≡ is_there old now cell instance.epoch
+    → is_held new stores now job instance cell ≡ is_held old stores now job instance cell
+held-ground old new stores now job instance cell same =
+    ap (λ (b : Bool). b && has_container stores job instance cell) same
 
 -- a row that is found is that of the instance
-pub row-key : (rows : Rows) (key : Key) (presence : Presence) (a : Actual) → find_actual rows key presence ≡ Some a → a.key ≡ key
-row-key rows key presence a is = ap (λ (p : Key × Presence). p.0) (key-find_row place_order place_of IsKeyOrder-place_order (key, presence) a rows.actual is)
+pub row-key : (rows : Rows) (key : Key) (presence : Presence) (a : Actual) → find_actual rows key presence ≡ Some a
+    → a.key ≡ key
+row-key rows key presence a is = ap (λ (p : Key × Presence). p.0)
+    (key-find_row place_order place_of IsKeyOrder-place_order (key, presence) a rows.actual is)

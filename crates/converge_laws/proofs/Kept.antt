@@ -20,23 +20,34 @@ use Rattle.converge_laws.proofs.Held.{held-ground}
 use Rattle.converge_laws.proofs.Rests.{MayStand}
 
 -- a SUSPECT row, if there is one, is as it should be where its instance is wanted and doesn't run
-pub suspected-any : (rows : Rows) (key : Key) → wants rows key ≡ true → runs (find_actual rows key Ordinary) ≡ false → (r : Option Actual) → IsSuspected rows key r
+pub suspected-any : (rows : Rows) (key : Key) → wants rows key ≡ true → runs (find_actual rows key Ordinary) ≡ false
+    → (r : Option Actual) → IsSuspected rows key r
 suspected-any rows key wanted idle None = tt
 suspected-any rows key wanted idle (Some a) = (wanted, idle)
 
 module _ (old new : Rows) (stores : List Answer) (now : Moment) (ground : KeepsGround now old new) where
-  container-ground : (a : Actual) (s : LrpState) → HasItsContainer old stores now a s → HasItsContainer new stores now a s
+  container-ground : (a : Actual) (s : LrpState) → HasItsContainer old stores now a s
+      → HasItsContainer new stores now a s
   container-ground a lrp.Unclaimed h = tt
-  container-ground a (lrp.Claimed instance cell) h = held-ground old new stores now (job.Lrp a.key) instance cell (ground.there cell instance.epoch) ∙ h
-  container-ground a (lrp.Running instance cell) h = held-ground old new stores now (job.Lrp a.key) instance cell (ground.there cell instance.epoch) ∙ h
+  container-ground a (lrp.Claimed instance cell) h = held-ground old new stores now (job.Lrp a.key) instance cell
+      (ground.there cell instance.epoch) ∙ h
+  container-ground a (lrp.Running instance cell) h = held-ground old new stores now (job.Lrp a.key) instance cell
+      (ground.there cell instance.epoch) ∙ h
   container-ground a lrp.Crashed h = tt
 
-  pub unwanted-ground : (key : Key) (a : Actual) → IsUnwantedKept old stores now key a → IsUnwantedKept new stores now key a
-  unwanted-ground key a h = (ground.wanted key ∙ h.0, may_go-ground now old new ground a ∙ h.1, container-ground a a.state h.2)
+  pub unwanted-ground : (key : Key) (a : Actual) → IsUnwantedKept old stores now key a
+      → IsUnwantedKept new stores now key a
+  unwanted-ground key a h = (
+    ground.wanted key ∙ h.0,
+    may_go-ground now old new ground a ∙ h.1,
+    container-ground a a.state h.2,
+  )
 
-  pub reason-ground : (key : Key) (a : Actual) → ((wants old key ≡ true) ⊎ (may_go old now a ≡ false)) → (wants new key ≡ true) ⊎ (may_go new now a ≡ false)
+  pub reason-ground : (key : Key) (a : Actual) → ((wants old key ≡ true) ⊎ (may_go old now a ≡ false))
+      → (wants new key ≡ true) ⊎ (may_go new now a ≡ false)
   reason-ground key a h =
-      ⊎_elim (λ (wanted : wants old key ≡ true). inl (ground.wanted key ∙ wanted)) (λ (stale : may_go old now a ≡ false). inr (may_go-ground now old new ground a ∙ stale)) h
+      ⊎_elim (λ (wanted : wants old key ≡ true). inl (ground.wanted key ∙ wanted))
+      (λ (stale : may_go old now a ≡ false). inr (may_go-ground now old new ground a ∙ stale)) h
 
 module _ (rows : Rows) (stores : List Answer) (now : Moment) (key : Key) (a : Actual) where
   container-placed : (s : LrpState) → MayBePlaced rows stores now a s → HasItsContainer rows stores now a s
@@ -46,9 +57,11 @@ module _ (rows : Rows) (stores : List Answer) (now : Moment) (key : Key) (a : Ac
   container-placed lrp.Crashed h = tt
 
   -- a row that may stand and may be placed is as it should be for now, wanted or not
-  pub placeable-as : MayStand rows now key a.domain → MayBePlaced rows stores now a a.state → IsPlaceable rows stores now key (Some a)
+  pub placeable-as : MayStand rows now key a.domain → MayBePlaced rows stores now a a.state
+      → IsPlaceable rows stores now key (Some a)
   placeable-as reason h =
       ⊎_elim
       (λ (wanted : wants rows key ≡ true). inl (wanted, h))
-      (λ (stale : (wants rows key ≡ false) × (option_map_or (fresh_in rows now) a.domain true ≡ false)). inr (stale.0, stale.1, container-placed a.state h))
+      (λ (stale : (wants rows key ≡ false) × (option_map_or (fresh_in rows now) a.domain true ≡ false)).
+      inr (stale.0, stale.1, container-placed a.state h))
       reason

@@ -70,22 +70,27 @@ job_itself (job.Lrp a) = ap (λ (b : Bool). b && nat_eq a.index a.index) (text_i
 job_itself (job.Task a) = text_itself a
 
 -- what a container is that was looked for
-pub looked_for : (j : JobName) (instance : Instance) (c : Container) → is_container_of j instance c ≡ true → (instance ≡ c.instance) × (j ≡ c.job)
+pub looked_for : (j : JobName) (instance : Instance) (c : Container) → is_container_of j instance c ≡ true
+    → (instance ≡ c.instance) × (j ≡ c.job)
 looked_for j instance c e =
     let parts = both_of (is_same_instance instance c.instance) (is_same_job j c.job) e in
     (same_instance instance c.instance parts.0, same_job j c.job parts.1)
 
-pub looks_like : (j : JobName) (instance : Instance) (c : Container) → c.job ≡ j → c.instance ≡ instance → is_container_of j instance c ≡ true
+pub looks_like : (j : JobName) (instance : Instance) (c : Container) → c.job ≡ j → c.instance ≡ instance
+    → is_container_of j instance c ≡ true
 looks_like j instance c same_job' same_instance' =
     ap (λ (k : JobName). is_same_instance instance c.instance && is_same_job j k) same_job'
     ∙ ap (λ (k : Instance). is_same_instance instance k && is_same_job j j) same_instance'
     ∙ ap (λ (b : Bool). b && is_same_job j j) (instance_itself instance) ∙ job_itself j
 
 -- in an answer whose numbers rise an instance names one container
-pub one_container : (x : Answer) → IsRising nat_cmp number_of x.containers → (c d : Container) → Contains x.containers c → Contains x.containers d → c.instance ≡ d.instance → c ≡ d
+pub one_container : (x : Answer) → IsRising nat_cmp number_of x.containers → (c d : Container) → Contains x.containers c
+    → Contains x.containers d → c.instance ≡ d.instance → c ≡ d
 one_container x rises c d in_c in_d same =
-    let first : find_row nat_cmp number_of (number_of c) x.containers ≡ Some c = find_row-Contains nat_cmp number_of IsKeyOrder-nat_cmp c x.containers rises in_c in
-    let other : find_row nat_cmp number_of (number_of d) x.containers ≡ Some d = find_row-Contains nat_cmp number_of IsKeyOrder-nat_cmp d x.containers rises in_d in
+    let first : find_row nat_cmp number_of (number_of c) x.containers ≡ Some c =
+    find_row-Contains nat_cmp number_of IsKeyOrder-nat_cmp c x.containers rises in_c in
+    let other : find_row nat_cmp number_of (number_of d) x.containers ≡ Some d =
+    find_row-Contains nat_cmp number_of IsKeyOrder-nat_cmp d x.containers rises in_d in
     let number : number_of c ≡ number_of d = ap (λ (i : Instance). i.number) same in
     let both : Some c ≡ Some d = sym first ∙ ap (λ (n : ℕ). find_row nat_cmp number_of n x.containers) number ∙ other in
     cc
@@ -95,7 +100,8 @@ one_of true b e = inl refl
 one_of false b e = inr e
 
 -- an instance is named by one of its rows
-pub named-from : (rows : Rows) (key : Key) (instance : Instance) (p : Presence) → row_names (find_actual rows key p) instance ≡ true
+pub named-from : (rows : Rows) (key : Key) (instance : Instance) (p : Presence)
+    → row_names (find_actual rows key p) instance ≡ true
     → is_named_for (job.Lrp key) rows instance ≡ true
 named-from rows key instance Ordinary e =
     let a = row_names (find_actual rows key Ordinary) instance in
@@ -117,30 +123,39 @@ named-by rows key instance e =
     let b = row_names (find_actual rows key Evacuating) instance in
     let c = row_names (find_actual rows key Suspect) instance in
     ⊎_elim
-    (λ (aside : (a || b) ≡ true). ⊎_elim (λ (f : a ≡ true). (Ordinary, f)) (λ (f : b ≡ true). (Evacuating, f)) (one_of a b aside))
+    (λ (aside : (a || b) ≡ true). ⊎_elim (λ (f : a ≡ true). (Ordinary, f)) (λ (f : b ≡ true). (Evacuating, f))
+    (one_of a b aside))
     (λ (f : c ≡ true). (Suspect, f))
     (one_of (a || b) c e)
 
 -- rows name what they hold
-pub named-ordinary : (rows : Rows) (key : Key) (a : Actual) (instance : Instance) → find_actual rows key Ordinary ≡ Some a → holder_of a.state ≡ Some instance
+pub named-ordinary : (rows : Rows) (key : Key) (a : Actual) (instance : Instance)
+    → find_actual rows key Ordinary ≡ Some a → holder_of a.state ≡ Some instance
     → is_named_for (job.Lrp key) rows instance ≡ true
 named-ordinary rows key a instance is holds =
     named-from rows key instance Ordinary
-    (ap (λ (o : Option Actual). row_names o instance) is ∙ ap (λ (h : Option Instance). is_holder h instance) holds ∙ instance_itself instance)
+    (ap (λ (o : Option Actual). row_names o instance) is ∙ ap
+    (λ (h : Option Instance). is_holder h instance) holds ∙ instance_itself instance)
 
-pub named-evacuating : (rows : Rows) (key : Key) (a : Actual) (instance : Instance) → find_actual rows key Evacuating ≡ Some a → holder_of a.state ≡ Some instance
+pub named-evacuating : (rows : Rows) (key : Key) (a : Actual) (instance : Instance)
+    → find_actual rows key Evacuating ≡ Some a → holder_of a.state ≡ Some instance
     → is_named_for (job.Lrp key) rows instance ≡ true
 named-evacuating rows key a instance is holds =
     named-from rows key instance Evacuating
-    (ap (λ (o : Option Actual). row_names o instance) is ∙ ap (λ (h : Option Instance). is_holder h instance) holds ∙ instance_itself instance)
+    (ap (λ (o : Option Actual). row_names o instance) is ∙ ap
+    (λ (h : Option Instance). is_holder h instance) holds ∙ instance_itself instance)
 
-pub named-task : (rows : Rows) (name : List ℕ) (t : Task) (instance : Instance) → find_task rows name ≡ Some t → runner_of t.state ≡ Some instance
+pub named-task : (rows : Rows) (name : List ℕ) (t : Task) (instance : Instance) → find_task rows name ≡ Some t
+    → runner_of t.state ≡ Some instance
     → is_named_for (job.Task name) rows instance ≡ true
 named-task rows name t instance is holds =
-    ap (λ (o : Option Task). task_names o instance) is ∙ ap (λ (h : Option Instance). is_holder h instance) holds ∙ instance_itself instance
+    ap (λ (o : Option Task). task_names o instance) is ∙ ap
+    (λ (h : Option Instance). is_holder h instance) holds ∙ instance_itself instance
 
 -- a container that was found for a named instance is named
-pub named-found : (rows : Rows) (j : JobName) (instance : Instance) (c : Container) → is_named_for j rows instance ≡ true → is_container_of j instance c ≡ true → is_named rows c ≡ true
+pub named-found : (rows : Rows) (j : JobName) (instance : Instance) (c : Container)
+    → is_named_for j rows instance ≡ true → is_container_of j instance c ≡ true → is_named rows c ≡ true
 named-found rows j instance c named looks =
     let same = looked_for j instance c looks in
-    ap (λ (k : JobName). is_named_for k rows c.instance) (sym same.1) ∙ ap (λ (i : Instance). is_named_for j rows i) (sym same.0) ∙ named
+    ap (λ (k : JobName). is_named_for k rows c.instance) (sym same.1) ∙ ap (λ (i : Instance). is_named_for j rows i)
+    (sym same.0) ∙ named

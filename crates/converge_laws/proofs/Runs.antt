@@ -36,7 +36,8 @@ first_or_rest x y xs (suc k, lt, at) = inr (k, omega arith, at)
 
 -- where one of these commands changes a SUSPECT row, none is about that row but itself
 abbrev pub AreAlone : List Command → Type 0
-AreAlone cs = (c d : Command) → Contains cs c → Contains cs d → (key : Key) → suspect_in c.op ≡ Some key → subject_in d ≡ OfPlace (key, Suspect) → subject_in d ≡ subject_in c
+AreAlone cs = (c d : Command) → Contains cs c → Contains cs d → (key : Key) → suspect_in c.op ≡ Some key
+    → subject_in d ≡ OfPlace (key, Suspect) → subject_in d ≡ subject_in c
 
 -- so it is where no instance is suspected
 pub alone_unsuspected : (cs : List Command) → ((c : Command) → Contains cs c → IsNoSuspicion c.op) → AreAlone cs
@@ -49,26 +50,37 @@ apart_from_rising (c ∷ cs) h alone = (
   λ d inside.
       let unlike : subject_in d ≢ subject_in c = λ same.
       let above : subject_order (subject_in c) (subject_in d) ≡ Less =
-      All-contains (λ (x : Command). subject_order (subject_in c) (subject_in x) ≡ Less) cs d (All-above subject_order subject_in (subject_in c) cs (below_rest subject_order subject_in c cs h)) inside in
-      let tied : subject_order (subject_in c) (subject_in d) ≡ Equal = ap (subject_order (subject_in c)) same ∙ tied_itself IsKeyOrder-subject_order.total (subject_in c) in
+      All-contains (λ (x : Command). subject_order (subject_in c) (subject_in x) ≡ Less) cs d
+      (All-above subject_order subject_in (subject_in c) cs (below_rest subject_order subject_in c cs h)) inside in
+      let tied : subject_order (subject_in c) (subject_in d) ≡ Equal =
+      ap (subject_order (subject_in c)) same ∙ tied_itself IsKeyOrder-subject_order.total (subject_in c) in
       absurd cc in
-      record { subject = unlike; suspect = λ key changes about. unlike (alone c d (inside_first c cs) (inside_rest d c cs inside) key changes about) },
-  apart_from_rising cs (IsRising-tail subject_order subject_in c cs h) (λ a b in_a in_b. alone a b (inside_rest a c cs in_a) (inside_rest b c cs in_b)),
+      record {
+        subject = unlike;
+        suspect = λ key changes about.
+            unlike (alone c d (inside_first c cs) (inside_rest d c cs inside) key changes about);
+      },
+  apart_from_rising cs (IsRising-tail subject_order subject_in c cs h)
+      (λ a b in_a in_b. alone a b (inside_rest a c cs in_a) (inside_rest b c cs in_b)),
 )
 
 -- the command of a list that is about a subject, if there is one
-pub about_some : (s : Subject) (cs : List Command) → ((c : Command) × Contains cs c × (subject_in c ≡ s)) ⊎ ((c : Command) → Contains cs c → subject_in c ≢ s)
+pub about_some : (s : Subject) (cs : List Command) → ((c : Command) × Contains cs c × (subject_in c ≡ s))
+    ⊎ ((c : Command) → Contains cs c → subject_in c ≢ s)
 about_some s [] = inr (λ c inside same. absurd (omega (arith, inside.1)))
 about_some s (c ∷ cs) =
     elim (eq_by_cmp subject_order (subject_in c) s) as (λ (b : Bool). eq_by_cmp subject_order (subject_in c) s ≡ b
-    → ((d : Command) × Contains (c ∷ cs) d × (subject_in d ≡ s)) ⊎ ((d : Command) → Contains (c ∷ cs) d → subject_in d ≢ s)) [
+    → ((d : Command) × Contains (c ∷ cs) d × (subject_in d ≡ s))
+    ⊎ ((d : Command) → Contains (c ∷ cs) d → subject_in d ≢ s)) [
       | true ↦ λ e. inl (c, inside_first c cs, same_from_tie subject_order IsKeyOrder-subject_order (subject_in c) s e)
       | false ↦ λ e. ⊎_elim
           (λ (r : (d : Command) × Contains cs d × (subject_in d ≡ s)). inl (r.0, inside_rest r.0 c cs r.1, r.2))
           (λ (r : (d : Command) → Contains cs d → subject_in d ≢ s). inr (λ d inside same. ⊎_elim
           (λ (is : c ≡ d).
           let here : subject_in c ≡ s = ap subject_in is ∙ same in
-          let ties : eq_by_cmp subject_order (subject_in c) s ≡ true = subst (λ (t : Subject). eq_by_cmp subject_order (subject_in c) t ≡ true) here (ties_itself subject_order IsKeyOrder-subject_order (subject_in c)) in
+          let ties : eq_by_cmp subject_order (subject_in c) s ≡ true =
+          subst (λ (t : Subject). eq_by_cmp subject_order (subject_in c) t ≡ true) here
+          (ties_itself subject_order IsKeyOrder-subject_order (subject_in c)) in
           cc)
           (λ (later : Contains cs d). r d later same)
           (first_or_rest d c cs inside)))
@@ -79,33 +91,44 @@ about_some s (c ∷ cs) =
 module _ {A : Type 0} (view : Rows → A) (Leaves : Command → Type 0)
     (stays : (rows : Rows) (c : Command) → IsOfRound c.op → Leaves c → view (state_after rows c) ≡ view rows) where
   -- commands that leave a row leave it one after another
-  pub run-other : (rows : Rows) (cs : List Command) → ((c : Command) → Contains cs c → IsOfRound c.op) → ((c : Command) → Contains cs c → Leaves c)
+  pub run-other : (rows : Rows) (cs : List Command) → ((c : Command) → Contains cs c → IsOfRound c.op)
+      → ((c : Command) → Contains cs c → Leaves c)
       → view (state_after_all rows cs) ≡ view rows
   run-other rows [] ops others = refl
   run-other rows (c ∷ cs) ops others =
-      run-other (state_after rows c) cs (λ d inside. ops d (inside_rest d c cs inside)) (λ d inside. others d (inside_rest d c cs inside))
+      run-other (state_after rows c) cs (λ d inside. ops d (inside_rest d c cs inside))
+      (λ d inside. others d (inside_rest d c cs inside))
       ∙ stays rows c (ops c (inside_first c cs)) (others c (inside_first c cs))
 
   -- a command does to its row what it would do to it alone, where those about other rows leave it
-  pub run-took : (Q : A → Type 0) (c : Command) (rows : Rows) (cs : List Command) → ((d : Command) → Contains cs d → IsOfRound d.op) → AreApart cs → AreAccepted rows cs
-      → Contains cs c → ((d : Command) → Contains cs d → subject_in d ≢ subject_in c → Leaves d) → ((before : Rows) → view before ≡ view rows → IsAccepted (verdict_of before c) → Q (view (state_after before c)))
+  pub run-took : (Q : A → Type 0) (c : Command) (rows : Rows) (cs : List Command)
+      → ((d : Command) → Contains cs d → IsOfRound d.op) → AreApart cs → AreAccepted rows cs
+      → Contains cs c → ((d : Command) → Contains cs d → subject_in d ≢ subject_in c → Leaves d)
+      → ((before : Rows) → view before ≡ view rows → IsAccepted (verdict_of before c)
+      → Q (view (state_after before c)))
       → Q (view (state_after_all rows cs))
   run-took Q c rows [] ops apart taken inside others own = absurd (omega (arith, inside.1))
   run-took Q c rows (d ∷ cs) ops apart taken inside others own =
       ⊎_elim
       (λ (is : d ≡ c).
       let left : view (state_after_all (state_after rows d) cs) ≡ view (state_after rows d) =
-      run-other (state_after rows d) cs (λ e later. ops e (inside_rest e d cs later)) (λ e later. others e (inside_rest e d cs later) (λ same. (apart.0 e later).subject (same ∙ ap subject_in (sym is)))) in
-      let accepted : IsAccepted (verdict_of rows c) = subst (λ (x : Command). IsAccepted (verdict_of rows x)) is taken.0 in
+      run-other (state_after rows d) cs (λ e later. ops e (inside_rest e d cs later))
+      (λ e later. others e (inside_rest e d cs later) (λ same.
+      (apart.0 e later).subject (same ∙ ap subject_in (sym is)))) in
+      let accepted : IsAccepted (verdict_of rows c) = subst
+      (λ (x : Command). IsAccepted (verdict_of rows x)) is taken.0 in
       subst Q (sym left) (subst (λ (x : Command). Q (view (state_after rows x))) (sym is) (own rows refl accepted)))
       (λ (later : Contains cs c).
-      let first : view (state_after rows d) ≡ view rows = stays rows d (ops d (inside_first d cs)) (others d (inside_first d cs) (λ same. (apart.0 c later).subject (sym same))) in
-      run-took Q c (state_after rows d) cs (λ e after. ops e (inside_rest e d cs after)) apart.1 taken.1 later (λ e after. others e (inside_rest e d cs after))
+      let first : view (state_after rows d) ≡ view rows = stays rows d (ops d (inside_first d cs))
+      (others d (inside_first d cs) (λ same. (apart.0 c later).subject (sym same))) in
+      run-took Q c (state_after rows d) cs (λ e after. ops e (inside_rest e d cs after)) apart.1 taken.1 later
+      (λ e after. others e (inside_rest e d cs after))
       (λ before same accepted. own before (same ∙ first) accepted))
       (first_or_rest c d cs inside)
 
 -- which cells are there, which instances are wanted and which domains are fresh stays
-pub run-ground : (rows : Rows) (now : Moment) (cs : List Command) → AreOfRound now cs → KeepsGround now rows (state_after_all rows cs)
+pub run-ground : (rows : Rows) (now : Moment) (cs : List Command) → AreOfRound now cs
+    → KeepsGround now rows (state_after_all rows cs)
 run-ground rows now [] h = record { there = λ cell epoch. refl; wanted = λ key. refl; fresh = λ domain. refl }
 run-ground rows now (c ∷ cs) h =
     let rest = run-ground (state_after rows c) now cs (record {
@@ -113,9 +136,11 @@ run-ground rows now (c ∷ cs) h =
       moments = λ d inside. h.moments d (inside_rest d c cs inside);
     }) in
     record {
-      there = λ cell epoch. rest.there cell epoch ∙ stays-there rows now c (h.ops c (inside_first c cs)) (h.moments c (inside_first c cs)) cell epoch;
+      there = λ cell epoch. rest.there cell epoch ∙ stays-there rows now c (h.ops c (inside_first c cs))
+          (h.moments c (inside_first c cs)) cell epoch;
       wanted = λ key. rest.wanted key ∙ stays-wanted rows c (h.ops c (inside_first c cs)) key;
-      fresh = λ domain. rest.fresh domain ∙ stays-fresh rows now c (h.ops c (inside_first c cs)) (h.moments c (inside_first c cs)) domain;
+      fresh = λ domain. rest.fresh domain ∙ stays-fresh rows now c (h.ops c (inside_first c cs))
+          (h.moments c (inside_first c cs)) domain;
     }
 
 -- and the rows stay valid, whatever the commands
@@ -123,7 +148,8 @@ pub run-valid : (rows : Rows) (cs : List Command) → IsValid rows → IsValid (
 run-valid rows [] valid = valid
 run-valid rows (c ∷ cs) valid =
     run-valid (state_after rows c) cs
-    (elim (verdict_of rows c) as (λ (v : Verdict). verdict_of rows c ≡ v → IsValid (if_legal v (rows_after rows c) rows)) [
+    (elim (verdict_of rows c) as (λ (v : Verdict). verdict_of rows c ≡ v
+    → IsValid (if_legal v (rows_after rows c) rows)) [
       | Ok ↦ λ legal. IsValid-rows_after rows c valid legal
       | Same ↦ λ e. valid
       | (Refused why) ↦ λ e. valid

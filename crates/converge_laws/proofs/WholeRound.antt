@@ -24,7 +24,8 @@ use Rattle.converge_laws.proofs.StopStage.{alike, stops-leave_none}
 use Rattle.converge_laws.proofs.WorkStage.{work-ground, work-leaves_suspicions}
 
 -- who has answered has answered where the same cells are there
-pub answered-ground : (old new : Rows) (got stores : List Answer) (now : Moment) → KeepsGround now old new → HaveAnswered old got stores now → HaveAnswered new got stores now
+pub answered-ground : (old new : Rows) (got stores : List Answer) (now : Moment) → KeepsGround now old new
+    → HaveAnswered old got stores now → HaveAnswered new got stores now
 answered-ground old new got stores now ground heard = record {
   inside = heard.inside;
   differ = heard.differ;
@@ -33,17 +34,23 @@ answered-ground old new got stores now ground heard = record {
 }
 
 -- a cell that is there has an answer among what is left
-pub answered-left : (rows : Rows) (got before left : List Answer) (now : Moment) → HaveAnswered rows got before now → AreWithout (strays rows got) before left
+pub answered-left : (rows : Rows) (got before left : List Answer) (now : Moment) → HaveAnswered rows got before now
+    → AreWithout (strays rows got) before left
     → (cell : List ℕ) (epoch : ℕ) → is_there rows now cell epoch ≡ true → IsSome (answer_from left cell epoch)
 answered-left rows got before left now heard without cell epoch there =
     let f = found-there rows got before now heard cell epoch there in
-    let y = zip_find (IsWithout (strays rows got)) (is_answer_of cell epoch) (λ a b r. alike cell epoch a b r.same) before left f.answer without f.in_stores in
+    let y = zip_find (IsWithout (strays rows got)) (is_answer_of cell epoch)
+    (λ a b r. alike cell epoch a b r.same) before left f.answer without f.in_stores in
     subst (λ o. IsSome o) (sym y.1) refl
 
-module _ (rows : Rows) (got before left after : List Answer) (now : Moment) (cs : List Command) (valid : IsValid rows) (heard : HaveAnswered rows got before now)
-    (worked : AreAccepted rows (work rows now)) (planned : AreAccepted (after_work rows now) (plan_of_answers (after_work rows now) got now))
-    (without : AreWithout (strays (after_plan rows got now) got) before left) (apart : AreApart cs) (claimed : AreAccepted (after_plan rows got now) cs)
-    (moments : (c : Command) → Contains cs c → c.now ≡ now) (places : PlacesAll (after_plan rows got now) now cs) (with' : AreWith cs left after) where
+module _ (rows : Rows) (got before left after : List Answer) (now : Moment) (cs : List Command) (valid : IsValid rows)
+    (heard : HaveAnswered rows got before now)
+    (worked : AreAccepted rows (work rows now)) (planned : AreAccepted (after_work rows now)
+    (plan_of_answers (after_work rows now) got now))
+    (without : AreWithout (strays (after_plan rows got now) got) before left) (apart : AreApart cs)
+    (claimed : AreAccepted (after_plan rows got now) cs)
+    (moments : (c : Command) → Contains cs c → c.now ≡ now) (places : PlacesAll (after_plan rows got now) now cs)
+    (with' : AreWith cs left after) where
   valid-worked : IsValid (after_work rows now)
   valid-worked = run-valid rows (work rows now) valid
 
@@ -58,7 +65,8 @@ module _ (rows : Rows) (got before left after : List Answer) (now : Moment) (cs 
 
   heard-planned : HaveAnswered (after_plan rows got now) got before now
   heard-planned =
-      answered-ground (after_work rows now) (after_plan rows got now) got before now (plan-ground (after_work rows now) got before now valid-worked is-worked heard-worked planned) heard-worked
+      answered-ground (after_work rows now) (after_plan rows got now) got before now
+      (plan-ground (after_work rows now) got before now valid-worked is-worked heard-worked planned) heard-worked
 
   is-cleared : IsCleared (after_plan rows got now) left now
   is-cleared = stops-leave_none (after_plan rows got now) got before left now heard-planned without is-planned

@@ -61,24 +61,34 @@ tail_pairs x xs h i j d lt below = h (suc i) (suc j) d (omega arith) (omega arit
 head_differs : {X : Type 0} (x : X) (xs : List X) (y : X) → AllPairs (λ a b. a ≢ b) (x ∷ xs) → Contains xs y → x ≡ y → ⊥
 head_differs x xs y h here e = h 0 (suc here.0) y (omega arith) (omega (arith, here.1)) (e ∙ sym here.2)
 
-pub pairs_first : {X : Type 0} (x : X) (xs : List X) → ((y : X) → Contains xs y → x ≡ y → ⊥) → AllPairs (λ a b. a ≢ b) xs → AllPairs (λ a b. a ≢ b) (x ∷ xs)
-pairs_first x xs ne rest = AllPairs-cons (λ a b. a ≢ b) x xs (λ k d lt. ne (get_or xs k d) (Contains-get_or xs k d lt)) rest
+pub pairs_first : {X : Type 0} (x : X) (xs : List X) → ((y : X) → Contains xs y → x ≡ y → ⊥)
+    → AllPairs (λ a b. a ≢ b) xs → AllPairs (λ a b. a ≢ b) (x ∷ xs)
+pairs_first x xs ne rest = AllPairs-cons (λ a b. a ≢ b) x xs
+    (λ k d lt. ne (get_or xs k d) (Contains-get_or xs k d lt)) rest
 
 no_names : AreOfNames [] []
 no_names = record { few = omega arith; differ = λ i j d lt below. absurd (omega arith); inside = λ n here. here }
 
 skipped : (x : List ℕ) (names kept : List (List ℕ)) → AreOfNames names kept → AreOfNames (x ∷ names) kept
-skipped x names kept h = record { few = omega (arith, h.few); differ = h.differ; inside = λ n here. later x names n (h.inside n here) }
+skipped x names kept h = record {
+  few = omega (arith, h.few);
+  differ = h.differ;
+  inside = λ n here.
+      later x names n (h.inside n here);
+}
 
-with_first : (x : List ℕ) (names kept : List (List ℕ)) → AllPairs (λ a b. a ≢ b) (x ∷ names) → AreOfNames names kept → AreOfNames (x ∷ names) (x ∷ kept)
+with_first : (x : List ℕ) (names kept : List (List ℕ)) → AllPairs (λ a b. a ≢ b) (x ∷ names) → AreOfNames names kept
+    → AreOfNames (x ∷ names) (x ∷ kept)
 with_first x names kept differ h = record {
   few = omega (arith, h.few);
   differ = pairs_first x kept (λ y here. head_differs x names y differ (h.inside y here)) h.differ;
-  inside = λ n here. ⊎_elim (λ e. (0, omega arith, e)) (λ rest. later x names n (h.inside n rest)) (first_or_rest x kept n here);
+  inside = λ n here. ⊎_elim (λ e. (0, omega arith, e)) (λ rest. later x names n (h.inside n rest))
+      (first_or_rest x kept n here);
 }
 
 -- the names of cells that answered are some of those that were asked
-heard_name : (b : Bool) (cells : List CellRep) (cell : List ℕ) (epoch : ℕ) (a : Answer) → HearsIf b cells cell epoch (Some a) → (a.cell ≡ cell) × IsSoundAnswer a
+heard_name : (b : Bool) (cells : List CellRep) (cell : List ℕ) (epoch : ℕ) (a : Answer)
+    → HearsIf b cells cell epoch (Some a) → (a.cell ≡ cell) × IsSoundAnswer a
 heard_name true cells cell epoch a h = (
   h.sound.cell ∙ h.stands.cell_is,
   record {
@@ -99,8 +109,10 @@ none_added : (xs : List Answer) → AreAdded [] xs xs
 none_added xs = record { more = []; is = sym (append-nil xs); apart = no_names; sound = All-nil IsSoundAnswer }
 
 -- one step more, which adds an answer of that name or none
-add_before : (name : List ℕ) (names : List (List ℕ)) (old middle new : List Answer) (o : Option Answer) → AllPairs (λ a b. a ≢ b) (name ∷ names)
-    → ((a : Answer) → o ≡ Some a → (a.cell ≡ name) × IsSoundAnswer a) → middle ≡ old ++ option_to_list o → AreAdded names middle new → AreAdded (name ∷ names) old new
+add_before : (name : List ℕ) (names : List (List ℕ)) (old middle new : List Answer) (o : Option Answer)
+    → AllPairs (λ a b. a ≢ b) (name ∷ names)
+    → ((a : Answer) → o ≡ Some a → (a.cell ≡ name) × IsSoundAnswer a) → middle ≡ old ++ option_to_list o
+    → AreAdded names middle new → AreAdded (name ∷ names) old new
 add_before name names old middle new None differ told e h = record {
   more = h.more;
   is = h.is ∙ ap (λ xs. xs ++ h.more) (e ∙ append-nil old);
@@ -117,10 +129,12 @@ add_before name names old middle new (Some a) differ told e h =
       sound = All-cons IsSoundAnswer a h.more known.1 h.sound;
     }
 
-told_asked : (b : Bool) (cells : List CellRep) (cell : List ℕ) (epoch : ℕ) (o : Option Answer) → HearsIf b cells cell epoch o → (a : Answer) → o ≡ Some a → (a.cell ≡ cell) × IsSoundAnswer a
+told_asked : (b : Bool) (cells : List CellRep) (cell : List ℕ) (epoch : ℕ) (o : Option Answer)
+    → HearsIf b cells cell epoch o → (a : Answer) → o ≡ Some a → (a.cell ≡ cell) × IsSoundAnswer a
 told_asked b cells cell epoch o h a e = heard_name b cells cell epoch a (subst (HearsIf b cells cell epoch) e h)
 
-asks_add : (cells : List CellRep) (cs : List CellRow) (s t : Asking) → AllPairs (λ a b. a ≢ b) (map (λ (c : CellRow). c.cell) cs) → Each (AsksOne cells) cs s t
+asks_add : (cells : List CellRep) (cs : List CellRow) (s t : Asking)
+    → AllPairs (λ a b. a ≢ b) (map (λ (c : CellRow). c.cell) cs) → Each (AsksOne cells) cs s t
     → AreAdded (map (λ (c : CellRow). c.cell) cs) s.got t.got
 asks_add cells [] s t differ f = subst (λ (x : Asking). AreAdded [] s.got x.got) (sym f) (none_added s.got)
 asks_add cells (c ∷ cs) s t differ f =
@@ -128,11 +142,13 @@ asks_add cells (c ∷ cs) s t differ f =
     (told_asked f.1.asked.reached cells c.cell c.epoch f.1.answer f.1.asked.heard) f.1.got
     (asks_add cells cs f.0 t (tail_pairs c.cell (map (λ (x : CellRow). x.cell) cs) differ) f.2)
 
-told_open : (b : Bool) (cells : List CellRep) (x : Answer) (o : Option Answer) → OpensIf b cells x o → (a : Answer) → o ≡ Some a → (a.cell ≡ x.cell) × IsSoundAnswer a
+told_open : (b : Bool) (cells : List CellRep) (x : Answer) (o : Option Answer) → OpensIf b cells x o → (a : Answer)
+    → o ≡ Some a → (a.cell ≡ x.cell) × IsSoundAnswer a
 told_open true cells x o h a e = let bad : None ≡ Some a = sym h ∙ e in absurd cc
 told_open false cells x o h a e = heard_name true cells x.cell x.epoch a (subst (Hears cells x.cell x.epoch) e h)
 
-opens_add : (rows : Rows) (cells : List CellRep) (got : List Answer) (s t : List Answer) → AllPairs (λ a b. a ≢ b) (map (λ (a : Answer). a.cell) got) → Each (OpensOne rows cells) got s t
+opens_add : (rows : Rows) (cells : List CellRep) (got : List Answer) (s t : List Answer)
+    → AllPairs (λ a b. a ≢ b) (map (λ (a : Answer). a.cell) got) → Each (OpensOne rows cells) got s t
     → AreAdded (map (λ (a : Answer). a.cell) got) s t
 opens_add rows cells [] s t differ f = subst (AreAdded [] s) (sym f) (none_added s)
 opens_add rows cells (x ∷ got) s t differ f =
@@ -142,10 +158,12 @@ opens_add rows cells (x ∷ got) s t differ f =
 
 not_itself : (a b : List ℕ) → name_order a b ≡ Less → a ≡ b → ⊥
 not_itself a b less e =
-    let tie : name_order a b ≡ Equal = subst (λ n. name_order a n ≡ Equal) e (tied_itself IsKeyOrder-name_order.total a) in
+    let tie : name_order a b ≡ Equal = subst (λ n. name_order a n ≡ Equal) e
+    (tied_itself IsKeyOrder-name_order.total a) in
     let bad : Less ≡ Equal = sym less ∙ tie in absurd cc
 
-above_differs : (name : List ℕ) (cs : List CellRow) → All (λ (c : CellRow). name_order name c.cell ≡ Less) cs → (y : List ℕ) → Contains (map (λ (c : CellRow). c.cell) cs) y → name ≡ y → ⊥
+above_differs : (name : List ℕ) (cs : List CellRow) → All (λ (c : CellRow). name_order name c.cell ≡ Less) cs
+    → (y : List ℕ) → Contains (map (λ (c : CellRow). c.cell) cs) y → name ≡ y → ⊥
 above_differs name [] h y here e = absurd (omega (arith, here.1))
 above_differs name (c ∷ cs) h y here e = ⊎_elim
     (λ same. not_itself name c.cell (All-head (λ (x : CellRow). name_order name x.cell ≡ Less) c cs h) (e ∙ sym same))
@@ -153,10 +171,12 @@ above_differs name (c ∷ cs) h y here e = ⊎_elim
     (first_or_rest c.cell (map (λ (x : CellRow). x.cell) cs) y here)
 
 -- the names of rows that rise differ
-cells_differ : (cs : List CellRow) → IsRising name_order (λ (c : CellRow). c.cell) cs → AllPairs (λ a b. a ≢ b) (map (λ (c : CellRow). c.cell) cs)
+cells_differ : (cs : List CellRow) → IsRising name_order (λ (c : CellRow). c.cell) cs
+    → AllPairs (λ a b. a ≢ b) (map (λ (c : CellRow). c.cell) cs)
 cells_differ [] h = λ i j d lt below. absurd (omega arith)
 cells_differ (c ∷ cs) h = pairs_first c.cell (map (λ (x : CellRow). x.cell) cs)
-    (λ y here e. above_differs c.cell cs (All-above name_order (λ (x : CellRow). x.cell) c.cell cs (below_rest name_order (λ (x : CellRow). x.cell) c cs h)) y here e)
+    (λ y here e. above_differs c.cell cs (All-above name_order (λ (x : CellRow). x.cell) c.cell cs
+    (below_rest name_order (λ (x : CellRow). x.cell) c cs h)) y here e)
     (cells_differ cs (IsRising-tail name_order (λ (x : CellRow). x.cell) c cs h))
 
 present_names : (now : Moment) (cs : List CellRow) → AllPairs (λ a b. a ≢ b) (map (λ (c : CellRow). c.cell) cs)
@@ -165,7 +185,8 @@ present_names now [] differ = no_names
 present_names now (c ∷ cs) differ =
     let names = map (λ (x : CellRow). x.cell) cs in
     let rest = present_names now cs (tail_pairs c.cell names differ) in
-    elim (is_present c now) as (λ b. AreOfNames (c.cell ∷ names) (map (λ (x : CellRow). x.cell) (cons_option (cond b (Some c) None) (filter_map (present_at now) cs)))) [
+    elim (is_present c now) as (λ b. AreOfNames (c.cell ∷ names)
+    (map (λ (x : CellRow). x.cell) (cons_option (cond b (Some c) None) (filter_map (present_at now) cs)))) [
       | true ↦ with_first c.cell names (map (λ (x : CellRow). x.cell) (filter_map (present_at now) cs)) differ rest
       | false ↦ skipped c.cell names (map (λ (x : CellRow). x.cell) (filter_map (present_at now) cs)) rest
     ]
@@ -173,31 +194,58 @@ present_names now (c ∷ cs) differ =
 pub few_present : (rows : Rows) (now : Moment) → IsValid rows → length (present rows now) ≤ 1000
 few_present rows now valid =
     let names = present_names now rows.cells (cells_differ rows.cells valid.cells.rising) in
-    omega (arith, names.few, valid.cells.few, length-map rows.cells (λ (c : CellRow). c.cell), length-map (present rows now) (λ (c : CellRow). c.cell))
+    omega (
+      arith,
+      names.few,
+      valid.cells.few,
+      length-map rows.cells (λ (c : CellRow). c.cell),
+      length-map (present rows now) (λ (c : CellRow). c.cell),
+    )
 
-pub heard_apart : (rows : Rows) (now : Moment) (cells : List CellRep) (s t : Asking) → IsValid rows → s.got ≡ [] → Each (AsksOne cells) (present rows now) s t → AreFewApart t.got
+pub heard_apart : (rows : Rows) (now : Moment) (cells : List CellRep) (s t : Asking) → IsValid rows → s.got ≡ []
+    → Each (AsksOne cells) (present rows now) s t → AreFewApart t.got
 heard_apart rows now cells s t valid none f =
     let names = present_names now rows.cells (cells_differ rows.cells valid.cells.rising) in
     let added = asks_add cells (present rows now) s t names.differ f in
     let is : t.got ≡ added.more = added.is ∙ ap (λ xs. xs ++ added.more) none in
     subst AreFewApart (sym is) (record {
-      few = omega (arith, added.apart.few, few_present rows now valid, length-map (present rows now) (λ (c : CellRow). c.cell), length-map added.more (λ (a : Answer). a.cell));
+      few = omega (
+        arith,
+        added.apart.few,
+        few_present rows now valid,
+        length-map (present rows now) (λ (c : CellRow). c.cell),
+        length-map added.more (λ (a : Answer). a.cell),
+      );
       differ = added.apart.differ;
     })
 
-pub heard_few : (rows : Rows) (now : Moment) (cells : List CellRep) (s t : Asking) → IsValid rows → s.got ≡ [] → Each (AsksOne cells) (present rows now) s t → length t.got ≤ length (present rows now)
+pub heard_few : (rows : Rows) (now : Moment) (cells : List CellRep) (s t : Asking) → IsValid rows → s.got ≡ []
+    → Each (AsksOne cells) (present rows now) s t → length t.got ≤ length (present rows now)
 heard_few rows now cells s t valid none f =
     let names = present_names now rows.cells (cells_differ rows.cells valid.cells.rising) in
     let added = asks_add cells (present rows now) s t names.differ f in
     let is : t.got ≡ added.more = added.is ∙ ap (λ xs. xs ++ added.more) none in
-    omega (arith, added.apart.few, ap length is, length-map (present rows now) (λ (c : CellRow). c.cell), length-map added.more (λ (a : Answer). a.cell))
+    omega (
+      arith,
+      added.apart.few,
+      ap length is,
+      length-map (present rows now) (λ (c : CellRow). c.cell),
+      length-map added.more (λ (a : Answer). a.cell),
+    )
 
-pub open_answers : (rows : Rows) (cells : List CellRep) (got roomy : List Answer) → AreFewApart got → Each (OpensOne rows cells) got [] roomy → AreAnswers roomy
+pub open_answers : (rows : Rows) (cells : List CellRep) (got roomy : List Answer) → AreFewApart got
+    → Each (OpensOne rows cells) got [] roomy → AreAnswers roomy
 open_answers rows cells got roomy apart f =
     let added = opens_add rows cells got [] roomy apart.differ f in
     let is : roomy ≡ added.more = added.is in
     subst AreAnswers (sym is) (record {
-      few = omega (arith, added.apart.few, apart.few, length-map got (λ (a : Answer). a.cell), length-map added.more (λ (a : Answer). a.cell));
+      few = omega (
+        arith,
+        added.apart.few,
+        apart.few,
+        length-map got (λ (a : Answer). a.cell),
+        length-map added.more (λ (a : Answer). a.cell),
+      );
       differ = added.apart.differ;
       each = added.sound;
     })

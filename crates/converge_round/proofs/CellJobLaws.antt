@@ -23,7 +23,8 @@ tied-same a b e = IsKeyOrder-name_order.exact a b (equal-from (name_order a b) e
 
 not-tied : (a b : List ℕ) → is_eq (name_order a b) ≡ false → a ≢ b
 not-tied a b e same =
-    let tie : is_eq (name_order a b) ≡ true = ap is_eq (subst (λ c. name_order a c ≡ Equal) same (tied_itself IsKeyOrder-name_order.total a)) in
+    let tie : is_eq (name_order a b) ≡ true = ap is_eq (subst (λ c. name_order a c ≡ Equal) same
+    (tied_itself IsKeyOrder-name_order.total a)) in
     let bad : true ≡ false = sym tie ∙ e in
     absurd cc
 
@@ -37,16 +38,20 @@ test-of a b false e =
 
 module _ {X : Type 0} (get old : List ℕ → Option (List X)) (cell : List ℕ) (more next : List X)
     (next_is : next ≡ unwrap_or (old cell) [] ++ more) where
-  by_tie : (other : List ℕ) (t : Bool) → is_eq (name_order cell other) ≡ t → get other ≡ cond t (Some next) (cond t None (old other))
+  by_tie : (other : List ℕ) (t : Bool) → is_eq (name_order cell other) ≡ t
+      → get other ≡ cond t (Some next) (cond t None (old other))
       → unwrap_or (get other) [] ≡ unwrap_or (old other) [] ++ cond t more []
   by_tie other true tie is =
       ap (λ (o : Option (List X)). unwrap_or o []) is ∙ next_is
       ∙ ap (λ (c : List ℕ). unwrap_or (old c) [] ++ more) (tied-same cell other tie)
-  by_tie other false tie is = ap (λ (o : Option (List X)). unwrap_or o []) is ∙ sym (append-nil (unwrap_or (old other) []))
+  by_tie other false tie is = ap (λ (o : Option (List X)). unwrap_or o []) is ∙ sym
+      (append-nil (unwrap_or (old other) []))
 
   -- what is kept for each cell then
-  pub kept-added : (other : List ℕ) → get other ≡ cond (is_eq (name_order cell other)) (Some next) (cond (is_eq (name_order cell other)) None (old other))
+  pub kept-added : (other : List ℕ) → get other ≡ cond (is_eq (name_order cell other)) (Some next)
+      (cond (is_eq (name_order cell other)) None (old other))
       → unwrap_or (get other) [] ≡ unwrap_or (old other) [] ++ cond (same_name cell other) more []
   kept-added other is =
       by_tie other (is_eq (name_order cell other)) refl is
-      ∙ ap (λ b. unwrap_or (old other) [] ++ cond b more []) (sym (test-of cell other (is_eq (name_order cell other)) refl))
+      ∙ ap (λ b. unwrap_or (old other) [] ++ cond b more [])
+      (sym (test-of cell other (is_eq (name_order cell other)) refl))

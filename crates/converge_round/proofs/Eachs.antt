@@ -12,7 +12,8 @@ each-append Step (x ∷ xs) ys s m t f g = (f.0, f.1, each-append Step xs ys f.0
 pub each-more : {X S : Type 0} (Step : X → S → S → Type 0) (xs : List X) (k : ℕ) (x : X) (s m t : S)
     → k < length xs → x ≡ get_or xs k x → Each Step (take k xs) s m → Step x m t → Each Step (take (k + 1) xs) s t
 each-more Step xs k x s m t within read f h =
-    let more : take (k + 1) xs ≡ take k xs ++ x ∷ [] = take_more xs k x within ∙ ap (λ y. take k xs ++ y ∷ []) (sym read) in
+    let more : take (k + 1) xs ≡ take k xs ++ x ∷ [] = take_more xs k x within ∙ ap (λ y. take k xs ++ y ∷ [])
+    (sym read) in
     subst (λ ys. Each Step ys s t) (sym more) (each-append Step (take k xs) (x ∷ []) s m t f (t, h, refl))
 
 -- what each step keeps, and goes on to keep
@@ -24,7 +25,9 @@ each-keeps Step R (x ∷ xs) s t same goes_on one f =
     goes_on s f.0 t (one x s f.0 f.1) (each-keeps Step R xs f.0 t same goes_on one f.2)
 
 -- one step more, by a caller of that number
-pub each-more-by : {X S : Type 0} (Step : ℕ → X → S → S → Type 0) (by by' : ℕ) (xs : List X) (k : ℕ) (x : X) (s m t : S) → by' ≡ by
-    → k < length xs → x ≡ get_or xs k x → Each (Step by) (take k xs) s m → Step by' x m t → Each (Step by) (take (k + 1) xs) s t
+pub each-more-by : {X S : Type 0} (Step : ℕ → X → S → S → Type 0) (by by' : ℕ) (xs : List X) (k : ℕ) (x : X) (s m t : S)
+    → by' ≡ by
+    → k < length xs → x ≡ get_or xs k x → Each (Step by) (take k xs) s m → Step by' x m t
+    → Each (Step by) (take (k + 1) xs) s t
 each-more-by Step by by' xs k x s m t same within read f h =
     each-more (Step by) xs k x s m t within read f (subst (λ n. Step n x m t) same h)

@@ -108,13 +108,15 @@ causes_before r by by' u v w same f h =
 
 -- want of memory is the only fault of an end that is neither a fault of the disk nor hides one
 only_want : (by : ℕ) (v w : PortView) (end : CallEnd) (why : CallFault)
-    → ((x : CallFault) → (end ≡ Fault x) ⊎ (end ≡ ReplyLost (Err x)) → x ≡ fault.OutOfMemory) → IsFaultOf end why → IsCausedBy by v w why
+    → ((x : CallFault) → (end ≡ Fault x) ⊎ (end ≡ ReplyLost (Err x)) → x ≡ fault.OutOfMemory) → IsFaultOf end why
+    → IsCausedBy by v w why
 only_want by v w end why only h = subst (IsCausedBy by v w) (sym (⊎_elim
     (λ e. only why (inl e))
     (λ r. ⊎_elim (λ e. only why (inr e)) (λ e. e) r) h)) (caused_by_want by v w)
 
 -- the fault of what was to be done at a start
-caused_todo : (by : ℕ) (cell : List ℕ) (ends : Option WireEnds) (t : Todo) (v : PortView) (a : Called) (w : PortView) (why : CallFault)
+caused_todo : (by : ℕ) (cell : List ℕ) (ends : Option WireEnds) (t : Todo) (v : PortView) (a : Called) (w : PortView)
+    (why : CallFault)
     → IsAnswer t a → EndsOf by cell ends t v a w → IsFaultOf a.end why → IsCausedBy by v w why
 caused_todo by cell ends (todo.Call c) v a w why is h f = ⊎_elim
     (λ e. caused_at_once by v c why w (subst (λ x. IsDelivered by v c x w) e h.1))
@@ -129,14 +131,17 @@ caused_todo by cell ends (todo.Local refusal) v a w why is h f =
     only_want by v w a.end why (λ x. ⊎_elim (λ e. absurd cc) (λ e. absurd cc)) f
 
 caused_follows : (by : ℕ) (cell : List ℕ) (ends : Option WireEnds) (t : Todo) (rep rep' : CellRep) (v w : PortView)
-    (a : Called) (why : CallFault) → Follows by cell ends (t ∷ []) rep v (a ∷ []) rep' w → IsFaultOf a.end why → IsCausedBy by v w why
+    (a : Called) (why : CallFault) → Follows by cell ends (t ∷ []) rep v (a ∷ []) rep' w → IsFaultOf a.end why
+    → IsCausedBy by v w why
 caused_follows by cell ends t rep rep' v w a why h f =
     subst (λ x. IsCausedBy by v x why) (sym h.3.1) (caused_todo by cell ends t v a h.0 why h.1 h.2 f)
 
 -- the fault of a start
-pub caused_started : (by : ℕ) (job : Job) (now : Moment) (rep rep' : CellRep) (v w : PortView) (ends ends' : Option WireEnds)
+pub caused_started : (by : ℕ) (job : Job) (now : Moment) (rep rep' : CellRep) (v w : PortView)
+    (ends ends' : Option WireEnds)
     (losses losses' : ℕ) (a : Called) (why : CallFault)
-    → IsStarted by job now (stage rep v ends losses []) (stage rep' w ends' losses' (a ∷ [])) → IsFaultOf a.end why → IsCausedBy by v w why
+    → IsStarted by job now (stage rep v ends losses []) (stage rep' w ends' losses' (a ∷ [])) → IsFaultOf a.end why
+    → IsCausedBy by v w why
 caused_started by job now rep rep' v w ends ends' losses losses' a why h f = ⊎_elim
     (λ p.
     let todo : Todo = job_todo job now rep.cell rep.joined in

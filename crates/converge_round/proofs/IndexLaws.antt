@@ -24,7 +24,8 @@ no_more : (cell : List ℕ) → Contains [] cell → ⊥
 no_more cell here = omega (arith, here.1)
 
 -- a place among some names is one among more
-place-more : (names : List (List ℕ)) (key cell : List ℕ) (at : ℕ) → slice_get names at ≡ Some cell → slice_get (names ++ key ∷ []) at ≡ Some cell
+place-more : (names : List (List ℕ)) (key cell : List ℕ) (at : ℕ) → slice_get names at ≡ Some cell
+    → slice_get (names ++ key ∷ []) at ≡ Some cell
 place-more names key cell at e =
     let within : at < length names = slice_get_within names at cell e in
     let more : at < length (names ++ key ∷ []) = omega (arith, within, length-append names (key ∷ [])) in
@@ -37,38 +38,47 @@ place-last names key =
     slice_get-get_or (names ++ key ∷ []) (length names) key (omega (arith, length-append names (key ∷ [])))
     ∙ ap (λ n. Some n) (get_or-append_seam names key [] key)
 
-kept-place : (names : List (List ℕ)) (key cell : List ℕ) (old : Option ℕ) → is_eq (name_order key cell) ≡ false → IsPlaceOf names cell old → IsPlaceOf (names ++ key ∷ []) cell old
+kept-place : (names : List (List ℕ)) (key cell : List ℕ) (old : Option ℕ) → is_eq (name_order key cell) ≡ false
+    → IsPlaceOf names cell old → IsPlaceOf (names ++ key ∷ []) cell old
 kept-place names key cell None other h = λ here. ⊎_elim
     (λ a. h a)
     (λ same.
-    let tie : is_eq (name_order key cell) ≡ true = ap is_eq (subst (λ c. name_order key c ≡ Equal) same (tied_itself IsKeyOrder-name_order.total key)) in
+    let tie : is_eq (name_order key cell) ≡ true = ap is_eq
+    (subst (λ c. name_order key c ≡ Equal) same (tied_itself IsKeyOrder-name_order.total key)) in
     let bad : true ≡ false = sym tie ∙ other in absurd cc)
     (Contains-push_cases names key cell here)
 kept-place names key cell (Some at) other h = place-more names key cell at h
 
-new-place : (names : List (List ℕ)) (key cell : List ℕ) (b : Bool) (old : Option ℕ) → is_eq (name_order key cell) ≡ b → IsPlaceOf names cell old
+new-place : (names : List (List ℕ)) (key cell : List ℕ) (b : Bool) (old : Option ℕ) → is_eq (name_order key cell) ≡ b
+    → IsPlaceOf names cell old
     → IsPlaceOf (names ++ key ∷ []) cell (cond b (Some (length names)) old)
 new-place names key cell true old e h =
     place-last names key ∙ ap (λ n. Some n) (IsKeyOrder-name_order.exact key cell (equal-from (name_order key cell) e))
 new-place names key cell false old e h = kept-place names key cell old e h
 
 -- one name more
-pub placed-more : (names more : List (List ℕ)) (key cell : List ℕ) (at : ℕ) (old new : Option ℕ) → more ≡ names ++ key ∷ [] → at ≡ length names
+pub placed-more : (names more : List (List ℕ)) (key cell : List ℕ) (at : ℕ) (old new : Option ℕ)
+    → more ≡ names ++ key ∷ [] → at ≡ length names
     → new ≡ cond (is_eq (name_order key cell)) (Some at) old → IsPlaceOf names cell old → IsPlaceOf more cell new
 placed-more names more key cell at old new longer last is h =
-    let one : new ≡ cond (is_eq (name_order key cell)) (Some (length names)) old = is ∙ ap (λ n. cond (is_eq (name_order key cell)) (Some n) old) last in
+    let one : new ≡ cond (is_eq (name_order key cell)) (Some (length names)) old =
+    is ∙ ap (λ n. cond (is_eq (name_order key cell)) (Some n) old) last in
     subst (λ ns. IsPlaceOf ns cell new) (sym longer)
-    (subst (λ o. IsPlaceOf (names ++ key ∷ []) cell o) (sym one) (new-place names key cell (is_eq (name_order key cell)) old refl h))
+    (subst (λ o. IsPlaceOf (names ++ key ∷ []) cell o) (sym one)
+    (new-place names key cell (is_eq (name_order key cell)) old refl h))
 
-pub names-more : (reps : List CellRep) (at : ℕ) (rep : CellRep) (key : List ℕ) → at < length reps → rep ≡ get_or reps at rep → key ≡ rep.cell
+pub names-more : (reps : List CellRep) (at : ℕ) (rep : CellRep) (key : List ℕ) → at < length reps
+    → rep ≡ get_or reps at rep → key ≡ rep.cell
     → take (at + 1) (names_of reps) ≡ take at (names_of reps) ++ key ∷ []
 names-more reps at rep key within is same =
     let inside : at < length (names_of reps) = omega (arith, within, length-map reps (λ (r : CellRep). r.cell)) in
     take_more (names_of reps) at key inside
-    ∙ ap (λ n. take at (names_of reps) ++ n ∷ []) (get_or-map (λ (r : CellRep). r.cell) reps at rep key within ∙ ap (λ (r : CellRep). r.cell) (sym is) ∙ sym same)
+    ∙ ap (λ n. take at (names_of reps) ++ n ∷ []) (get_or-map (λ (r : CellRep). r.cell) reps at rep key within ∙ ap
+    (λ (r : CellRep). r.cell) (sym is) ∙ sym same)
 
 pub names-before : (reps : List CellRep) (at : ℕ) → at < length reps → at ≡ length (take at (names_of reps))
-names-before reps at within = sym (length-take-le at (names_of reps) (omega (arith, within, length-map reps (λ (r : CellRep). r.cell))))
+names-before reps at within = sym (length-take-le at (names_of reps)
+    (omega (arith, within, length-map reps (λ (r : CellRep). r.cell))))
 
 pub none-placed : (cell : List ℕ) → IsPlaceOf [] cell None
 none-placed cell = no_more cell

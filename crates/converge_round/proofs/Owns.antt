@@ -69,19 +69,28 @@ pub own_called : (by : ℕ) (v : PortView) (c : Command) (end : Result Reply Cal
     → IsCalled by v c end w → AreOf by (λ x. x ≡ c) v w
 own_called by v c end w h =
     let items = added end by c in
-    let seen : w.seen ≡ v.seen ++ (h.others ++ items) = ap (λ (x : PortView). x.seen) h.is ∙ append_assoc v.seen h.others items in
+    let seen : w.seen ≡ v.seen ++ (h.others ++ items) = ap
+    (λ (x : PortView). x.seen) h.is ∙ append_assoc v.seen h.others items in
     let mine : w.mine ≡ v.mine ++ items = ap (λ (x : PortView). x.mine) h.is in
     record {
       later = record {
         base = ap (λ (x : PortView). x.base) h.is;
         seen = (h.others ++ items, seen);
         mine = (items, mine);
-        counts = omega (arith, ap length seen, ap length mine, length-append v.seen (h.others ++ items), length-append h.others items, length-append v.mine items);
+        counts = omega (
+          arith,
+          ap length seen,
+          ap length mine,
+          length-append v.seen (h.others ++ items),
+          length-append h.others items,
+          length-append v.mine items,
+        );
       };
       each = λ i here. own_added by c end h.others i here;
     }
 
-pub own_weaker : (by : ℕ) (A B : Command → Type 0) (v w : PortView) → ((c : Command) → A c → B c) → AreOf by A v w → AreOf by B v w
+pub own_weaker : (by : ℕ) (A B : Command → Type 0) (v w : PortView) → ((c : Command) → A c → B c) → AreOf by A v w
+    → AreOf by B v w
 own_weaker by A B v w more f = record {
   later = f.later;
   each = λ i here. let e = f.each i here in (e.0, more (command_in i) e.1, e.2);
@@ -91,8 +100,16 @@ pub own_then : (by : ℕ) (A : Command → Type 0) (u v w : PortView) → AreOf 
 own_then by A u v w f g = record {
   later = record {
     base = g.later.base ∙ f.later.base;
-    seen = (f.later.seen.0 ++ g.later.seen.0, g.later.seen.1 ∙ ap (λ xs. xs ++ g.later.seen.0) f.later.seen.1 ∙ append_assoc u.seen f.later.seen.0 g.later.seen.0);
-    mine = (f.later.mine.0 ++ g.later.mine.0, g.later.mine.1 ∙ ap (λ xs. xs ++ g.later.mine.0) f.later.mine.1 ∙ append_assoc u.mine f.later.mine.0 g.later.mine.0);
+    seen = (
+      f.later.seen.0 ++ g.later.seen.0,
+      g.later.seen.1 ∙ ap
+          (λ xs. xs ++ g.later.seen.0) f.later.seen.1 ∙ append_assoc u.seen f.later.seen.0 g.later.seen.0,
+    );
+    mine = (
+      f.later.mine.0 ++ g.later.mine.0,
+      g.later.mine.1 ∙ ap
+          (λ xs. xs ++ g.later.mine.0) f.later.mine.1 ∙ append_assoc u.mine f.later.mine.0 g.later.mine.0,
+    );
     counts = omega (arith, f.later.counts, g.later.counts);
   };
   each = λ i here. ⊎_elim
@@ -108,6 +125,7 @@ own_more by by' A B u v w same more f g =
     own_then by A u v w f (subst (λ n. AreOf n A v w) same (own_weaker by' B A v w more g))
 
 -- an item of a list by its place
-pub contains-as : (list : List Command) (k : ℕ) (x : Command) → k < length list → x ≡ get_or list k x → (c : Command) → c ≡ x → Contains list c
+pub contains-as : (list : List Command) (k : ℕ) (x : Command) → k < length list → x ≡ get_or list k x → (c : Command)
+    → c ≡ x → Contains list c
 contains-as list k x within read c is =
     subst (Contains list) (sym (is ∙ read)) (Contains-get_or list k x within)

@@ -37,7 +37,11 @@ pub rep_as : (r q : CellRep) → q ≡ r → SameRep r q
 rep_as r q e = subst (SameRep r) (sym e) (rep_same r)
 
 pub rep_then : (a b c : CellRep) → SameRep a b → SameRep b c → SameRep a c
-rep_then a b c f g = record { cell = g.cell ∙ f.cell; joined = joined_then a.joined b.joined c.joined f.joined g.joined }
+rep_then a b c f g = record {
+  cell = g.cell ∙ f.cell;
+  joined =
+      joined_then a.joined b.joined c.joined f.joined g.joined;
+}
 
 pub keep-same : (rs : List CellRep) → KeepReps rs rs
 keep-same [] = tt
@@ -54,7 +58,8 @@ keep-then (r ∷ rs) (q ∷ qs) [] f g = absurd g
 keep-then (r ∷ rs) (q ∷ qs) (p ∷ ps) f g = (rep_then r q p f.0 g.0, keep-then rs qs ps f.1 g.1)
 
 -- one rep comes to something of its own
-pub keep-set : (rs : List CellRep) (at : ℕ) (r q : CellRep) → at < length rs → r ≡ get_or rs at r → SameRep r q → KeepReps rs (set rs at q)
+pub keep-set : (rs : List CellRep) (at : ℕ) (r q : CellRep) → at < length rs → r ≡ get_or rs at r → SameRep r q
+    → KeepReps rs (set rs at q)
 keep-set [] at r q within is h = absurd (omega (arith, within))
 keep-set (x ∷ rs) zero r q within is h = (subst (λ y. SameRep y q) is h, keep-same rs)
 keep-set (x ∷ rs) (suc k) r q within is h = (rep_same x, keep-set rs k r q (omega (arith, within)) is h)
@@ -67,22 +72,32 @@ keep-names (r ∷ rs) (q ∷ qs) f =
     ap (λ x. x ∷ names_of qs) f.0.cell ∙ ap (λ xs. r.cell ∷ xs) (keep-names rs qs f.1)
 
 -- a place among the names is one among the reps
-pub place-within : (rs : List CellRep) (at : ℕ) (cell : List ℕ) → slice_get (names_of rs) at ≡ Some cell → at < length rs
+pub place-within : (rs : List CellRep) (at : ℕ) (cell : List ℕ) → slice_get (names_of rs) at ≡ Some cell
+    → at < length rs
 place-within rs at cell e =
     let within : at < length (names_of rs) = slice_get_within (names_of rs) at cell e in
     omega (arith, within, length-map rs (λ (r : CellRep). r.cell))
 
-pub place-cell : (rs : List CellRep) (at : ℕ) (cell : List ℕ) (r : CellRep) → slice_get (names_of rs) at ≡ Some cell → r ≡ get_or rs at r → r.cell ≡ cell
+pub place-cell : (rs : List CellRep) (at : ℕ) (cell : List ℕ) (r : CellRep) → slice_get (names_of rs) at ≡ Some cell
+    → r ≡ get_or rs at r → r.cell ≡ cell
 place-cell rs at cell r e is =
     let within = place-within rs at cell e in
     let got : Some ((get_or rs at r).cell) ≡ Some cell =
-    sym (slice_get-map (λ (x : CellRep). x.cell) rs at ∙ ap (option_map (λ (x : CellRep). x.cell)) (slice_get-get_or rs at r within)) ∙ e in
+    sym (slice_get-map (λ (x : CellRep). x.cell) rs at ∙ ap (option_map (λ (x : CellRep). x.cell))
+    (slice_get-get_or rs at r within)) ∙ e in
     ap (λ (x : CellRep). x.cell) is ∙ ap (λ (o : Option (List ℕ)). option_map_or (λ n. n) o cell) got
 
-pub stands-for : (rs : List CellRep) (at : ℕ) (cell : List ℕ) (r : CellRep) → slice_get (names_of rs) at ≡ Some cell → r ≡ get_or rs at r → StandsFor rs cell at r
-stands-for rs at cell r e is = record { within = place-within rs at cell e; is = is; cell_is = place-cell rs at cell r e is }
+pub stands-for : (rs : List CellRep) (at : ℕ) (cell : List ℕ) (r : CellRep) → slice_get (names_of rs) at ≡ Some cell
+    → r ≡ get_or rs at r → StandsFor rs cell at r
+stands-for rs at cell r e is = record {
+  within = place-within rs at cell e;
+  is = is;
+  cell_is =
+      place-cell rs at cell r e is;
+}
 
-pub index-kept : (rs qs : List CellRep) (index : RepIndex) → KeepReps rs qs → IsRepIndex (names_of rs) index → IsRepIndex (names_of qs) index
+pub index-kept : (rs qs : List CellRep) (index : RepIndex) → KeepReps rs qs → IsRepIndex (names_of rs) index
+    → IsRepIndex (names_of qs) index
 index-kept rs qs index kept h = subst (λ names. IsRepIndex names index) (sym (keep-names rs qs kept)) h
 
 -- the rep at a place
@@ -93,10 +108,15 @@ rep-at (r ∷ rs) (suc k) within = rep-at rs k (omega (arith, within))
 
 -- a rep that gave a container up is the same but for that
 pub rep_stopped : (rep rep' : CellRep) (i : Instance) → rep'.cell ≡ rep.cell → rep' ≡ without rep i → SameRep rep rep'
-rep_stopped rep rep' i same e = record { cell = same; joined = subst (λ (r : CellRep). SameJoined rep.joined r.joined) (sym e) (keeps_stopped rep i) }
+rep_stopped rep rep' i same e = record {
+  cell = same;
+  joined =
+      subst (λ (r : CellRep). SameJoined rep.joined r.joined) (sym e) (keeps_stopped rep i);
+}
 
 -- what is read at a place doesn't hang on what stands for nothing there
-pub rep_read : (rs : List CellRep) (at : ℕ) (d : CellRep) → at < length rs → get_or rs at d ≡ get_or rs at (get_or rs at d)
+pub rep_read : (rs : List CellRep) (at : ℕ) (d : CellRep) → at < length rs
+    → get_or rs at d ≡ get_or rs at (get_or rs at d)
 rep_read [] at d within = absurd (omega (arith, within))
 rep_read (r ∷ rs) zero d within = refl
 rep_read (r ∷ rs) (suc k) d within = rep_read rs k d (omega (arith, within))

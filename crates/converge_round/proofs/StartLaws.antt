@@ -34,7 +34,8 @@ use Rattle.converge_round.specs.Starts.{IsClaim, IsClaimOfOne}
 use Rattle.converge_round.proofs.Owns.{own_as, own_called, own_weaker}
 
 -- a claim of a job is one of a list that has it, on the same cell
-pub claim_of_one : (now : Moment) (cell cell' : List ℕ) (list : List Job) (k : ℕ) (job : Job) → cell' ≡ cell → k < length list → job ≡ get_or list k job
+pub claim_of_one : (now : Moment) (cell cell' : List ℕ) (list : List Job) (k : ℕ) (job : Job) → cell' ≡ cell
+    → k < length list → job ≡ get_or list k job
     → (c : Command) → IsClaim now cell' job c → IsClaimOfOne now cell list c
 claim_of_one now cell cell' list k job same within read c h =
     (job, subst (Contains list) (sym read) (Contains-get_or list k job within), subst (λ n. IsClaim now n job c) same h)
@@ -42,10 +43,15 @@ claim_of_one now cell cell' list k job same within read c h =
 -- a claim on one of the cells is one of all
 pub claim_for_one : (now : Moment) (p : Places) (k : ℕ) (x : Answer) → k < length p.roomy → x ≡ get_or p.roomy k x
     → (c : Command) → IsClaimOfOne now x.cell (jobs_on p.rows p.placements x.cell) c → IsClaimFor now p p.roomy c
-claim_for_one now p k x within read c h = (x, subst (Contains p.roomy) (sym read) (Contains-get_or p.roomy k x within), h)
+claim_for_one now p k x within read c h = (
+  x,
+  subst (Contains p.roomy) (sym read) (Contains-get_or p.roomy k x within),
+  h,
+)
 
 -- what one call over a wire did is of its command
-own_delivered : (by : ℕ) (v : PortView) (c : Command) (e : CallEnd) (w : PortView) → IsDelivered by v c e w → AreOf by (λ x. x ≡ c) v w
+own_delivered : (by : ℕ) (v : PortView) (c : Command) (e : CallEnd) (w : PortView) → IsDelivered by v c e w
+    → AreOf by (λ x. x ≡ c) v w
 own_delivered by v c (Got r) w h = own_called by v c (Ok r) w h
 own_delivered by v c (Fault why) w h = own_called by v c (Err why) w h
 own_delivered by v c CallLost w h = own_as by (λ x. x ≡ c) v w h
@@ -64,18 +70,22 @@ claims_todo : (now : Moment) (cell : List ℕ) (job : Job) (r : Result Claimed S
 claims_todo now cell job (Ok p) = (p.1.instance, refl)
 claims_todo now cell job (Err why) = tt
 
-todo_of_job : (now : Moment) (cell : List ℕ) (job : Job) (o : Option Joined) → IsJobTodo now cell job (job_todo job now cell o)
+todo_of_job : (now : Moment) (cell : List ℕ) (job : Job) (o : Option Joined)
+    → IsJobTodo now cell job (job_todo job now cell o)
 todo_of_job now cell job None = tt
 todo_of_job now cell job (Some j) = claims_todo now cell job (job_claim job j.store)
 
-own_todo : (by : ℕ) (now : Moment) (cell : List ℕ) (job : Job) (ends : Option WireEnds) (t : Todo) (v w : PortView) (a : Called)
+own_todo : (by : ℕ) (now : Moment) (cell : List ℕ) (job : Job) (ends : Option WireEnds) (t : Todo) (v w : PortView)
+    (a : Called)
     → IsJobTodo now cell job t → EndsOf by cell ends t v a w → AreOf by (IsClaim now cell job) v w
 own_todo by now cell job ends (todo.Call c) v w a is h =
-    own_weaker by (λ x. x ≡ c) (IsClaim now cell job) v w (λ x e. subst (IsClaim now cell job) (sym e) is) (own_delivered by v c a.end w h.1)
+    own_weaker by (λ x. x ≡ c) (IsClaim now cell job) v w (λ x e. subst (IsClaim now cell job) (sym e) is)
+    (own_delivered by v c a.end w h.1)
 own_todo by now cell job ends todo.Idle v w a is h = own_as by (IsClaim now cell job) v w h
 own_todo by now cell job ends (todo.Local why) v w a is h = own_as by (IsClaim now cell job) v w h
 
-own_follows : (by : ℕ) (now : Moment) (cell : List ℕ) (job : Job) (ends : Option WireEnds) (t : Todo) (rep rep' : CellRep) (v w : PortView) (out : List Called)
+own_follows : (by : ℕ) (now : Moment) (cell : List ℕ) (job : Job) (ends : Option WireEnds) (t : Todo)
+    (rep rep' : CellRep) (v w : PortView) (out : List Called)
     → IsJobTodo now cell job t → Follows by cell ends (t ∷ []) rep v out rep' w → AreOf by (IsClaim now cell job) v w
 own_follows by now cell job ends t rep rep' v w [] is h = absurd h
 own_follows by now cell job ends t rep rep' v w (a ∷ []) is h =
@@ -83,11 +93,14 @@ own_follows by now cell job ends t rep rep' v w (a ∷ []) is h =
 own_follows by now cell job ends t rep rep' v w (a ∷ b ∷ rest) is h = absurd h.3
 
 -- what a start did is a claim of its job
-pub own_started : (by : ℕ) (job : Job) (now : Moment) (s s' : Stage) → IsStarted by job now s s' → AreOf by (IsClaim now s.rep.cell job) s.view s'.view
+pub own_started : (by : ℕ) (job : Job) (now : Moment) (s s' : Stage) → IsStarted by job now s s'
+    → AreOf by (IsClaim now s.rep.cell job) s.view s'.view
 own_started by job now s s' h = ⊎_elim
-    (λ p. own_follows by now s.rep.cell job s.ends (job_todo job now s.rep.cell s.rep.joined) _ s'.rep s.view s'.view p.new (todo_of_job now s.rep.cell job s.rep.joined) p.follows)
+    (λ p. own_follows by now s.rep.cell job s.ends (job_todo job now s.rep.cell s.rep.joined) _ s'.rep s.view s'.view
+    p.new (todo_of_job now s.rep.cell job s.rep.joined) p.follows)
     (λ e. own_as by (IsClaim now s.rep.cell job) s.view s'.view (ap (λ (x : Stage). x.view) e))
     h
 
-pub rep_started : (by : ℕ) (job : Job) (now : Moment) (s s' : Stage) → s'.rep.cell ≡ s.rep.cell → IsStarted by job now s s' → SameRep s.rep s'.rep
+pub rep_started : (by : ℕ) (job : Job) (now : Moment) (s s' : Stage) → s'.rep.cell ≡ s.rep.cell
+    → IsStarted by job now s s' → SameRep s.rep s'.rep
 rep_started by job now s s' same h = record { cell = same; joined = keeps_started by job now s s' h }

@@ -39,15 +39,19 @@ module _ {X : Type 0} (p : X → Bool) where
       ] refl
 
   -- one item more that fails
-  pub find-more : (xs : List X) (i : ℕ) (x : X) → i < length xs → x ≡ get_or xs i x → find p (take i xs) ≡ None → p x ≡ false → find p (take (i + 1) xs) ≡ None
+  pub find-more : (xs : List X) (i : ℕ) (x : X) → i < length xs → x ≡ get_or xs i x → find p (take i xs) ≡ None
+      → p x ≡ false → find p (take (i + 1) xs) ≡ None
   find-more xs i x lt is none fails =
       ap (find p) (one_more xs i x lt is) ∙ find-append p (take i xs) (x ∷ [])
-      ∙ ap (λ (o : Option X). option_or o (cond (p x) (Some x) None)) none ∙ ap (λ (b : Bool). option_or None (cond b (Some x) None)) fails
+      ∙ ap (λ (o : Option X). option_or o (cond (p x) (Some x) None)) none ∙ ap
+      (λ (b : Bool). option_or None (cond b (Some x) None)) fails
 
   -- the first item that passes
-  pub find-here : (xs : List X) (i : ℕ) (x : X) → i < length xs → x ≡ get_or xs i x → find p (take i xs) ≡ None → p x ≡ true → Some x ≡ find p xs
+  pub find-here : (xs : List X) (i : ℕ) (x : X) → i < length xs → x ≡ get_or xs i x → find p (take i xs) ≡ None
+      → p x ≡ true → Some x ≡ find p xs
   find-here xs i x lt is none passes =
       sym (ap (find p) (sym (take-append-drop (i + 1) xs)) ∙ find-append p (take (i + 1) xs) (drop (i + 1) xs)
       ∙ ap (λ (o : Option X). option_or o (find p (drop (i + 1) xs)))
       (ap (find p) (one_more xs i x lt is) ∙ find-append p (take i xs) (x ∷ [])
-      ∙ ap (λ (o : Option X). option_or o (cond (p x) (Some x) None)) none ∙ ap (λ (b : Bool). option_or None (cond b (Some x) None)) passes))
+      ∙ ap (λ (o : Option X). option_or o (cond (p x) (Some x) None)) none ∙ ap
+      (λ (b : Bool). option_or None (cond b (Some x) None)) passes))

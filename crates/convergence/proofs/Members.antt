@@ -7,11 +7,14 @@ use Rattle.row_tables.specs.Table.{IsKeyOrder, find_row, IsRising, table}
 use Rattle.row_tables.proofs.Public.{ties_itself, same_from_tie, key-find_row, same_rows, Contains-find_row, find_row-Contains, IsRising-table, find_row-table}
 
 module _ {K X : Type 0} (R : K → K → Ordering) (key : X → K) (o : IsKeyOrder R) where
-  found_in_both : (xs ys : List X) → IsRising R key ys → ((x : X) → Contains xs x → Contains ys x) → (q : K) (x : X) → find_row R key q xs ≡ Some x → find_row R key q ys ≡ Some x
+  found_in_both : (xs ys : List X) → IsRising R key ys → ((x : X) → Contains xs x → Contains ys x) → (q : K) (x : X)
+      → find_row R key q xs ≡ Some x → find_row R key q ys ≡ Some x
   found_in_both xs ys h into q x e =
-      subst (λ k. find_row R key k ys ≡ Some x) (key-find_row R key o q x xs e) (find_row-Contains R key o x ys h (into x (Contains-find_row R key q x xs e)))
+      subst (λ k. find_row R key k ys ≡ Some x) (key-find_row R key o q x xs e)
+      (find_row-Contains R key o x ys h (into x (Contains-find_row R key q x xs e)))
 
-  found_alike : (xs ys : List X) → IsRising R key xs → IsRising R key ys → ((x : X) → Contains xs x → Contains ys x) → ((x : X) → Contains ys x → Contains xs x) → (q : K) → find_row R key q xs ≡ find_row R key q ys
+  found_alike : (xs ys : List X) → IsRising R key xs → IsRising R key ys → ((x : X) → Contains xs x → Contains ys x)
+      → ((x : X) → Contains ys x → Contains xs x) → (q : K) → find_row R key q xs ≡ find_row R key q ys
   found_alike xs ys f g into back q =
       elim (find_row R key q xs) as (λ (s : Option X). find_row R key q xs ≡ s → s ≡ find_row R key q ys) [
         | None ↦ λ none. elim (find_row R key q ys) as (λ (s : Option X). find_row R key q ys ≡ s → None ≡ s) [
@@ -22,7 +25,8 @@ module _ {K X : Type 0} (R : K → K → Ordering) (key : X → K) (o : IsKeyOrd
       ] refl
 
   -- two tables of the same rows are one
-  pub same_members : (xs ys : List X) → IsRising R key xs → IsRising R key ys → ((x : X) → Contains xs x → Contains ys x) → ((x : X) → Contains ys x → Contains xs x) → xs ≡ ys
+  pub same_members : (xs ys : List X) → IsRising R key xs → IsRising R key ys
+      → ((x : X) → Contains xs x → Contains ys x) → ((x : X) → Contains ys x → Contains xs x) → xs ≡ ys
   same_members xs ys f g into back = same_rows R key o xs ys f g (found_alike xs ys f g into back)
 
 module _ {K : Type 0} (R : K → K → Ordering) (o : IsKeyOrder R) where
@@ -40,8 +44,10 @@ module _ {K : Type 0} (R : K → K → Ordering) (o : IsKeyOrder R) where
 
   -- rows that are their own keys are those of their table
   pub Contains-table : (xs : List K) (q : K) → Contains xs q → Contains (table R (λ p. p) xs) q
-  Contains-table xs q h = Contains-find_row R (λ p. p) q q (table R (λ p. p) xs) (find_row-table R (λ p. p) o q xs ∙ found_itself q xs h)
+  Contains-table xs q h = Contains-find_row R (λ p. p) q q (table R (λ p. p) xs)
+      (find_row-table R (λ p. p) o q xs ∙ found_itself q xs h)
 
   pub Contains-from_table : (xs : List K) (q : K) → Contains (table R (λ p. p) xs) q → Contains xs q
   Contains-from_table xs q h =
-      Contains-find_row R (λ p. p) q q xs (sym (find_row-table R (λ p. p) o q xs) ∙ find_row-Contains R (λ p. p) o q (table R (λ p. p) xs) (IsRising-table R (λ p. p) o xs) h)
+      Contains-find_row R (λ p. p) q q xs (sym (find_row-table R (λ p. p) o q xs) ∙ find_row-Contains R (λ p. p) o q
+      (table R (λ p. p) xs) (IsRising-table R (λ p. p) o xs) h)

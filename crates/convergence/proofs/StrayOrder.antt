@@ -19,10 +19,12 @@ both_tie Greater b e = absurd cc
 
 pub IsKeyOrder-stray_order : IsKeyOrder stray_order
 IsKeyOrder-stray_order = record {
-  total = then_total (then_total (on_total (λ s. s.0) IsKeyOrder-name_order.total) (on_total (λ s. s.1.number) nat_cmp_total))
+  total = then_total (then_total (on_total (λ s. s.0) IsKeyOrder-name_order.total)
+      (on_total (λ s. s.1.number) nat_cmp_total))
       (on_total (λ s. s.1.epoch) nat_cmp_total);
   exact = λ x y e i.
-      let last = both_tie (ordering_then (name_order x.0 y.0) (nat_cmp x.1.number y.1.number)) (nat_cmp x.1.epoch y.1.epoch) e in
+      let last = both_tie (ordering_then (name_order x.0 y.0) (nat_cmp x.1.number y.1.number))
+      (nat_cmp x.1.epoch y.1.epoch) e in
       let first = both_tie (name_order x.0 y.0) (nat_cmp x.1.number y.1.number) last.0 in (
         IsKeyOrder-name_order.exact x.0 y.0 first.0 i,
         record {
@@ -40,11 +42,13 @@ regrouped true false false = refl
 regrouped false b c = refl
 
 -- strays that test alike tie
-pub strays_tie : (x y : List ℕ × Instance) → (pointwise nat_eq x.0 y.0 && (nat_eq x.1.epoch y.1.epoch && nat_eq x.1.number y.1.number)) ≡ eq_by_cmp stray_order x y
+pub strays_tie : (x y : List ℕ × Instance) → (pointwise nat_eq x.0 y.0 &&
+    (nat_eq x.1.epoch y.1.epoch && nat_eq x.1.number y.1.number)) ≡ eq_by_cmp stray_order x y
 strays_tie x y =
     regrouped (pointwise nat_eq x.0 y.0) (nat_eq x.1.epoch y.1.epoch) (nat_eq x.1.number y.1.number)
     ∙ both_tied (pointwise nat_eq x.0 y.0 && nat_eq x.1.number y.1.number) (nat_eq x.1.epoch y.1.epoch)
     (ordering_then (name_order x.0 y.0) (nat_cmp x.1.number y.1.number)) (nat_cmp x.1.epoch y.1.epoch)
-    (both_tied (pointwise nat_eq x.0 y.0) (nat_eq x.1.number y.1.number) (name_order x.0 y.0) (nat_cmp x.1.number y.1.number)
+    (both_tied (pointwise nat_eq x.0 y.0) (nat_eq x.1.number y.1.number) (name_order x.0 y.0)
+    (nat_cmp x.1.number y.1.number)
     (lists_ties nat_cmp unsigned_ties x.0 y.0) (unsigned_ties x.1.number y.1.number))
     (unsigned_ties x.1.epoch y.1.epoch)

@@ -26,7 +26,8 @@ use Rattle.diego_engine.specs.Top.{MeetsNothing, ProgramEnds, ReachesOpening}
 use Rattle.diego_engine.proofs.Recoveries.{opened}
 use Rattle.diego_engine.proofs.TopLaws.{not_both}
 
-module _ {D : Type 0} (told : D → Option Past) (faults moment : D → ℕ) (wording : Wording) (e : Ended) (locks : LockLog) (left left' : Option (List ℕ)) (v w : Ports) where
+module _ {D : Type 0} (told : D → Option Past) (faults moment : D → ℕ) (wording : Wording) (e : Ended) (locks : LockLog)
+    (left left' : Option (List ℕ)) (v w : Ports) where
   abbrev pub Ran : Ending → Type 0
   Ran how = RunEnds told faults moment wording how e left left' v w
 
@@ -35,7 +36,8 @@ module _ {D : Type 0} (told : D → Option Past) (faults moment : D → ℕ) (wo
 
   -- ---- where 6 comes
 
-  run_reached : (how : Ending) → status_of how ≡ 6 → Ran how → (script : Script) × ReadsWhole script_of (Ok script) left left'
+  run_reached : (how : Ending) → status_of how ≡ 6 → Ran how
+      → (script : Script) × ReadsWhole script_of (Ok script) left left'
   run_reached (ending.NotABoard area) n runs = (runs.script, runs.reads)
   run_reached (ending.Damaged area at) n runs = (runs.script, runs.reads)
   run_reached how n h = absurd (omega (arith, n))
@@ -50,7 +52,8 @@ module _ {D : Type 0} (told : D → Option Past) (faults moment : D → ℕ) (wo
   usage_never (ending.Damaged area at) n h = h
   usage_never how n h = absurd (omega (arith, n))
 
-  pub reached_from : (how : Ending) (what : Option Asked) → status_of how ≡ 6 → Ends how what → ReachesOpening what left left'
+  pub reached_from : (how : Ending) (what : Option Asked) → status_of how ≡ 6 → Ends how what
+      → ReachesOpening what left left'
   reached_from how (Some asked.Run) n h = run_reached how n h
   reached_from how (Some asked.Routes) n h = run_reached how n h
   reached_from how (Some asked.Locks) n h = lock.reached_from locks e.marks.items left left' v w how n h.ends
@@ -61,32 +64,42 @@ module _ {D : Type 0} (told : D → Option Past) (faults moment : D → ℕ) (wo
 
   -- ---- words that ask for no run
 
-  pub stopped_from : (how : Ending) (what : Option Asked) (wanted read_faults read_faults' : ℕ) → Ends how what → MeetsObstacle what wanted left v.told
-      → ReadsWell what read_faults read_faults' → (status_of how ≡ 3 → Rose read_faults read_faults') → IsTold w.told → (Rose v.disk_faults w.disk_faults → ⊥)
+  pub stopped_from : (how : Ending) (what : Option Asked) (wanted read_faults read_faults' : ℕ) → Ends how what
+      → MeetsObstacle what wanted left v.told
+      → ReadsWell what read_faults read_faults' → (status_of how ≡ 3 → Rose read_faults read_faults') → IsTold w.told
+      → (Rose v.disk_faults w.disk_faults → ⊥)
       → IsStopped what wanted (status_of how)
   stopped_from how (Some asked.Run) wanted n n' h m well read told disk = absurd m
   stopped_from how (Some asked.Routes) wanted n n' h m well read told disk = absurd m
   stopped_from how (Some asked.Locks) wanted n n' h m well read told disk =
       lock.stopped_from locks e.marks.items left left' v w wanted m told disk how (λ is. well (read is)) h.ends
-  stopped_from how (Some asked.Prepare) wanted n n' h m well read told disk = still.stopped_from v w how (Some asked.Prepare) wanted left h.still m told disk
-  stopped_from how (Some asked.Records) wanted n n' h m well read told disk = still.stopped_from v w how (Some asked.Records) wanted left h.still m told disk
-  stopped_from how (Some asked.Check) wanted n n' h m well read told disk = still.stopped_from v w how (Some asked.Check) wanted left h.still m told disk
+  stopped_from how (Some asked.Prepare) wanted n n' h m well read told disk =
+      still.stopped_from v w how (Some asked.Prepare) wanted left h.still m told disk
+  stopped_from how (Some asked.Records) wanted n n' h m well read told disk =
+      still.stopped_from v w how (Some asked.Records) wanted left h.still m told disk
+  stopped_from how (Some asked.Check) wanted n n' h m well read told disk =
+      still.stopped_from v w how (Some asked.Check) wanted left h.still m told disk
   stopped_from how None wanted n n' h m well read told disk = absurd m
 
   -- the same, of the number that is handed back
-  pub stopped_at : (k : ℕ) (how : Ending) (what : Option Asked) (wanted read_faults read_faults' : ℕ) → k ≡ status_of how → Ends how what → MeetsObstacle what wanted left v.told
-      → ReadsWell what read_faults read_faults' → (status_of how ≡ 3 → Rose read_faults read_faults') → IsTold w.told → (Rose v.disk_faults w.disk_faults → ⊥)
+  pub stopped_at : (k : ℕ) (how : Ending) (what : Option Asked) (wanted read_faults read_faults' : ℕ)
+      → k ≡ status_of how → Ends how what → MeetsObstacle what wanted left v.told
+      → ReadsWell what read_faults read_faults' → (status_of how ≡ 3 → Rose read_faults read_faults') → IsTold w.told
+      → (Rose v.disk_faults w.disk_faults → ⊥)
       → IsStopped what wanted k
   stopped_at k how what wanted n n' is h m well read told disk =
       subst (λ (x : ℕ). IsStopped what wanted x) (sym is) (stopped_from how what wanted n n' h m well read told disk)
 
   -- ---- a scenario, and no board
 
-  no_board : (script : Script) (how : Ending) → MeetsNoBoard v.told → IsTold w.told → EndsLate told faults moment wording script how e v w → ⊥
+  no_board : (script : Script) (how : Ending) → MeetsNoBoard v.told → IsTold w.told
+      → EndsLate told faults moment wording script how e v w → ⊥
   no_board script how m is late =
-      not_refused late.rows m.why m.image (opened told faults moment wording e v w script how late m.image m.shows is) m.refused
+      not_refused late.rows m.why m.image (opened told faults moment wording e v w script how late m.image m.shows is)
+      m.refused
 
-  run_no_board : (script : Script) → TellsAs script_of (Ok script) left → MeetsNoBoard v.told → IsTold w.told → (Rose v.disk_faults w.disk_faults → ⊥)
+  run_no_board : (script : Script) → TellsAs script_of (Ok script) left → MeetsNoBoard v.told → IsTold w.told
+      → (Rose v.disk_faults w.disk_faults → ⊥)
       → (how : Ending) → (status_of how ≡ 3 → ⊥) → Ran how → (status_of how ≡ 6) ⊎ (status_of how ≡ 7)
   run_no_board script tells m is disk (ending.NotABoard area) read runs = inl refl
   run_no_board script tells m is disk (ending.Damaged area at) read runs = inl refl
@@ -95,17 +108,23 @@ module _ {D : Type 0} (told : D → Option Past) (faults moment : D → ℕ) (wo
   run_no_board script tells m is disk ending.Unopened read runs = absurd (disk (runs.ends.1.cause.rose refl))
   run_no_board script tells m is disk ending.Done read runs = absurd (no_board runs.script ending.Done m is runs.ends)
   run_no_board script tells m is disk ending.Doubt read runs = absurd (no_board runs.script ending.Doubt m is runs.ends)
-  run_no_board script tells m is disk ending.Unwritten read runs = absurd (no_board runs.script ending.Unwritten m is runs.ends)
-  run_no_board script tells m is disk ending.TooLong read h = absurd (not_too_long script_of left left' (Ok script) tells h.1)
+  run_no_board script tells m is disk ending.Unwritten read runs =
+      absurd (no_board runs.script ending.Unwritten m is runs.ends)
+  run_no_board script tells m is disk ending.TooLong read h =
+      absurd (not_too_long script_of left left' (Ok script) tells h.1)
   run_no_board script tells m is disk (ending.Script why) read h =
-      absurd (not_both told faults moment wording e locks left left' v w script why (as_told script_of left left' (Ok script) (Err why) tells h.1))
+      absurd (not_both told faults moment wording e locks left left' v w script why
+      (as_told script_of left left' (Ok script) (Err why) tells h.1))
   run_no_board script tells m is disk ending.Usage read runs = absurd runs.ends.1
   run_no_board script tells m is disk ending.Exists read runs = absurd runs.ends.1
 
   pub no_board_from : (how : Ending) (what : Option Asked) → Ends how what → MeetsNothing what left v.told
-      → IsTold w.told → (status_of how ≡ 3 → ⊥) → (Rose v.disk_faults w.disk_faults → ⊥) → (status_of how ≡ 6) ⊎ (status_of how ≡ 7)
-  no_board_from how (Some asked.Run) h ((script, tells), m) is_told read disk = run_no_board script tells m is_told disk how read h
-  no_board_from how (Some asked.Routes) h ((script, tells), m) is_told read disk = run_no_board script tells m is_told disk how read h
+      → IsTold w.told → (status_of how ≡ 3 → ⊥) → (Rose v.disk_faults w.disk_faults → ⊥)
+      → (status_of how ≡ 6) ⊎ (status_of how ≡ 7)
+  no_board_from how (Some asked.Run) h ((script, tells), m) is_told read disk =
+      run_no_board script tells m is_told disk how read h
+  no_board_from how (Some asked.Routes) h ((script, tells), m) is_told read disk =
+      run_no_board script tells m is_told disk how read h
   no_board_from how (Some asked.Locks) h ((lines, tells), m) is_told read disk =
       lock.no_locket_from locks e.marks.items left left' v w lines tells m is_told disk how read h.ends
   no_board_from how (Some asked.Prepare) h m is_told read disk = absurd m
@@ -118,18 +137,21 @@ module _ {D : Type 0} (told : D → Option Past) (faults moment : D → ℕ) (wo
   unread : TellsTooMuch left → (how : Ending) → RunsScript told faults moment wording how e left left' v w → ⊥
   unread tells how runs = not_whole script_of left left' tells (Ok runs.script) runs.reads
 
-  run_too_much : TellsTooMuch left → (how : Ending) → (status_of how ≡ 3 → ⊥) → Ran how → (status_of how ≡ 8) ⊎ (status_of how ≡ 7)
+  run_too_much : TellsTooMuch left → (how : Ending) → (status_of how ≡ 3 → ⊥) → Ran how
+      → (status_of how ≡ 8) ⊎ (status_of how ≡ 7)
   run_too_much tells ending.TooLong read h = inl refl
   run_too_much tells ending.OutOfMemory read h = inr refl
   run_too_much tells ending.Read read h = absurd (read refl)
   run_too_much tells (ending.Script why) read h = absurd (not_whole script_of left left' tells (Err why) h.1)
   run_too_much tells how read runs = absurd (unread tells how runs)
 
-  pub too_much_from : (how : Ending) (what : Option Asked) → asks_for_source what ≡ true → Ends how what → TellsTooMuch left → (status_of how ≡ 3 → ⊥)
+  pub too_much_from : (how : Ending) (what : Option Asked) → asks_for_source what ≡ true → Ends how what
+      → TellsTooMuch left → (status_of how ≡ 3 → ⊥)
       → (status_of how ≡ 8) ⊎ (status_of how ≡ 7)
   too_much_from how (Some asked.Run) is h tells read = run_too_much tells how read h
   too_much_from how (Some asked.Routes) is h tells read = run_too_much tells how read h
-  too_much_from how (Some asked.Locks) is h tells read = lock.too_much_from locks e.marks.items left left' v w tells how read h.ends
+  too_much_from how (Some asked.Locks) is h tells read =
+      lock.too_much_from locks e.marks.items left left' v w tells how read h.ends
   too_much_from how (Some asked.Prepare) is h tells read = absurd (cc (is))
   too_much_from how (Some asked.Records) is h tells read = absurd (cc (is))
   too_much_from how (Some asked.Check) is h tells read = absurd (cc (is))

@@ -26,7 +26,8 @@ use Rattle.diego_engine.specs.Top.{ProgramEnds}
 use Rattle.diego_engine.proofs.Ran.{ran}
 use Rattle.diego_engine.proofs.Recoveries.{opened, recovery_from}
 
-module _ {D : Type 0} (told : D → Option Past) (faults moment : D → ℕ) (wording : Wording) (law : PlayedRunsAreFaithful told) (e : Ended)
+module _ {D : Type 0} (told : D → Option Past) (faults moment : D → ℕ) (wording : Wording)
+    (law : PlayedRunsAreFaithful told) (e : Ended)
     (locks : LockLog) (left left' : Option (List ℕ)) (v w : Ports) where
   -- by the ending, of what is told here
   abbrev pub Did : Ending → Type 0
@@ -36,17 +37,21 @@ module _ {D : Type 0} (told : D → Option Past) (faults moment : D → ℕ) (wo
   DidFaithfully how = IsFaithfulTo how e.log.items e.answers.items e.reports.items left left' v.told w.told
 
   -- a scenario that was played on a board
-  played : (script : Script) (how : Ending) → IsScript script → (late : EndsLate told faults moment wording script how e v w)
+  played : (script : Script) (how : Ending) → IsScript script
+      → (late : EndsLate told faults moment wording script how e v w)
       → IsFaithful script how e.answers.items e.reports.items late.rows e.log.items
   played script how sound late =
       let p = late.plays in
       subst (λ (rows : Rows). IsFaithful script how e.answers.items e.reports.items rows e.log.items) p.base
       (subst (λ (log : List Item). IsFaithful script how e.answers.items e.reports.items p.board.base log) (sym p.log)
-      (law wording script how e.answers.items e.reports.items p.board p.left late.between.held w.held late.between.write_faults w.write_faults sound
+      (law wording script how e.answers.items e.reports.items p.board p.left late.between.held w.held
+      late.between.write_faults w.write_faults sound
       p.fresh.log (subst IsValid (sym p.base) p.valid)
-      (subst (λ (rows : Rows). IsLawful rows p.left.log) (sym p.base) (subst (λ (log : List Item). IsLawful late.rows log) p.log p.lawful)) p.plays))
+      (subst (λ (rows : Rows). IsLawful rows p.left.log) (sym p.base)
+      (subst (λ (log : List Item). IsLawful late.rows log) p.log p.lawful)) p.plays))
 
-  faithfully : (script : Script) (how : Ending) → ReadsWhole script_of (Ok script) left left' → IsScript script → EndsLate told faults moment wording script how e v w
+  faithfully : (script : Script) (how : Ending) → ReadsWhole script_of (Ok script) left left' → IsScript script
+      → EndsLate told faults moment wording script how e v w
       → DidFaithfully how
   faithfully script how reads sound late = record {
     script = script;
@@ -59,7 +64,8 @@ module _ {D : Type 0} (told : D → Option Past) (faults moment : D → ℕ) (wo
   idle : IsEmpty e → IsIdle e.log.items e.answers.items e.reports.items
   idle is = (is.log, is.answers, is.reports)
 
-  starved : (script : Script) → ReadsWhole script_of (Ok script) left left' → IsScript script → ScriptEnds told faults moment wording script ending.OutOfMemory e v w
+  starved : (script : Script) → ReadsWhole script_of (Ok script) left left' → IsScript script
+      → ScriptEnds told faults moment wording script ending.OutOfMemory e v w
       → Did ending.OutOfMemory
   starved script reads sound (inl late) = inl (faithfully script ending.OutOfMemory reads sound late)
   starved script reads sound (inr ends) = inr (idle ends.0)
@@ -79,8 +85,10 @@ module _ {D : Type 0} (told : D → Option Past) (faults moment : D → ℕ) (wo
   did (ending.NotABoard area) runs = idle runs.ends.0
   did (ending.Damaged area at) runs = idle runs.ends.0
 
-  pub headline_from : (how : Ending) (what : Option Asked) → asks_for_run what ≡ true → ProgramEnds told faults moment wording how what e locks left left' v w
-      → Headline how e.log.items e.marks.items e.answers.items e.reports.items left left' v.told w.told v.disk_faults w.disk_faults
+  pub headline_from : (how : Ending) (what : Option Asked) → asks_for_run what ≡ true
+      → ProgramEnds told faults moment wording how what e locks left left' v w
+      → Headline how e.log.items e.marks.items e.answers.items e.reports.items left left' v.told w.told v.disk_faults
+      w.disk_faults
   headline_from how what is ends = record {
     recovery = recovery_from told faults moment wording e v w locks left left' how what is ends;
     run = did how (ran told faults moment wording e locks left left' v w how what is ends);

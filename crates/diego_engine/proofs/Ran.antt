@@ -12,8 +12,10 @@ use Rattle.program_tools.specs.declared.words.Asked.TheVariants as asked
 use Rattle.scenario_player.specs.Wordings.{Wording}
 use Rattle.diego_engine.specs.Top.{ProgramEnds}
 
-pub ran : {D : Type 0} (told : D → Option Past) (faults moment : D → ℕ) (wording : Wording) (e : Ended) (locks : LockLog) (left left' : Option (List ℕ)) (v w : Ports)
-    (how : Ending) (what : Option Asked) → asks_for_run what ≡ true → ProgramEnds told faults moment wording how what e locks left left' v w
+pub ran : {D : Type 0} (told : D → Option Past) (faults moment : D → ℕ) (wording : Wording) (e : Ended)
+    (locks : LockLog) (left left' : Option (List ℕ)) (v w : Ports)
+    (how : Ending) (what : Option Asked) → asks_for_run what ≡ true
+    → ProgramEnds told faults moment wording how what e locks left left' v w
     → RunEnds told faults moment wording how e left left' v w
 ran told faults moment wording e locks left left' v w how (Some asked.Run) is h = h
 ran told faults moment wording e locks left left' v w how (Some asked.Routes) is h = h
@@ -24,7 +26,8 @@ ran told faults moment wording e locks left left' v w how (Some asked.Check) is 
 ran told faults moment wording e locks left left' v w how None is h = absurd (cc (is))
 
 -- other words ask for no run
-pub neither : (what : Option Asked) → (what ≡ Some asked.Run → ⊥) → (what ≡ Some asked.Routes → ⊥) → asks_for_run what ≡ false
+pub neither : (what : Option Asked) → (what ≡ Some asked.Run → ⊥) → (what ≡ Some asked.Routes → ⊥)
+    → asks_for_run what ≡ false
 neither (Some asked.Run) whole routes = absurd (whole refl)
 neither (Some asked.Routes) whole routes = absurd (routes refl)
 neither (Some asked.Locks) whole routes = refl

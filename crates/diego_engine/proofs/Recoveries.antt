@@ -29,32 +29,38 @@ use Rattle.diego_engine.proofs.Ran.{ran}
 use Rattle.diego_engine.proofs.SinceEntry.{recovers_resting, recovers_on}
 
 -- a disk that tells its past at the end told it before
-pub told_back : (between told' : Option Past) (Does : Past → Past → Type 0) → Goes between told' Does → IsTold told' → IsTold between
+pub told_back : (between told' : Option Past) (Does : Past → Past → Type 0) → Goes between told' Does → IsTold told'
+    → IsTold between
 told_back None None Does goes is = absurd is
 told_back None (Some r) Does goes is = absurd goes
 told_back (Some q) told' Does goes is = tt
 
-module _ {D : Type 0} (told : D → Option Past) (faults moment : D → ℕ) (wording : Wording) (e : Ended) (v w : Ports) where
+module _ {D : Type 0} (told : D → Option Past) (faults moment : D → ℕ) (wording : Wording) (e : Ended)
+    (v w : Ports) where
   abbrev pub HasRecovery : Type 0
   HasRecovery = BoardTakesLog e.log.items e.marks.items v.told w.told v.disk_faults w.disk_faults
 
   -- what was opened is the board that the disk held
-  pub opened : (script : Script) (how : Ending) (late : EndsLate told faults moment wording script how e v w) (image : Image) → Shows v.told image → IsTold w.told
+  pub opened : (script : Script) (how : Ending) (late : EndsLate told faults moment wording script how e v w)
+      (image : Image) → Shows v.told image → IsTold w.told
       → IsBoard late.rows image
   opened script how late image shows is =
-      late.opens.found image (late.opens.still image shows (told_back late.between.told w.told Extends late.plays.extends is))
+      late.opens.found image (late.opens.still image shows
+      (told_back late.between.told w.told Extends late.plays.extends is))
 
   -- a run that did nothing
   empty : IsEmpty e → v.disk_faults ≤ w.disk_faults → Goes v.told w.told KeepsContent → HasRecovery
   empty is le goes =
-      subst (λ (log : List Item). BoardTakesLog log e.marks.items v.told w.told v.disk_faults w.disk_faults) (sym is.log)
+      subst (λ (log : List Item). BoardTakesLog log e.marks.items v.told w.told v.disk_faults w.disk_faults)
+      (sym is.log)
       (subst (λ (marks : List ℕ). BoardTakesLog [] marks v.told w.told v.disk_faults w.disk_faults) (sym is.marks)
       (recovers_resting v.told w.told v.disk_faults w.disk_faults le goes))
 
   untouched : (how : Ending) → EndsUnseen how e v w → HasRecovery
   untouched how ends =
       empty ends.0 (omega (arith, ends.1.faults))
-      (subst (λ (t : Option Past). Goes v.told t KeepsContent) (sym ends.1.told) (goes_same v.told KeepsContent (λ p is. keeps_same p)))
+      (subst (λ (t : Option Past). Goes v.told t KeepsContent) (sym ends.1.told)
+      (goes_same v.told KeepsContent (λ p is. keeps_same p)))
 
   rests : (how : Ending) → EndsUnopened how v w → (v.disk_faults ≤ w.disk_faults) × Goes v.told w.told KeepsContent
   rests ending.Unopened ends = (ends.cause.later, ends.rests)
@@ -69,7 +75,8 @@ module _ {D : Type 0} (told : D → Option Past) (faults moment : D → ℕ) (wo
   -- a run that played its scenario on a board
   late : (script : Script) (how : Ending) → EndsLate told faults moment wording script how e v w → HasRecovery
   late script how ends =
-      recovers_on v.told ends.between.told w.told ends.rows e.log.items e.marks.items ends.between.clock v.disk_faults w.disk_faults
+      recovers_on v.told ends.between.told w.told ends.rows e.log.items e.marks.items ends.between.clock v.disk_faults
+      w.disk_faults
       (opened script how ends) ends.opens.secures ends.plays.extends ends.opens.timed ends.plays.lawful ends.plays.kept
       (subst (λ (n : ℕ). RoseForEach (doubts_in e.log.items) n w.disk_faults) ends.opens.no_fault ends.plays.doubts)
 
@@ -87,7 +94,8 @@ module _ {D : Type 0} (told : D → Option Past) (faults moment : D → ℕ) (wo
   HasCauses = RoseForEach (doubts_in e.log.items) v.disk_faults w.disk_faults
 
   none : IsEmpty e → v.disk_faults ≤ w.disk_faults → HasCauses
-  none is le = subst (λ (log : List Item). RoseForEach (doubts_in log) v.disk_faults w.disk_faults) (sym is.log) (omega (arith, le))
+  none is le = subst (λ (log : List Item). RoseForEach (doubts_in log) v.disk_faults w.disk_faults) (sym is.log)
+      (omega (arith, le))
 
   none_idle : (how : Ending) → EndsIdle how e v w → HasCauses
   none_idle how (is, ends) = none is (rests how ends).0
@@ -96,7 +104,8 @@ module _ {D : Type 0} (told : D → Option Past) (faults moment : D → ℕ) (wo
   none_unseen how (is, ends) = let stands = ends.faults in none is (omega (arith, stands))
 
   late_causes : (script : Script) (how : Ending) → EndsLate told faults moment wording script how e v w → HasCauses
-  late_causes script how ends = subst (λ (n : ℕ). RoseForEach (doubts_in e.log.items) n w.disk_faults) ends.opens.no_fault ends.plays.doubts
+  late_causes script how ends = subst (λ (n : ℕ). RoseForEach (doubts_in e.log.items) n w.disk_faults)
+      ends.opens.no_fault ends.plays.doubts
 
   script_causes : (script : Script) (how : Ending) → ScriptEnds told faults moment wording script how e v w → HasCauses
   script_causes script ending.Done ends = late_causes script ending.Done ends
@@ -115,8 +124,10 @@ module _ {D : Type 0} (told : D → Option Past) (faults moment : D → ℕ) (wo
     by_ending ending.OutOfMemory (inr (ends, lost)) = idle ending.OutOfMemory ends
     by_ending how runs = of_script runs.script how runs.ends
 
-    pub recovery_from : (how : Ending) (what : Option Asked) → asks_for_run what ≡ true → ProgramEnds told faults moment wording how what e locks left left' v w → HasRecovery
-    recovery_from how what is ends = by_ending how (ran told faults moment wording e locks left left' v w how what is ends)
+    pub recovery_from : (how : Ending) (what : Option Asked) → asks_for_run what ≡ true
+        → ProgramEnds told faults moment wording how what e locks left left' v w → HasRecovery
+    recovery_from how what is ends = by_ending how (ran told faults moment wording e locks left left' v w how what is
+        ends)
 
     run_causes : (how : Ending) → RunEnds told faults moment wording how e left left' v w → HasCauses
     run_causes (ending.Script why) ends = none_unseen (ending.Script why) ends.0
@@ -126,12 +137,14 @@ module _ {D : Type 0} (told : D → Option Past) (faults moment : D → ℕ) (wo
     run_causes ending.OutOfMemory (inr (ends, lost)) = none_idle ending.OutOfMemory ends
     run_causes how runs = script_causes runs.script how runs.ends
 
-    pub doubts_from : (how : Ending) (what : Option Asked) → ProgramEnds told faults moment wording how what e locks left left' v w → HasCauses
+    pub doubts_from : (how : Ending) (what : Option Asked)
+        → ProgramEnds told faults moment wording how what e locks left left' v w → HasCauses
     doubts_from how (Some asked.Run) ends = run_causes how ends
     doubts_from how (Some asked.Routes) ends = run_causes how ends
     doubts_from how (Some asked.Locks) ends =
         let later = lock.later_from locks e.marks.items left left' v w how ends.ends in
-        subst (λ (log : List Item). RoseForEach (doubts_in log) v.disk_faults w.disk_faults) (sym ends.log) (omega (arith, later))
+        subst (λ (log : List Item). RoseForEach (doubts_in log) v.disk_faults w.disk_faults) (sym ends.log)
+        (omega (arith, later))
     doubts_from how (Some asked.Prepare) ends = none ends.empty (later_from v w how (Some asked.Prepare) ends.still)
     doubts_from how (Some asked.Records) ends = none ends.empty (later_from v w how (Some asked.Records) ends.still)
     doubts_from how (Some asked.Check) ends = none ends.empty (later_from v w how (Some asked.Check) ends.still)

@@ -17,7 +17,8 @@ use Rattle.diego_engine.specs.Top.{ProgramEnds, RunsWhole}
 use Rattle.diego_engine.proofs.Recoveries.{opened}
 
 module _ (wording : Wording) (e : Ended) (v w : Ports) (told : IsTold w.told) where
-  late : (script : Script) (how : Ending) → EndsLate memory_told faults_of calls_of wording script how e v w → SpokenLate wording script how e v w
+  late : (script : Script) (how : Ending) → EndsLate memory_told faults_of calls_of wording script how e v w
+      → SpokenLate wording script how e v w
   late script how ends = record {
     rows = ends.rows;
     between = ends.between;
@@ -26,7 +27,8 @@ module _ (wording : Wording) (e : Ended) (v w : Ports) (told : IsTold w.told) wh
     plays = ends.plays;
   }
 
-  script_ends : (script : Script) (how : Ending) → ScriptEnds memory_told faults_of calls_of wording script how e v w → SpokenScript wording script how e v w
+  script_ends : (script : Script) (how : Ending) → ScriptEnds memory_told faults_of calls_of wording script how e v w
+      → SpokenScript wording script how e v w
   script_ends script ending.Done ends = late script ending.Done ends
   script_ends script ending.Doubt ends = late script ending.Doubt ends
   script_ends script ending.Unwritten ends = late script ending.Unwritten ends
@@ -39,10 +41,12 @@ module _ (wording : Wording) (e : Ended) (v w : Ports) (told : IsTold w.told) wh
   script_ends script how ends = ends
 
   module _ (locks : LockLog) (left left' : Option (List ℕ)) where
-    runs : (how : Ending) → RunsScript memory_told faults_of calls_of wording how e left left' v w → SpokenRun wording how e left left' v w
+    runs : (how : Ending) → RunsScript memory_told faults_of calls_of wording how e left left' v w
+        → SpokenRun wording how e left left' v w
     runs how r = record { script = r.script; reads = r.reads; sound = r.sound; ends = script_ends r.script how r.ends }
 
-    run : (how : Ending) → RunEnds memory_told faults_of calls_of wording how e left left' v w → SpokenEnd wording how e left left' v w
+    run : (how : Ending) → RunEnds memory_told faults_of calls_of wording how e left left' v w
+        → SpokenEnd wording how e left left' v w
     run (ending.Script why) ends = ends
     run ending.Read ends = ends
     run ending.TooLong ends = ends
@@ -50,7 +54,8 @@ module _ (wording : Wording) (e : Ended) (v w : Ports) (told : IsTold w.told) wh
     run ending.OutOfMemory (inr ends) = inr ends
     run how r = runs how r
 
-    pub spoken : (how : Ending) (what : Option Asked) → ProgramEnds memory_told faults_of calls_of wording how what e locks left left' v w → SpokenEnds wording how what e locks left left' v w
+    pub spoken : (how : Ending) (what : Option Asked) → ProgramEnds memory_told faults_of calls_of wording how what e
+        locks left left' v w → SpokenEnds wording how what e locks left left' v w
     spoken how None ends = ends
     spoken how (Some asked.Locks) ends = ends
     spoken how (Some asked.Prepare) ends = ends
@@ -59,5 +64,6 @@ module _ (wording : Wording) (e : Ended) (v w : Ports) (told : IsTold w.told) wh
     spoken how (Some asked.Run) ends = run how ends
     spoken how (Some asked.Routes) ends = run how ends
 
-    pub spoken_whole : RunsWhole memory_told faults_of calls_of wording e left left' v w → SpokenWhole wording e left left' v w
+    pub spoken_whole : RunsWhole memory_told faults_of calls_of wording e left left' v w
+        → SpokenWhole wording e left left' v w
     spoken_whole r = runs ending.Done r

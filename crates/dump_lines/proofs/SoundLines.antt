@@ -27,7 +27,8 @@ use Rattle.dump_lines.specs.declared.question_in.Ask.{Ask}
 use Rattle.dump_lines.specs.declared.question_in.Ask.TheVariants as ask
 
 -- what holds of what follows, holds of it behind what was read
-ok-then : {X Y : Type 0} (r : Result X LineFault) (f : X → Result Y LineFault) (P : X → Type 0) (Q : Y → Type 0) → IfOk r P → ((x : X) → P x → IfOk (f x) Q) → IfOk (r >>= f) Q
+ok-then : {X Y : Type 0} (r : Result X LineFault) (f : X → Result Y LineFault) (P : X → Type 0) (Q : Y → Type 0)
+    → IfOk r P → ((x : X) → P x → IfOk (f x) Q) → IfOk (r >>= f) Q
 ok-then (Ok x) f P Q known more = more x known
 ok-then (Err fault) f P Q known more = tt
 
@@ -36,14 +37,17 @@ ok-of-any : {X : Type 0} (r : Result X LineFault) → IfOk r (λ x. Unit {0})
 ok-of-any (Ok x) = tt
 ok-of-any (Err fault) = tt
 
-ok-behind : {X Y : Type 0} (r : Result X LineFault) (f : X → Result Y LineFault) (Q : Y → Type 0) → ((x : X) → IfOk (f x) Q) → IfOk (r >>= f) Q
+ok-behind : {X Y : Type 0} (r : Result X LineFault) (f : X → Result Y LineFault) (Q : Y → Type 0)
+    → ((x : X) → IfOk (f x) Q) → IfOk (r >>= f) Q
 ok-behind r f Q more = ok-then r f (λ x. Unit {0}) Q (ok-of-any r) (λ x known. more x)
 
-ok-either : {X : Type 0} (b : Bool) (r s : Result X LineFault) (P : X → Type 0) → (b ≡ true → IfOk r P) → (b ≡ false → IfOk s P) → IfOk (if b then r else s) P
+ok-either : {X : Type 0} (b : Bool) (r s : Result X LineFault) (P : X → Type 0) → (b ≡ true → IfOk r P)
+    → (b ≡ false → IfOk s P) → IfOk (if b then r else s) P
 ok-either true r s P here there = here refl
 ok-either false r s P here there = there refl
 
-ok-both : {X Y : Type 0} (r : Result X LineFault) (s : Result Y LineFault) (P : X → Type 0) (Q : Y → Type 0) → IfOk r P → IfOk s Q → IfOk (r & s) (λ p. P p.0 × Q p.1)
+ok-both : {X Y : Type 0} (r : Result X LineFault) (s : Result Y LineFault) (P : X → Type 0) (Q : Y → Type 0) → IfOk r P
+    → IfOk s Q → IfOk (r & s) (λ p. P p.0 × Q p.1)
 ok-both (Ok x) (Ok y) P Q first second = (first, second)
 ok-both (Ok x) (Err fault) P Q first second = tt
 ok-both (Err fault) (Ok y) P Q first second = tt
@@ -62,7 +66,8 @@ lose-sound : (cells zones : Result (List (List ℕ)) LineFault) → IfOk (lose_o
 unfolding lose_of
 lose-sound cells zones =
     ok-behind (cells & zones) _ IsQuestion
-    (λ p. ok-either ((length p.0 == 0) && (length p.1 == 0)) _ _ IsQuestion (λ h. tt) (λ h. some-left (length p.0) (length p.1) h))
+    (λ p. ok-either ((length p.0 == 0) && (length p.1 == 0)) _ _ IsQuestion (λ h. tt)
+    (λ h. some-left (length p.0) (length p.1) h))
 
 cells-sound : (d : Data) → IfOk (cells_in d) (λ cells. 0 < length cells)
 unfolding cells_in
@@ -81,7 +86,8 @@ without-sound : (order : TurnOrder) (d : Data) → IsTurnOrder order → IfOk (w
 unfolding without_cells
 without-sound order d is = ok-either (has (codes "cells") d) _ _ IsTurnOrder (λ h. tt) (λ h. is)
 
-named-choice : (a b c : Bool) (d : Data) → IfOk (if a then without_cells Fullest d else (if b then without_cells ByName d else (if c then given_in d else Err BadShape))) IsTurnOrder
+named-choice : (a b c : Bool) (d : Data) → IfOk (if a then without_cells Fullest d else
+    (if b then without_cells ByName d else (if c then given_in d else Err BadShape))) IsTurnOrder
 named-choice true b c d = without-sound Fullest d tt
 named-choice false true c d = without-sound ByName d tt
 named-choice false false true d = given-sound d
@@ -89,7 +95,8 @@ named-choice false false false d = tt
 
 named-sound : (word : List ℕ) (d : Data) → IfOk (order_named word d) IsTurnOrder
 unfolding order_named
-named-sound word d = named-choice (bytes_eq word (codes "fullest")) (bytes_eq word (codes "name")) (bytes_eq word (codes "given")) d
+named-sound word d = named-choice (bytes_eq word (codes "fullest")) (bytes_eq word (codes "name"))
+    (bytes_eq word (codes "given")) d
 
 order-sound : (d : Data) → IfOk (order_in d) IsTurnOrder
 unfolding order_in
@@ -106,7 +113,8 @@ drained-sound : (d : Data) → IfOk (drained_in d) (λ cells. IfSome cells (λ l
 unfolding drained_in
 drained-sound d =
     ok-either (has (codes "cells") d) _ _ (λ cells. IfSome cells (λ listed. 0 < length listed))
-    (λ h. ok-then (cells_in d) _ (λ cells. 0 < length cells) (λ cells. IfSome cells (λ listed. 0 < length listed)) (cells-sound d) (λ cells some. some))
+    (λ h. ok-then (cells_in d) _ (λ cells. 0 < length cells) (λ cells. IfSome cells (λ listed. 0 < length listed))
+    (cells-sound d) (λ cells some. some))
     (λ h. tt)
 
 batch-sound : (d : Data) → IfOk (batch_in d) (λ n. 0 < n)
@@ -119,7 +127,8 @@ drain-sound : (d : Data) → IfOk (drain_in (drained_in d) d) IsQuestion
 unfolding drain_in
 drain-sound d =
     ok-then (batch_in d & drained_in d) _ (λ p. (0 < p.0) × IfSome p.1 (λ listed. 0 < length listed)) IsQuestion
-    (ok-both (batch_in d) (drained_in d) (λ n. 0 < n) (λ cells. IfSome cells (λ listed. 0 < length listed)) (batch-sound d) (drained-sound d))
+    (ok-both (batch_in d) (drained_in d) (λ n. 0 < n) (λ cells. IfSome cells (λ listed. 0 < length listed))
+    (batch-sound d) (drained-sound d))
     (λ p known. known)
 
 asks-sound : (asks : Ask) (d : Data) → IfOk (question_as asks d) IsQuestion
@@ -130,19 +139,22 @@ asks-sound ask.LoseEach d = ok-behind (or_shape (each_in d)) _ IsQuestion (λ of
 asks-sound ask.LoseInTurn d = turns-sound d
 asks-sound ask.Drain d = drain-sound d
 asks-sound ask.Fit d =
-    ok-behind (process_in d & number_in (codes "instances") d & demand_of (number_in (codes "memory") d) (number_in (codes "disk") d) (tag_given d)) _ IsQuestion
+    ok-behind (process_in d & number_in (codes "instances") d & demand_of (number_in (codes "memory") d)
+    (number_in (codes "disk") d) (tag_given d)) _ IsQuestion
     (λ p. tt)
 
 question-sound : (d : Data) → IfOk (question_in d) IsQuestion
 unfolding question_in
 question-sound d =
-    ok-behind (or_shape (ask_in d)) _ IsQuestion (λ asks. ok-either (has_only asks d) _ _ IsQuestion (λ h. asks-sound asks d) (λ h. tt))
+    ok-behind (or_shape (ask_in d)) _ IsQuestion (λ asks.
+    ok-either (has_only asks d) _ _ IsQuestion (λ h. asks-sound asks d) (λ h. tt))
 
 -- what a cell tells has sound amounts
 abbrev HasSound : CellState → Type 0
 HasSound state = has_sound_amounts state ≡ true
 
-state-sound : (head : Result CellHead LineFault) (instances : Result (List InstanceOnCell) LineFault) (tasks : Result (List TaskOnCell) LineFault) → IfOk (state_with head instances tasks) HasSound
+state-sound : (head : Result CellHead LineFault) (instances : Result (List InstanceOnCell) LineFault)
+    (tasks : Result (List TaskOnCell) LineFault) → IfOk (state_with head instances tasks) HasSound
 unfolding state_with
 state-sound head instances tasks =
     ok-behind (head & instances & tasks) _ HasSound

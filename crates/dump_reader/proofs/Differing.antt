@@ -33,7 +33,8 @@ same-number : (n : ℕ) → nat_eq n n ≡ true
 same-number n = grind arith
 
 pub same-instance : (key : Key) → is_same_instance key key ≡ true
-same-instance key = ap (λ b. b && nat_eq key.index key.index) (nat_list_eq_equiv.refl key.process) ∙ same-number key.index
+same-instance key = ap (λ b. b && nat_eq key.index key.index)
+    (nat_list_eq_equiv.refl key.process) ∙ same-number key.index
 
 module _ {Y : Type 0} (same : Y → Y → Bool) (itself : (y : Y) → same y y ≡ true) where
   differs : (a b : Y) → same b a ≡ false → a ≢ b
@@ -45,7 +46,8 @@ module _ {Y : Type 0} (same : Y → Y → Bool) (itself : (y : Y) → same y y �
       all_pairs_push (λ a b. a ≢ b) ys y differ (λ k d h. differs (get_or ys k d) y (none_pass (same y) ys isnt k d h))
 
   -- likewise with what an item names
-  pub differ-named : {X : Type 0} (f : X → Y) (xs : List X) (x : X) → list_any (same (f x)) (map f xs) ≡ false → AllDiffer (map f xs) → AllDiffer (map f (xs ++ x ∷ []))
+  pub differ-named : {X : Type 0} (f : X → Y) (xs : List X) (x : X) → list_any (same (f x)) (map f xs) ≡ false
+      → AllDiffer (map f xs) → AllDiffer (map f (xs ++ x ∷ []))
   differ-named f xs x isnt differ =
       subst AllDiffer (sym (map-append f xs (x ∷ []))) (differ-push (map f xs) (f x) isnt differ)
 
@@ -53,8 +55,10 @@ module _ {Y : Type 0} (same : Y → Y → Bool) (itself : (y : Y) → same y y �
   pub differ-all : (before xs : List Y) → repeats same before xs ≡ false → AllDiffer before → AllDiffer (before ++ xs)
   differ-all before [] none differ = subst AllDiffer (sym (append-nil before)) differ
   differ-all before (x ∷ xs) none differ =
-      let rest = differ-all (before ++ x ∷ []) xs (second_false (list_any (same x) before) (repeats same (before ++ x ∷ []) xs) none)
-      (differ-push before x (first_false (list_any (same x) before) (repeats same (before ++ x ∷ []) xs) none) differ) in
+      let rest = differ-all (before ++ x ∷ []) xs (second_false (list_any (same x) before)
+      (repeats same (before ++ x ∷ []) xs) none)
+      (differ-push before x (first_false (list_any (same x) before) (repeats same (before ++ x ∷ []) xs) none) differ)
+      in
       subst AllDiffer (append_assoc before (x ∷ []) xs) rest
 
 -- no items differ

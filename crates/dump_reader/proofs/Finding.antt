@@ -17,10 +17,13 @@ not_below : (n : ℕ) → ltb n n ≡ false
 not_below n = grind arith
 
 -- what a search finds is where the test first passes
-pub first-position : (test : ℕ → Bool) (bytes : List ℕ) (found : Option ℕ) → IsFirstByte test bytes found → found ≡ position test bytes
+pub first-position : (test : ℕ → Bool) (bytes : List ℕ) (found : Option ℕ) → IsFirstByte test bytes found
+    → found ≡ position test bytes
 first-position test bytes None nowhere =
-    let at : position_or_len test bytes ≡ length bytes = position_or_len_is test bytes (length bytes) 0 (omega arith) (λ k less. fails _ (nowhere k (omega arith) less)) (λ less. absurd (omega arith)) in
+    let at : position_or_len test bytes ≡ length bytes = position_or_len_is test bytes (length bytes) 0 (omega arith)
+    (λ k less. fails _ (nowhere k (omega arith) less)) (λ less. absurd (omega arith)) in
     rw (at, not_below (length bytes)) refl
 first-position test bytes (Some n) first =
-    let at : position_or_len test bytes ≡ n = position_or_len_is test bytes n 0 (omega (arith, first.0.high)) (λ k less. fails _ (first.0.before k (omega arith) less)) (λ less. first.1) in
+    let at : position_or_len test bytes ≡ n = position_or_len_is test bytes n 0 (omega (arith, first.0.high))
+    (λ k less. fails _ (first.0.before k (omega arith) less)) (λ less. first.1) in
     rw (at, below n (length bytes) first.0.high) refl

@@ -34,13 +34,26 @@ pub record IsKept (dump : Dump) : Type 0 where
   pub ordinary : All (λ r. r.ordinary ≡ true) dump.actual
   pub asked : All (λ a. IsAsked a.question) dump.questions
 
-kept-asks : (dump : Dump) (n : ℕ) (q : Question) → IsQuestion q → is_too_much dump (Asks q) ≡ false → IsKept dump → IsKept (with_line dump n (Asks q))
+kept-asks : (dump : Dump) (n : ℕ) (q : Question) → IsQuestion q → is_too_much dump (Asks q) ≡ false → IsKept dump
+    → IsKept (with_line dump n (Asks q))
 kept-asks dump n q is few kept =
-    let asked : IsAsked q = record { something = is; modest = second_false (nat_le 1000 (length dump.questions)) (asks_too_much q) few } in
-    let questions = few-push 1000 dump.questions (record { line = n; question = q }) (first_false (nat_le 1000 (length dump.questions)) (asks_too_much q) few) in
+    let asked : IsAsked q = record {
+      something = is;
+      modest =
+          second_false (nat_le 1000 (length dump.questions)) (asks_too_much q) few;
+    } in
+    let questions = few-push 1000 dump.questions (record { line = n; question = q })
+    (first_false (nat_le 1000 (length dump.questions)) (asks_too_much q) few) in
     record {
       cells = kept.cells;
-      once = record { states = kept.once.states; listed = kept.once.listed; tasks = kept.once.tasks; desired = kept.once.desired; actual = kept.once.actual };
+      once = record {
+        states = kept.once.states;
+        listed = kept.once.listed;
+        tasks = kept.once.tasks;
+        desired =
+            kept.once.desired;
+        actual = kept.once.actual;
+      };
       limits = record {
         states = kept.limits.states;
         listed = kept.limits.listed;
@@ -55,19 +68,25 @@ kept-asks dump n q is few kept =
       asked = All-push (λ a. IsAsked a.question) dump.questions (record { line = n; question = q }) kept.asked asked;
     }
 
-kept-state : (dump : Dump) (n : ℕ) (s : CellState) → IsLine (State s) → names_twice dump (State s) ≡ false → is_too_much dump (State s) ≡ false → IsKept dump → IsKept (with_line dump n (State s))
+kept-state : (dump : Dump) (n : ℕ) (s : CellState) → IsLine (State s) → names_twice dump (State s) ≡ false
+    → is_too_much dump (State s) ≡ false → IsKept dump → IsKept (with_line dump n (State s))
 kept-state dump n s is new few kept =
     let known = list_any (is_same_name s.place.cell) (cells_of_states dump) in
     let repeat = repeats is_same_instance [] (instances_on s) in
     let full = nat_le 1000 (length dump.states) in
     let much = nat_lt 250000 (instances_told dump + length s.instances) in
-    let cell : IsCellState s = record { amounts = is; instances = differ-all is_same_instance same-instance [] (instances_on s) (second_false known repeat new) differ-none } in
+    let cell : IsCellState s = record {
+      amounts = is;
+      instances =
+          differ-all is_same_instance same-instance [] (instances_on s) (second_false known repeat new) differ-none;
+    } in
     let told = sum_by_push (λ s. length s.instances) dump.states s in
     let most = within-limit 250000 (instances_told dump + length s.instances) (second_false full much few) in
     record {
       cells = All-push IsCellState dump.states s kept.cells cell;
       once = record {
-        states = differ-named is_same_name same-name (λ s. s.place.cell) dump.states s (first_false known repeat new) kept.once.states;
+        states = differ-named is_same_name same-name (λ s. s.place.cell) dump.states s
+            (first_false known repeat new) kept.once.states;
         listed = kept.once.listed;
         tasks = kept.once.tasks;
         desired = kept.once.desired;
@@ -87,7 +106,8 @@ kept-state dump n s is new few kept =
       asked = kept.asked;
     }
 
-kept-listed : (dump : Dump) (n : ℕ) (p : Place) → names_twice dump (Listed p) ≡ false → is_too_much dump (Listed p) ≡ false → IsKept dump → IsKept (with_line dump n (Listed p))
+kept-listed : (dump : Dump) (n : ℕ) (p : Place) → names_twice dump (Listed p) ≡ false
+    → is_too_much dump (Listed p) ≡ false → IsKept dump → IsKept (with_line dump n (Listed p))
 kept-listed dump n p new few kept = record {
   cells = kept.cells;
   once = record {
@@ -111,7 +131,8 @@ kept-listed dump n p new few kept = record {
   asked = kept.asked;
 }
 
-kept-task : (dump : Dump) (n : ℕ) (t : TaskRow) → names_twice dump (Task t) ≡ false → is_too_much dump (Task t) ≡ false → IsKept dump → IsKept (with_line dump n (Task t))
+kept-task : (dump : Dump) (n : ℕ) (t : TaskRow) → names_twice dump (Task t) ≡ false → is_too_much dump (Task t) ≡ false
+    → IsKept dump → IsKept (with_line dump n (Task t))
 kept-task dump n t new few kept = record {
   cells = kept.cells;
   once = record {
@@ -135,7 +156,8 @@ kept-task dump n t new few kept = record {
   asked = kept.asked;
 }
 
-kept-desired : (dump : Dump) (n : ℕ) (w : DesiredRow) → names_twice dump (Desired w) ≡ false → is_too_much dump (Desired w) ≡ false → IsKept dump → IsKept (with_line dump n (Desired w))
+kept-desired : (dump : Dump) (n : ℕ) (w : DesiredRow) → names_twice dump (Desired w) ≡ false
+    → is_too_much dump (Desired w) ≡ false → IsKept dump → IsKept (with_line dump n (Desired w))
 kept-desired dump n w new few kept =
     let full = nat_le 100000 (length dump.desired) in
     let much = nat_lt 250000 (wanted_instances dump + w.instances) in
@@ -165,17 +187,33 @@ kept-desired dump n w new few kept =
     }
 
 -- rows with one more, where it is ordinary
-kept-rows : (b : Bool) (rows : List ActualRow) (row : ActualRow) → row.ordinary ≡ b → (b && list_any (is_same_instance row.instance) (map (λ r. r.instance) rows)) ≡ false → (b && nat_le 250000 (length rows)) ≡ false → AllDiffer (map (λ r. r.instance) rows) → length rows ≤ 250000 → All (λ r. r.ordinary ≡ true) rows → AllDiffer (map (λ r. r.instance) (if b then rows ++ row ∷ [] else rows)) × (length (if b then rows ++ row ∷ [] else rows) ≤ 250000) × All (λ r. r.ordinary ≡ true) (if b then rows ++ row ∷ [] else rows)
-kept-rows true rows row is new few differ short all =
-    (differ-named is_same_instance same-instance (λ r. r.instance) rows row new differ, few-push 250000 rows row few, All-push (λ r. r.ordinary ≡ true) rows row all is)
+kept-rows : (b : Bool) (rows : List ActualRow) (row : ActualRow) → row.ordinary ≡ b
+    → (b && list_any (is_same_instance row.instance) (map (λ r. r.instance) rows)) ≡ false
+    → (b && nat_le 250000 (length rows)) ≡ false → AllDiffer (map (λ r. r.instance) rows) → length rows ≤ 250000
+    → All (λ r. r.ordinary ≡ true) rows → AllDiffer (map (λ r. r.instance) (if b then rows ++ row ∷ [] else rows))
+    × (length (if b then rows ++ row ∷ [] else rows) ≤ 250000)
+    × All (λ r. r.ordinary ≡ true) (if b then rows ++ row ∷ [] else rows)
+kept-rows true rows row is new few differ short all = (
+  differ-named is_same_instance same-instance (λ r. r.instance) rows row new differ,
+  few-push 250000 rows row few,
+  All-push (λ r. r.ordinary ≡ true) rows row all is,
+)
 kept-rows false rows row is new few differ short all = (differ, short, all)
 
-kept-actual : (dump : Dump) (n : ℕ) (r : ActualRow) → names_twice dump (Actual r) ≡ false → is_too_much dump (Actual r) ≡ false → IsKept dump → IsKept (with_line dump n (Actual r))
+kept-actual : (dump : Dump) (n : ℕ) (r : ActualRow) → names_twice dump (Actual r) ≡ false
+    → is_too_much dump (Actual r) ≡ false → IsKept dump → IsKept (with_line dump n (Actual r))
 kept-actual dump n r new few kept =
     let rows = kept-rows r.ordinary dump.actual r refl new few kept.once.actual kept.limits.actual kept.ordinary in
     record {
       cells = kept.cells;
-      once = record { states = kept.once.states; listed = kept.once.listed; tasks = kept.once.tasks; desired = kept.once.desired; actual = rows.0 };
+      once = record {
+        states = kept.once.states;
+        listed = kept.once.listed;
+        tasks = kept.once.tasks;
+        desired =
+            kept.once.desired;
+        actual = rows.0;
+      };
       limits = record {
         states = kept.limits.states;
         listed = kept.limits.listed;
@@ -193,7 +231,14 @@ kept-actual dump n r new few kept =
 kept-domain : (dump : Dump) (n : ℕ) → IsKept dump → IsKept (with_line dump n Domain)
 kept-domain dump n kept = record {
   cells = kept.cells;
-  once = record { states = kept.once.states; listed = kept.once.listed; tasks = kept.once.tasks; desired = kept.once.desired; actual = kept.once.actual };
+  once = record {
+    states = kept.once.states;
+    listed = kept.once.listed;
+    tasks = kept.once.tasks;
+    desired =
+        kept.once.desired;
+    actual = kept.once.actual;
+  };
   limits = record {
     states = kept.limits.states;
     listed = kept.limits.listed;
@@ -208,7 +253,8 @@ kept-domain dump n kept = record {
   asked = kept.asked;
 }
 
-kept-line : (dump : Dump) (n : ℕ) (line : DumpLine) → IsLine line → names_twice dump line ≡ false → is_too_much dump line ≡ false → IsKept dump → IsKept (with_line dump n line)
+kept-line : (dump : Dump) (n : ℕ) (line : DumpLine) → IsLine line → names_twice dump line ≡ false
+    → is_too_much dump line ≡ false → IsKept dump → IsKept (with_line dump n line)
 kept-line dump n (Asks q) is new few kept = kept-asks dump n q is few kept
 kept-line dump n (State s) is new few kept = kept-state dump n s is new few kept
 kept-line dump n (Listed p) is new few kept = kept-listed dump n p new few kept
@@ -217,7 +263,8 @@ kept-line dump n (Desired w) is new few kept = kept-desired dump n w new few kep
 kept-line dump n (Actual r) is new few kept = kept-actual dump n r new few kept
 kept-line dump n Domain is new few kept = kept-domain dump n kept
 
-by-verdict : (twice much : Bool) (n : ℕ) (dump : Dump) (P : Dump → Type 0) → (twice ≡ false → much ≡ false → P dump) → IfOk (verdict_by twice much n >>= λ fine. Ok dump) P
+by-verdict : (twice much : Bool) (n : ℕ) (dump : Dump) (P : Dump → Type 0) → (twice ≡ false → much ≡ false → P dump)
+    → IfOk (verdict_by twice much n >>= λ fine. Ok dump) P
 by-verdict true much n dump P known = tt
 by-verdict false true n dump P known = tt
 by-verdict false false n dump P known = known refl refl
@@ -225,13 +272,21 @@ by-verdict false false n dump P known = known refl refl
 -- a line that is admitted leaves what a dump keeps
 pub admit-kept : (dump : Dump) (n : ℕ) (line : DumpLine) → IsLine line → IsKept dump → IfOk (admit dump n line) IsKept
 admit-kept dump n line is kept =
-    by-verdict (names_twice dump line) (is_too_much dump line) n (with_line dump n line) IsKept (λ new few. kept-line dump n line is new few kept)
+    by-verdict (names_twice dump line) (is_too_much dump line) n (with_line dump n line) IsKept
+    (λ new few. kept-line dump n line is new few kept)
 
 -- a dump without lines keeps it
 pub none-kept : IsKept no_dump
 none-kept = record {
   cells = All-nil _;
-  once = record { states = differ-none; listed = differ-none; tasks = differ-none; desired = differ-none; actual = differ-none };
+  once = record {
+    states = differ-none;
+    listed = differ-none;
+    tasks = differ-none;
+    desired = differ-none;
+    actual =
+        differ-none;
+  };
   limits = record {
     states = omega arith;
     listed = omega arith;

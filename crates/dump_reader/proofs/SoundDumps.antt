@@ -29,7 +29,8 @@ use Rattle.dump_reader.proofs.Differing.{differ-all, differ-none, same-name, wit
 use Rattle.dump_reader.proofs.Kept.{IsAsked, IsKept, admit-kept, none-kept}
 
 -- what holds of what follows, holds of it behind what was read
-ok-then : {X Y : Type 0} (r : Result X FaultAt) (f : X → Result Y FaultAt) (P : X → Type 0) (Q : Y → Type 0) → IfOk r P → ((x : X) → P x → IfOk (f x) Q) → IfOk (r >>= f) Q
+ok-then : {X Y : Type 0} (r : Result X FaultAt) (f : X → Result Y FaultAt) (P : X → Type 0) (Q : Y → Type 0) → IfOk r P
+    → ((x : X) → P x → IfOk (f x) Q) → IfOk (r >>= f) Q
 ok-then (Ok x) f P Q known more = more x known
 ok-then (Err fault) f P Q known more = tt
 
@@ -42,7 +43,9 @@ lines-kept : (lines : List NumberedLine) (dump : Dump) → IsKept dump → IfOk 
 lines-kept [] dump kept = kept
 lines-kept (line ∷ lines) dump kept =
     ok-then (step_on dump line) (λ next. accepted next lines) IsKept IsKept
-    (ok-then (said_on line) (admit dump line.number) IsLine IsKept (line-sound line.number (line_of line.text) (line_of-sound line.text)) (λ said is. admit-kept dump line.number said is kept))
+    (ok-then (said_on line) (admit dump line.number) IsLine IsKept
+    (line-sound line.number (line_of line.text) (line_of-sound line.text))
+    (λ said is. admit-kept dump line.number said is kept))
     (λ next known. lines-kept lines next known)
 
 -- where one test of all fails
@@ -60,9 +63,11 @@ all_pass p (x ∷ xs) all (suc k) d h = all_pass p xs (second_true (p x) (list_a
     second_true false b h = cc
 
 -- a name that one of two lists has is in both together
-named-in : (xs ys : List (List ℕ)) (name : List ℕ) → (list_any (is_same_name name) xs || list_any (is_same_name name) ys) ≡ true → Contains (xs ++ ys) name
+named-in : (xs ys : List (List ℕ)) (name : List ℕ) → (list_any (is_same_name name) xs || list_any
+    (is_same_name name) ys) ≡ true → Contains (xs ++ ys) name
 named-in xs ys name h =
-    Contains-from_any {eq = is_same_name} (λ x y same. (bytes_decides x y).0 same) name (xs ++ ys) (list_any-append (is_same_name name) xs ys ∙ h)
+    Contains-from_any {eq = is_same_name} (λ x y same. (bytes_decides x y).0 same) name (xs ++ ys)
+    (list_any-append (is_same_name name) xs ys ∙ h)
 
 -- a question without a fault
 record IsFine (dump : Dump) (question : Question) : Type 0 where
@@ -70,7 +75,10 @@ record IsFine (dump : Dump) (question : Question) : Type 0 where
   pub pairs : (asks_pairs question && nat_lt 200 (length dump.states)) ≡ false
   pub known : asks_of_known dump question ≡ true
 
-by-tests : (dump : Dump) (question : Question) (a b c : Bool) → repeats is_same_name [] (cells_asked question) ≡ a → (asks_pairs question && nat_lt 200 (length dump.states)) ≡ b → asks_of_known dump question ≡ c → (if a then Some Twice else (if b then Some TooMuch else (if c then None else Some Unknown))) ≡ None → IsFine dump question
+by-tests : (dump : Dump) (question : Question) (a b c : Bool) → repeats is_same_name [] (cells_asked question) ≡ a
+    → (asks_pairs question && nat_lt 200 (length dump.states)) ≡ b → asks_of_known dump question ≡ c
+    → (if a then Some Twice else (if b then Some TooMuch else (if c then None else Some Unknown))) ≡ None
+    → IsFine dump question
 by-tests dump question true b c once pairs known none = cc
 by-tests dump question false true c once pairs known none = cc
 by-tests dump question false false true once pairs known none = record { once = once; pairs = pairs; known = known }
@@ -84,7 +92,8 @@ both_true true true h = (refl, refl)
 both_true true false h = cc
 both_true false b h = cc
 
-modest : (n : ℕ) (question : Question) → IsAsked question → (asks_pairs question && nat_lt 200 n) ≡ false → IsModest n question
+modest : (n : ℕ) (question : Question) → IsAsked question → (asks_pairs question && nat_lt 200 n) ≡ false
+    → IsModest n question
 modest n Show asked pairs = tt
 modest n (Lose cells zones) asked pairs = asked.something
 modest n (LoseEach Zone) asked pairs = tt
@@ -97,23 +106,30 @@ modest n (Fit process instances demand) asked pairs = within-limit 50000 instanc
 -- a question without a fault can be answered
 answer : (dump : Dump) (question : Question) → IsAsked question → IsFine dump question → IsAnswerable dump question
 answer dump question asked is =
-    let both = both_true (list_all (is_known_cell dump) (cells_asked question)) (list_all (is_known_zone dump) (zones_asked question)) is.known in
+    let both = both_true (list_all (is_known_cell dump) (cells_asked question))
+    (list_all (is_known_zone dump) (zones_asked question)) is.known in
     record {
       once = differ-all is_same_name same-name [] (cells_asked question) is.once differ-none;
-      cells = λ k d h. named-in (cells_of_states dump) (cells_listed dump) _ (all_pass (is_known_cell dump) (cells_asked question) both.0 k d h);
-      zones = λ k d h. named-in (zones_of_states dump) (zones_listed dump) _ (all_pass (is_known_zone dump) (zones_asked question) both.1 k d h);
+      cells = λ k d h. named-in (cells_of_states dump) (cells_listed dump) _
+          (all_pass (is_known_cell dump) (cells_asked question) both.0 k d h);
+      zones = λ k d h. named-in (zones_of_states dump) (zones_listed dump) _
+          (all_pass (is_known_zone dump) (zones_asked question) both.1 k d h);
       modest = modest (length dump.states) question asked is.pairs;
     }
 
-none-first : (a : Option DumpFault) (line : ℕ) (later : Option FaultAt) → or_later a line later ≡ None → (a ≡ None) × (later ≡ None)
+none-first : (a : Option DumpFault) (line : ℕ) (later : Option FaultAt) → or_later a line later ≡ None
+    → (a ≡ None) × (later ≡ None)
 none-first None line later h = (refl, h)
 none-first (Some fault) line later h = cc
 
-all-fine : (dump : Dump) (questions : List Asked) → first_fault dump questions ≡ None → All (λ a. IsFine dump a.question) questions
+all-fine : (dump : Dump) (questions : List Asked) → first_fault dump questions ≡ None
+    → All (λ a. IsFine dump a.question) questions
 all-fine dump [] none k d h = absurd (omega arith)
-all-fine dump (asked ∷ more) none zero d h = fine dump asked.question (none-first (question_fault dump asked.question) asked.line (first_fault dump more) none).0
+all-fine dump (asked ∷ more) none zero d h = fine dump asked.question
+    (none-first (question_fault dump asked.question) asked.line (first_fault dump more) none).0
 all-fine dump (asked ∷ more) none (suc k) d h =
-    all-fine dump more (none-first (question_fault dump asked.question) asked.line (first_fault dump more) none).1 k d (omega arith)
+    all-fine dump more (none-first (question_fault dump asked.question) asked.line (first_fault dump more) none).1 k d
+    (omega arith)
 
 whole : (dump : Dump) → IsKept dump → All (λ a. IsFine dump a.question) dump.questions → IsDump dump
 whole dump kept all = record {
@@ -124,7 +140,8 @@ whole dump kept all = record {
   questions = λ k d h. answer dump _ (kept.asked k d h) (all k d h);
 }
 
-by-fault : (dump : Dump) (fault : Option FaultAt) → first_fault dump dump.questions ≡ fault → IsKept dump → IfOk (unless {X = Unit {0}} fault tt >>= λ fine. Ok dump) IsDump
+by-fault : (dump : Dump) (fault : Option FaultAt) → first_fault dump dump.questions ≡ fault → IsKept dump
+    → IfOk (unless {X = Unit {0}} fault tt >>= λ fine. Ok dump) IsDump
 by-fault dump None none kept = whole dump kept (all-fine dump dump.questions none)
 by-fault dump (Some fault) none kept = tt
 
@@ -132,7 +149,8 @@ by-fault dump (Some fault) none kept = tt
 pub dump_of-sound : (bytes : List ℕ) → IfOk (dump_of bytes) IsDump
 unfolding dump_of
 dump_of-sound bytes =
-    ok-then (accepted no_dump (nonblank_lines bytes)) answerable IsKept IsDump (lines-kept (nonblank_lines bytes) no_dump none-kept)
+    ok-then (accepted no_dump (nonblank_lines bytes)) answerable IsKept IsDump
+    (lines-kept (nonblank_lines bytes) no_dump none-kept)
     (λ dump kept. by-fault dump (first_fault dump dump.questions) refl kept)
 
 pub gives-sound : (r : Result Dump DumpError) (bytes : List ℕ) → GivesDump r (dump_of bytes) → IfOk r IsDump

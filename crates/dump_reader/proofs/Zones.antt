@@ -14,28 +14,35 @@ or-assoc : (a b c : Bool) → ((a || b) || c) ≡ (a || (b || c))
 or-assoc true b c = refl
 or-assoc false b c = refl
 
-one-more : (z x : List ℕ) (ks : List (List ℕ)) (b s : Bool) → list_any (is_same_name x) ks ≡ b → is_same_name z x ≡ s → list_any (is_same_name z) (if b then ks else ks ++ x ∷ []) ≡ (list_any (is_same_name z) ks || s)
+one-more : (z x : List ℕ) (ks : List (List ℕ)) (b s : Bool) → list_any (is_same_name x) ks ≡ b → is_same_name z x ≡ s
+    → list_any (is_same_name z) (if b then ks else ks ++ x ∷ []) ≡ (list_any (is_same_name z) ks || s)
 one-more z x ks true false known isnt = sym (or-false (list_any (is_same_name z) ks))
 one-more z x ks true true known is =
     let eq : z ≡ x = (bytes_decides z x).0 is in
     let here : list_any (is_same_name z) ks ≡ true = subst (λ y. list_any (is_same_name y) ks ≡ true) (sym eq) known in
     here ∙ sym (ap (λ b. b || true) here)
 one-more z x ks false s known is =
-    list_any-append (is_same_name z) ks (x ∷ []) ∙ ap (λ b. list_any (is_same_name z) ks || b) (or-false (is_same_name z x) ∙ is)
+    list_any-append (is_same_name z) ks (x ∷ []) ∙ ap (λ b. list_any (is_same_name z) ks || b)
+    (or-false (is_same_name z x) ∙ is)
 
-onto : (z : List ℕ) (xs ks : List (List ℕ)) → list_any (is_same_name z) (insert_all is_same_name ks xs) ≡ (list_any (is_same_name z) ks || list_any (is_same_name z) xs)
+onto : (z : List ℕ) (xs ks : List (List ℕ)) → list_any (is_same_name z) (insert_all is_same_name ks xs)
+    ≡ (list_any (is_same_name z) ks || list_any (is_same_name z) xs)
 onto z [] ks = sym (or-false (list_any (is_same_name z) ks))
 onto z (x ∷ xs) ks =
     onto z xs (insert_key is_same_name ks x)
-    ∙ (ap (λ b. b || list_any (is_same_name z) xs) (one-more z x ks (list_any (is_same_name x) ks) (is_same_name z x) refl refl)
+    ∙ (ap (λ b. b || list_any (is_same_name z) xs) (one-more z x ks (list_any (is_same_name x) ks)
+    (is_same_name z x) refl refl)
     ∙ or-assoc (list_any (is_same_name z) ks) (is_same_name z x) (list_any (is_same_name z) xs))
 
 -- a name is among those that were inserted as it is among the names
-pub any-inserted : (z : List ℕ) (xs : List (List ℕ)) → list_any (is_same_name z) (insert_all is_same_name [] xs) ≡ list_any (is_same_name z) xs
+pub any-inserted : (z : List ℕ) (xs : List (List ℕ)) → list_any (is_same_name z) (insert_all is_same_name [] xs)
+    ≡ list_any (is_same_name z) xs
 any-inserted z xs = onto z xs []
 
 -- the same, of two lists
-pub any_of_two : (z : List ℕ) (xs ys seen others : List (List ℕ)) → seen ≡ insert_all is_same_name [] xs → others ≡ insert_all is_same_name [] ys → (list_any (is_same_name z) seen || list_any (is_same_name z) others) ≡ (list_any (is_same_name z) xs || list_any (is_same_name z) ys)
+pub any_of_two : (z : List ℕ) (xs ys seen others : List (List ℕ)) → seen ≡ insert_all is_same_name [] xs
+    → others ≡ insert_all is_same_name [] ys → (list_any (is_same_name z) seen || list_any (is_same_name z) others)
+    ≡ (list_any (is_same_name z) xs || list_any (is_same_name z) ys)
 any_of_two z xs ys seen others first second =
     ap (λ ks. list_any (is_same_name z) ks || list_any (is_same_name z) others) first
     ∙ (ap (λ ks. list_any (is_same_name z) (insert_all is_same_name [] xs) || list_any (is_same_name z) ks) second

@@ -27,67 +27,81 @@ other_key : {K : Type 0} (own : Option K) (k q : K) → own ≡ Some k → own �
 other_key own k q is other same = other (is ∙ ap (λ x. Some x) (sym same))
 
 module _ (rows : Rows) (asked : Op) where
-  edited-desired : (edit : Edit) → IsOwn asked (row_in edit) → (q : List ℕ) → own_process asked ≢ Some q → find_desired (edited rows edit) q ≡ find_desired rows q
+  edited-desired : (edit : Edit) → IsOwn asked (row_in edit) → (q : List ℕ) → own_process asked ≢ Some q
+      → find_desired (edited rows edit) q ≡ find_desired rows q
   edited-desired (Put (row.Desired d)) own q other =
-      find_row-put_row_other name_order process_of IsKeyOrder-name_order q d rows.desired (other_key (own_process asked) d.process q own other)
+      find_row-put_row_other name_order process_of IsKeyOrder-name_order q d rows.desired
+      (other_key (own_process asked) d.process q own other)
   edited-desired (Put (row.Actual a)) own q other = refl
   edited-desired (Put (row.Task t)) own q other = refl
   edited-desired (Put (row.Cell c)) own q other = refl
   edited-desired (Put (row.Domain d)) own q other = refl
   edited-desired (Drop (row.Desired d)) own q other =
-      find_row-without_row_other name_order process_of IsKeyOrder-name_order q d.process rows.desired (other_key (own_process asked) d.process q own other)
+      find_row-without_row_other name_order process_of IsKeyOrder-name_order q d.process rows.desired
+      (other_key (own_process asked) d.process q own other)
   edited-desired (Drop (row.Actual a)) own q other = refl
   edited-desired (Drop (row.Task t)) own q other = refl
   edited-desired (Drop (row.Cell c)) own q other = refl
   edited-desired (Drop (row.Domain d)) own q other = refl
 
   -- another instance, or another presence of it
-  other_place : (a : Actual) (key : Key) (presence : Presence) → own_instance asked a.presence ≡ Some a.key → own_instance asked presence ≢ Some key
+  other_place : (a : Actual) (key : Key) (presence : Presence) → own_instance asked a.presence ≡ Some a.key
+      → own_instance asked presence ≢ Some key
       → (key, presence) ≢ place_of a
   other_place a key presence own other same =
-      other (ap (λ (p : Key × Presence). own_instance asked p.1) same ∙ own ∙ ap (λ (p : Key × Presence). Some p.0) (sym same))
+      other (ap (λ (p : Key × Presence). own_instance asked p.1) same ∙ own ∙ ap (λ (p : Key × Presence). Some p.0)
+      (sym same))
 
-  edited-actual : (edit : Edit) → IsOwn asked (row_in edit) → (key : Key) (presence : Presence) → own_instance asked presence ≢ Some key
+  edited-actual : (edit : Edit) → IsOwn asked (row_in edit) → (key : Key) (presence : Presence)
+      → own_instance asked presence ≢ Some key
       → find_actual (edited rows edit) key presence ≡ find_actual rows key presence
   edited-actual (Put (row.Desired d)) own key presence other = refl
   edited-actual (Put (row.Actual a)) own key presence other =
-      find_row-put_row_other place_order place_of IsKeyOrder-place_order (key, presence) a rows.actual (other_place a key presence own other)
+      find_row-put_row_other place_order place_of IsKeyOrder-place_order (key, presence) a rows.actual
+      (other_place a key presence own other)
   edited-actual (Put (row.Task t)) own key presence other = refl
   edited-actual (Put (row.Cell c)) own key presence other = refl
   edited-actual (Put (row.Domain d)) own key presence other = refl
   edited-actual (Drop (row.Desired d)) own key presence other = refl
   edited-actual (Drop (row.Actual a)) own key presence other =
-      find_row-without_row_other place_order place_of IsKeyOrder-place_order (key, presence) (place_of a) rows.actual (other_place a key presence own other)
+      find_row-without_row_other place_order place_of IsKeyOrder-place_order (key, presence) (place_of a) rows.actual
+      (other_place a key presence own other)
   edited-actual (Drop (row.Task t)) own key presence other = refl
   edited-actual (Drop (row.Cell c)) own key presence other = refl
   edited-actual (Drop (row.Domain d)) own key presence other = refl
 
-  edited-tasks : (edit : Edit) → IsOwn asked (row_in edit) → (q : List ℕ) → task_in asked ≢ Some q → find_task (edited rows edit) q ≡ find_task rows q
+  edited-tasks : (edit : Edit) → IsOwn asked (row_in edit) → (q : List ℕ) → task_in asked ≢ Some q
+      → find_task (edited rows edit) q ≡ find_task rows q
   edited-tasks (Put (row.Desired d)) own q other = refl
   edited-tasks (Put (row.Actual a)) own q other = refl
   edited-tasks (Put (row.Task t)) own q other =
-      find_row-put_row_other name_order task_name_of IsKeyOrder-name_order q t rows.tasks (other_key (task_in asked) t.name q own other)
+      find_row-put_row_other name_order task_name_of IsKeyOrder-name_order q t rows.tasks
+      (other_key (task_in asked) t.name q own other)
   edited-tasks (Put (row.Cell c)) own q other = refl
   edited-tasks (Put (row.Domain d)) own q other = refl
   edited-tasks (Drop (row.Desired d)) own q other = refl
   edited-tasks (Drop (row.Actual a)) own q other = refl
   edited-tasks (Drop (row.Task t)) own q other =
-      find_row-without_row_other name_order task_name_of IsKeyOrder-name_order q t.name rows.tasks (other_key (task_in asked) t.name q own other)
+      find_row-without_row_other name_order task_name_of IsKeyOrder-name_order q t.name rows.tasks
+      (other_key (task_in asked) t.name q own other)
   edited-tasks (Drop (row.Cell c)) own q other = refl
   edited-tasks (Drop (row.Domain d)) own q other = refl
 
-  edited-cells : (edit : Edit) → IsOwn asked (row_in edit) → (q : List ℕ) → own_cell asked ≢ Some q → find_cell (edited rows edit) q ≡ find_cell rows q
+  edited-cells : (edit : Edit) → IsOwn asked (row_in edit) → (q : List ℕ) → own_cell asked ≢ Some q
+      → find_cell (edited rows edit) q ≡ find_cell rows q
   edited-cells (Put (row.Desired d)) own q other = refl
   edited-cells (Put (row.Actual a)) own q other = refl
   edited-cells (Put (row.Task t)) own q other = refl
   edited-cells (Put (row.Cell c)) own q other =
-      find_row-put_row_other name_order cell_name_of IsKeyOrder-name_order q c rows.cells (other_key (own_cell asked) c.cell q own other)
+      find_row-put_row_other name_order cell_name_of IsKeyOrder-name_order q c rows.cells
+      (other_key (own_cell asked) c.cell q own other)
   edited-cells (Put (row.Domain d)) own q other = refl
   edited-cells (Drop (row.Desired d)) own q other = refl
   edited-cells (Drop (row.Actual a)) own q other = refl
   edited-cells (Drop (row.Task t)) own q other = refl
   edited-cells (Drop (row.Cell c)) own q other =
-      find_row-without_row_other name_order cell_name_of IsKeyOrder-name_order q c.cell rows.cells (other_key (own_cell asked) c.cell q own other)
+      find_row-without_row_other name_order cell_name_of IsKeyOrder-name_order q c.cell rows.cells
+      (other_key (own_cell asked) c.cell q own other)
   edited-cells (Drop (row.Domain d)) own q other = refl
 
   edited-domains : (edit : Edit) → IsOwn asked (row_in edit) → (q : List ℕ) → domain_in asked ≢ Some q
@@ -125,11 +139,13 @@ module _ (rows : Rows) (asked : Op) where
     domains = λ q other. refl;
   }
 
-edits_keep : (rows : Rows) (asked : Op) (edit : Option Edit) → IsOwnAgain rows asked edit → KeepsOthers asked rows (edited_again rows edit)
+edits_keep : (rows : Rows) (asked : Op) (edit : Option Edit) → IsOwnAgain rows asked edit
+    → KeepsOthers asked rows (edited_again rows edit)
 edits_keep rows asked None own = same_keeps rows asked
 edits_keep rows asked (Some edit) own = edit_keeps rows asked edit own.own
 
-attempt_keeps : (rows : Rows) (asked : Op) (attempt : Attempt) → AreOwn rows asked attempt → KeepsOthers asked rows (changed_by rows attempt)
+attempt_keeps : (rows : Rows) (asked : Op) (attempt : Attempt) → AreOwn rows asked attempt
+    → KeepsOthers asked rows (changed_by rows attempt)
 attempt_keeps rows asked (Refuse why) own = same_keeps rows asked
 attempt_keeps rows asked Keep own = same_keeps rows asked
 attempt_keeps rows asked (Change first second) own =

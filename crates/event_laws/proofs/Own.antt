@@ -101,7 +101,8 @@ module _ (rows : Rows) (now : Moment) where
     pub presence : a.presence ≡ as_asked
     pub stands : find_actual rows a.key a.presence ≡ Some a
 
-  found_as : (presence : Presence) (q : Option Key) (a : Actual) → option_and_then (λ key. find_actual rows key presence) q ≡ Some a → IsFoundAs presence q a
+  found_as : (presence : Presence) (q : Option Key) (a : Actual)
+      → option_and_then (λ key. find_actual rows key presence) q ≡ Some a → IsFoundAs presence q a
   found_as presence None a known = cc
   found_as presence (Some key) a known =
       let place = key-find_row place_order place_of IsKeyOrder-place_order (key, presence) a rows.actual known in
@@ -121,21 +122,28 @@ module _ (rows : Rows) (now : Moment) where
   -- processes
   desires : (d : Desired) → let asked = op.Desire d in AreOwn rows asked (attempt_at (found_by rows asked) now asked)
   desires d = let asked = op.Desire d in
-      by_passing (AreOwn rows asked) (λ _. tt) (desire_refusals (found_by rows asked) d) (put (row.Desired d)) (λ _. puts asked (row.Desired d) refl)
+      by_passing (AreOwn rows asked) (λ _. tt) (desire_refusals (found_by rows asked) d) (put (row.Desired d))
+      (λ _. puts asked (row.Desired d) refl)
 
-  updates : (process : List ℕ) (instances : ℕ) (route : Option (List ℕ)) (port : ℕ) → let asked = op.Update process instances route port in
+  updates : (process : List ℕ) (instances : ℕ) (route : Option (List ℕ)) (port : ℕ)
+      → let asked = op.Update process instances route port in
       AreOwn rows asked (attempt_at (found_by rows asked) now asked)
   updates process instances route port =
       let asked = op.Update process instances route port in
       let found = found_by rows asked in
-      let new = λ (old : Desired). let d : Desired = record old { instances = instances; route = route; port = port } in d in
-      let resized = λ (old : Desired). unless_refused (resize_refusals found old instances) (put (row.Desired (new old))) in
-      by_knowing (AreOwn rows asked) (λ _. tt) found.desired (λ old. cond (asks_for old instances route port) Keep (resized old)) (λ old known.
+      let new = λ (old : Desired). let d : Desired = record old { instances = instances; route = route; port = port } in
+      d in
+      let resized = λ (old : Desired). unless_refused (resize_refusals found old instances)
+      (put (row.Desired (new old))) in
+      by_knowing (AreOwn rows asked) (λ _. tt) found.desired
+      (λ old. cond (asks_for old instances route port) Keep (resized old)) (λ old known.
       by_test (AreOwn rows asked) (λ _. tt) (asks_for old instances route port) Keep (resized old) (λ _. tt) (λ _.
       by_passing (AreOwn rows asked) (λ _. tt) (resize_refusals found old instances) (put (row.Desired (new old))) (λ _.
-      puts asked (row.Desired (new old)) (at_its_key name_order process_of IsKeyOrder-name_order rows.desired (Some process) old known).0)))
+      puts asked (row.Desired (new old)) (at_its_key name_order process_of IsKeyOrder-name_order rows.desired
+      (Some process) old known).0)))
 
-  undesires : (process : List ℕ) → let asked = op.Undesire process in AreOwn rows asked (attempt_at (found_by rows asked) now asked)
+  undesires : (process : List ℕ) → let asked = op.Undesire process in
+      AreOwn rows asked (attempt_at (found_by rows asked) now asked)
   undesires process =
       let asked = op.Undesire process in
       by_knowing (AreOwn rows asked) (λ _. tt) (found_by rows asked).desired (λ d. drop_row (row.Desired d)) (λ d known.
@@ -149,29 +157,41 @@ module _ (rows : Rows) (now : Moment) where
       by_passing (AreOwn rows asked) (λ _. tt) (make_refusals (found_by rows asked) key) (put (row.Actual new)) (λ _.
       puts asked (row.Actual new) refl)
 
-  own_as : (asked : Op) (presence : Presence) (new old : Actual) → own_instance asked presence ≡ Some old.key → old.presence ≡ presence → place_of new ≡ place_of old
+  own_as : (asked : Op) (presence : Presence) (new old : Actual) → own_instance asked presence ≡ Some old.key
+      → old.presence ≡ presence → place_of new ≡ place_of old
       → own_instance asked new.presence ≡ Some new.key
   own_as asked presence new old key same place =
-      ap (own_instance asked) (ap (λ (p : Key × Presence). p.1) place ∙ same) ∙ key ∙ ap (λ (p : Key × Presence). Some p.0) (sym place)
+      ap (own_instance asked) (ap (λ (p : Key × Presence). p.1) place ∙ same) ∙ key ∙ ap
+      (λ (p : Key × Presence). Some p.0) (sym place)
 
-  moves_to : (asked : Op) (old : Actual) (e : MoveEnd) → IsFoundAs Ordinary (key_in asked) old → KeepsPlace old e → AreOwn rows asked (moved_to old e)
-  moves_to asked old (end.Changed new) known place = puts asked (row.Actual new) (own_as asked Ordinary new old known.key known.presence place)
-  moves_to asked old end.Gone known place = drops asked (row.Actual old) (own_as asked Ordinary old old known.key known.presence refl) known.stands
+  moves_to : (asked : Op) (old : Actual) (e : MoveEnd) → IsFoundAs Ordinary (key_in asked) old → KeepsPlace old e
+      → AreOwn rows asked (moved_to old e)
+  moves_to asked old (end.Changed new) known place = puts asked (row.Actual new)
+      (own_as asked Ordinary new old known.key known.presence place)
+  moves_to asked old end.Gone known place = drops asked (row.Actual old)
+      (own_as asked Ordinary old old known.key known.presence refl) known.stands
   moves_to asked old end.Same known place = tt
   moves_to asked old (end.Refused because) known place = tt
 
-  moves : (asked : Op) (move : LrpMove) → AreOwn rows asked (if_known (found_by rows asked).ordinary (λ old. moved_to old (lrp_move old move now)))
+  moves : (asked : Op) (move : LrpMove) → AreOwn rows asked
+      (if_known (found_by rows asked).ordinary (λ old. moved_to old (lrp_move old move now)))
   moves asked move =
-      by_knowing (AreOwn rows asked) (λ _. tt) (found_by rows asked).ordinary (λ old. moved_to old (lrp_move old move now)) (λ old known.
-      moves_to asked old (lrp_move old move now) (found_as Ordinary (key_in asked) old known) (KeepsPlace-lrp_move old move now))
+      by_knowing (AreOwn rows asked) (λ _. tt) (found_by rows asked).ordinary
+      (λ old. moved_to old (lrp_move old move now)) (λ old known.
+      moves_to asked old (lrp_move old move now) (found_as Ordinary (key_in asked) old known)
+      (KeepsPlace-lrp_move old move now))
 
   moves_by_cell : (asked : Op) (epoch : ℕ) (move : LrpMove)
-      → AreOwn rows asked (if_known (found_by rows asked).ordinary (λ old. if_joined (found_by rows asked).cell epoch (λ cell. moved_to old (lrp_move old move now))))
+      → AreOwn rows asked (if_known (found_by rows asked).ordinary
+      (λ old. if_joined (found_by rows asked).cell epoch (λ cell. moved_to old (lrp_move old move now))))
   moves_by_cell asked epoch move =
       let found = found_by rows asked in
-      by_knowing (AreOwn rows asked) (λ _. tt) found.ordinary (λ old. if_joined found.cell epoch (λ cell. moved_to old (lrp_move old move now))) (λ old known.
-      by_joining (AreOwn rows asked) (λ _. tt) found.cell epoch (λ cell. moved_to old (lrp_move old move now)) (λ cell joined same.
-      moves_to asked old (lrp_move old move now) (found_as Ordinary (key_in asked) old known) (KeepsPlace-lrp_move old move now)))
+      by_knowing (AreOwn rows asked) (λ _. tt) found.ordinary
+      (λ old. if_joined found.cell epoch (λ cell. moved_to old (lrp_move old move now))) (λ old known.
+      by_joining (AreOwn rows asked) (λ _. tt) found.cell epoch (λ cell. moved_to old (lrp_move old move now))
+      (λ cell joined same.
+      moves_to asked old (lrp_move old move now) (found_as Ordinary (key_in asked) old known)
+      (KeepsPlace-lrp_move old move now)))
 
   -- a row aside is the command's own by its presence
   keeps : (asked : Op) (presence : Presence) (key : Key) → key_in asked ≡ Some key
@@ -191,7 +211,8 @@ module _ (rows : Rows) (now : Moment) where
       let stays = λ (old : Actual). Refuse (stays_because old.state instance) in
       let step = λ (old : Actual). cond (is_running_as old.state instance) (drop_row (row.Actual old)) (stays old) in
       by_knowing (AreOwn rows asked) (λ _. tt) (find_actual rows key presence) step (λ old known.
-      by_test (AreOwn rows asked) (λ _. tt) (is_running_as old.state instance) (drop_row (row.Actual old)) (stays old) (λ _.
+      by_test (AreOwn rows asked) (λ _. tt) (is_running_as old.state instance) (drop_row (row.Actual old)) (stays old)
+      (λ _.
       let at = found_as presence (Some key) old known in
       drops asked (row.Actual old) (own_as asked presence old old (is_own ∙ at.key) at.presence refl) at.stands)
       (λ _. tt))
@@ -215,57 +236,77 @@ module _ (rows : Rows) (now : Moment) where
   begins : (name : List ℕ) (memory disk : ℕ) (tag : Option (List ℕ)) → let asked = op.NewTask name memory disk tag in
       AreOwn rows asked (attempt_at (found_by rows asked) now asked)
   begins name memory disk tag = let asked = op.NewTask name memory disk tag in
-      by_passing (AreOwn rows asked) (λ _. tt) (new_task_refusals (found_by rows asked)) _ (λ _. puts asked (row.Task _) refl)
+      by_passing (AreOwn rows asked) (λ _. tt) (new_task_refusals (found_by rows asked)) _
+      (λ _. puts asked (row.Task _) refl)
 
-  ends_as : (asked : Op) (old : Task) (e : TaskEnd) → (task_in asked ≡ Some old.name) × (find_task rows old.name ≡ Some old) → KeepsTask old now e
+  ends_as : (asked : Op) (old : Task) (e : TaskEnd) → (task_in asked ≡ Some old.name)
+      × (find_task rows old.name ≡ Some old) → KeepsTask old now e
       → AreOwn rows asked (tasks.task_moved_to old e)
-  ends_as asked old (ended.Changed new) known same = puts asked (row.Task new) (known.0 ∙ ap (λ n. Some n) (sym same.task.name))
+  ends_as asked old (ended.Changed new) known same = puts asked (row.Task new)
+      (known.0 ∙ ap (λ n. Some n) (sym same.task.name))
   ends_as asked old ended.Gone known same = drops asked (row.Task old) known.0 known.1
   ends_as asked old ended.Same known same = tt
   ends_as asked old (ended.Refused because) known same = tt
 
-  ends : (asked : Op) (old : Task) (move : TaskMove) → (found_by rows asked).task ≡ Some old → AreOwn rows asked (tasks.task_moved_to old (task_move old move now))
+  ends : (asked : Op) (old : Task) (move : TaskMove) → (found_by rows asked).task ≡ Some old
+      → AreOwn rows asked (tasks.task_moved_to old (task_move old move now))
   ends asked old move known =
-      ends_as asked old (task_move old move now) (at_its_key name_order task_name_of IsKeyOrder-name_order rows.tasks (task_in asked) old known) (KeepsTask-task_move old move now)
+      ends_as asked old (task_move old move now) (at_its_key name_order task_name_of IsKeyOrder-name_order rows.tasks
+      (task_in asked) old known) (KeepsTask-task_move old move now)
 
   runs : (asked : Op) (move : TaskMove) → AreOwn rows asked (tasks.move_task (found_by rows asked) move now)
   runs asked move =
-      by_knowing (AreOwn rows asked) (λ _. tt) (found_by rows asked).task (λ old. tasks.task_moved_to old (task_move old move now)) (λ old known. ends asked old move known)
+      by_knowing (AreOwn rows asked) (λ _. tt) (found_by rows asked).task
+      (λ old. tasks.task_moved_to old (task_move old move now)) (λ old known. ends asked old move known)
 
-  runs_by_cell : (asked : Op) (epoch : ℕ) (move : TaskMove) → AreOwn rows asked (tasks.move_task_by_cell (found_by rows asked) epoch move now)
+  runs_by_cell : (asked : Op) (epoch : ℕ) (move : TaskMove)
+      → AreOwn rows asked (tasks.move_task_by_cell (found_by rows asked) epoch move now)
   runs_by_cell asked epoch move =
       let found = found_by rows asked in
-      by_knowing (AreOwn rows asked) (λ _. tt) found.task (λ old. if_joined found.cell epoch (λ cell. tasks.task_moved_to old (task_move old move now))) (λ old known.
-      by_joining (AreOwn rows asked) (λ _. tt) found.cell epoch (λ cell. tasks.task_moved_to old (task_move old move now)) (λ cell joined same. ends asked old move known))
+      by_knowing (AreOwn rows asked) (λ _. tt) found.task (λ old.
+      if_joined found.cell epoch (λ cell. tasks.task_moved_to old (task_move old move now))) (λ old known.
+      by_joining (AreOwn rows asked) (λ _. tt) found.cell epoch
+      (λ cell. tasks.task_moved_to old (task_move old move now)) (λ cell joined same. ends asked old move known))
 
   -- cells
-  joins : (cell zone : List ℕ) (tag : Option (List ℕ)) (totals : Amounts) (ttl : ℕ) → let asked = op.Join cell zone tag totals ttl in
+  joins : (cell zone : List ℕ) (tag : Option (List ℕ)) (totals : Amounts) (ttl : ℕ)
+      → let asked = op.Join cell zone tag totals ttl in
       AreOwn rows asked (attempt_at (found_by rows asked) now asked)
   joins cell zone tag totals ttl = let asked = op.Join cell zone tag totals ttl in
-      by_passing (AreOwn rows asked) (λ _. tt) (join_refusals (found_by rows asked)) _ (λ _. puts asked (row.Cell _) refl)
+      by_passing (AreOwn rows asked) (λ _. tt) (join_refusals (found_by rows asked)) _
+      (λ _. puts asked (row.Cell _) refl)
 
-  cell_at : (cell : List ℕ) (c : CellRow) → find_cell rows cell ≡ Some c → (Some cell ≡ Some c.cell) × (find_cell rows c.cell ≡ Some c)
+  cell_at : (cell : List ℕ) (c : CellRow) → find_cell rows cell ≡ Some c
+      → (Some cell ≡ Some c.cell) × (find_cell rows c.cell ≡ Some c)
   cell_at cell c known = at_its_key name_order cell_name_of IsKeyOrder-name_order rows.cells (Some cell) c known
 
-  renews : (cell : List ℕ) (epoch ttl : ℕ) → let asked = op.Renew cell epoch ttl in AreOwn rows asked (attempt_at (found_by rows asked) now asked)
+  renews : (cell : List ℕ) (epoch ttl : ℕ) → let asked = op.Renew cell epoch ttl in
+      AreOwn rows asked (attempt_at (found_by rows asked) now asked)
   renews cell epoch ttl =
       let asked = op.Renew cell epoch ttl in
       let new = λ (old : CellRow). let c : CellRow = record old { until = now.0 + ttl } in c in
-      by_joining (AreOwn rows asked) (λ _. tt) (found_by rows asked).cell epoch (λ old. cond (old.until == now.0 + ttl) Keep (put (row.Cell (new old)))) (λ old known same.
-      by_test (AreOwn rows asked) (λ _. tt) (old.until == now.0 + ttl) Keep (put (row.Cell (new old))) (λ _. tt) (λ _. puts asked (row.Cell (new old)) (cell_at cell old known).0))
+      by_joining (AreOwn rows asked) (λ _. tt) (found_by rows asked).cell epoch
+      (λ old. cond (old.until == now.0 + ttl) Keep (put (row.Cell (new old)))) (λ old known same.
+      by_test (AreOwn rows asked) (λ _. tt) (old.until == now.0 + ttl) Keep (put (row.Cell (new old))) (λ _. tt)
+      (λ _. puts asked (row.Cell (new old)) (cell_at cell old known).0))
 
-  drains : (cell : List ℕ) (epoch : ℕ) → let asked = op.Drain cell epoch in AreOwn rows asked (attempt_at (found_by rows asked) now asked)
+  drains : (cell : List ℕ) (epoch : ℕ) → let asked = op.Drain cell epoch in
+      AreOwn rows asked (attempt_at (found_by rows asked) now asked)
   drains cell epoch =
       let asked = op.Drain cell epoch in
       let new = λ (old : CellRow). let c : CellRow = record old { evacuating = true } in c in
-      by_joining (AreOwn rows asked) (λ _. tt) (found_by rows asked).cell epoch (λ old. cond old.evacuating Keep (put (row.Cell (new old)))) (λ old known same.
-      by_test (AreOwn rows asked) (λ _. tt) old.evacuating Keep (put (row.Cell (new old))) (λ _. tt) (λ _. puts asked (row.Cell (new old)) (cell_at cell old known).0))
+      by_joining (AreOwn rows asked) (λ _. tt) (found_by rows asked).cell epoch
+      (λ old. cond old.evacuating Keep (put (row.Cell (new old)))) (λ old known same.
+      by_test (AreOwn rows asked) (λ _. tt) old.evacuating Keep (put (row.Cell (new old))) (λ _. tt)
+      (λ _. puts asked (row.Cell (new old)) (cell_at cell old known).0))
 
-  vanishes_as : (cell : List ℕ) (old : Option CellRow) → find_cell rows cell ≡ old → AreOwn rows (op.Vanish cell) (vanish old now)
+  vanishes_as : (cell : List ℕ) (old : Option CellRow) → find_cell rows cell ≡ old
+      → AreOwn rows (op.Vanish cell) (vanish old now)
   vanishes_as cell None known = tt
   vanishes_as cell (Some old) known =
       let asked = op.Vanish cell in
-      by_test (AreOwn rows asked) (λ _. tt) (nat_lt now.0 old.until) (Refuse (why.LeaseHolds old.until)) (drop_row (row.Cell old)) (λ _. tt) (λ _.
+      by_test (AreOwn rows asked) (λ _. tt) (nat_lt now.0 old.until) (Refuse (why.LeaseHolds old.until))
+      (drop_row (row.Cell old)) (λ _. tt) (λ _.
       let at = cell_at cell old known in drops asked (row.Cell old) at.0 at.1)
 
   -- domains
@@ -303,8 +344,10 @@ module _ (rows : Rows) (now : Moment) where
   own-attempt (op.Update process instances route port) = updates process instances route port
   own-attempt (op.Undesire process) = undesires process
   own-attempt (op.Make key) = makes key
-  own-attempt (op.Claim key instance cell) = moves_by_cell (op.Claim key instance cell) instance.epoch (lrp.Claim instance cell)
-  own-attempt (op.Start key instance cell) = moves_by_cell (op.Start key instance cell) instance.epoch (lrp.Start instance cell)
+  own-attempt (op.Claim key instance cell) = moves_by_cell (op.Claim key instance cell) instance.epoch
+      (lrp.Claim instance cell)
+  own-attempt (op.Start key instance cell) = moves_by_cell (op.Start key instance cell) instance.epoch
+      (lrp.Start instance cell)
   own-attempt (op.Crash key instance) = moves (op.Crash key instance) (lrp.Crash instance)
   own-attempt (op.Unclaim key instance) = moves (op.Unclaim key instance) (lrp.Unclaim instance)
   own-attempt (op.Restart key) = moves (op.Restart key) lrp.Restart
@@ -314,8 +357,10 @@ module _ (rows : Rows) (now : Moment) where
   own-attempt (op.DropEvacuating key instance) =
       drops_aside (op.DropEvacuating key instance) Evacuating key refl instance
   own-attempt (op.NewTask name memory disk tag) = begins name memory disk tag
-  own-attempt (op.StartTask name instance cell) = runs_by_cell (op.StartTask name instance cell) instance.epoch (task.Start instance cell)
-  own-attempt (op.CompleteTask name instance failed) = runs (op.CompleteTask name instance failed) (task.Complete instance failed)
+  own-attempt (op.StartTask name instance cell) = runs_by_cell (op.StartTask name instance cell) instance.epoch
+      (task.Start instance cell)
+  own-attempt (op.CompleteTask name instance failed) = runs (op.CompleteTask name instance failed)
+      (task.Complete instance failed)
   own-attempt (op.CancelTask name) = runs (op.CancelTask name) task.Cancel
   own-attempt (op.ResolveTask name) = runs (op.ResolveTask name) task.Resolve
   own-attempt (op.DeleteTask name) = runs (op.DeleteTask name) task.Delete

@@ -27,7 +27,8 @@ use Rattle.event_laws.specs.Told.{with_change, with_event, with_events, with_sec
 use Rattle.event_laws.proofs.Own.{IsSound, IsOwnAgain, AreOwn, own-attempt}
 
 -- what is told of an edit is what it does
-with_change-put : (known : Bool) (r : Row) (rows : Rows) → with_change (cond known Changed Created) r rows ≡ with_row rows r
+with_change-put : (known : Bool) (r : Row) (rows : Rows)
+    → with_change (cond known Changed Created) r rows ≡ with_row rows r
 with_change-put true r rows = refl
 with_change-put false r rows = refl
 
@@ -35,7 +36,8 @@ with_event-edit : (rows : Rows) (edit : Edit) → with_event (event_of rows edit
 with_event-edit rows (Put r) = with_change-put (has_place_of rows r) r rows
 with_event-edit rows (Drop r) = refl
 
-due-put : (known : Bool) (r : Row) (rows : Rows) → has_place_of rows r ≡ known → FitsRows (cond known Changed Created) r rows
+due-put : (known : Bool) (r : Row) (rows : Rows) → has_place_of rows r ≡ known
+    → FitsRows (cond known Changed Created) r rows
 due-put true r rows is = is
 due-put false r rows is = is
 
@@ -45,29 +47,42 @@ due-edit rows (Drop r) sound = sound
 
 -- one edit or two
 module _ (rows : Rows) (first : Edit) where
-  all-edits : (second : Option Edit) → with_events (with_second (event_of rows first) (event_again (edited rows first) second)) rows ≡ edited_again (edited rows first) second
+  all-edits : (second : Option Edit) → with_events (with_second (event_of rows first)
+      (event_again (edited rows first) second)) rows ≡ edited_again (edited rows first) second
   all-edits None = with_event-edit rows first
   all-edits (Some second) =
-      ap (with_event (event_of (edited rows first) second)) (with_event-edit rows first) ∙ with_event-edit (edited rows first) second
+      ap (with_event (event_of (edited rows first) second)) (with_event-edit rows first) ∙ with_event-edit
+      (edited rows first) second
 
-  due-edits : (second : Option Edit) → IsSound rows first → ((edit : Edit) → second ≡ Some edit → IsSound (edited rows first) edit)
+  due-edits : (second : Option Edit) → IsSound rows first
+      → ((edit : Edit) → second ≡ Some edit → IsSound (edited rows first) edit)
       → AreDue rows (with_second (event_of rows first) (event_again (edited rows first) second))
   due-edits None one two = (due-edit rows first one, tt)
   due-edits (Some second) one two =
-      let e = event_of (edited rows first) second in
-      (due-edit rows first one, (subst (λ (r : Rows). FitsRows e.change e.row r) (sym (with_event-edit rows first)) (due-edit (edited rows first) second (two second refl)), tt))
+      let e = event_of (edited rows first) second in (
+        due-edit rows first one,
+        (
+          subst (λ (r : Rows). FitsRows e.change e.row r) (sym (with_event-edit rows first))
+              (due-edit (edited rows first) second (two second refl)),
+          tt,
+        ),
+      )
 
-sound_again : (rows : Rows) (asked : Op) (second : Option Edit) → IsOwnAgain rows asked second → (edit : Edit) → second ≡ Some edit → IsSound rows edit
+sound_again : (rows : Rows) (asked : Op) (second : Option Edit) → IsOwnAgain rows asked second → (edit : Edit)
+    → second ≡ Some edit → IsSound rows edit
 sound_again rows asked None own edit is = cc
-sound_again rows asked (Some other) own edit is = let one : other ≡ edit = cc in subst (λ (x : Edit). IsSound rows x) one own.sound
+sound_again rows asked (Some other) own edit is = let one : other ≡ edit = cc in
+    subst (λ (x : Edit). IsSound rows x) one own.sound
 
 pub tells_all : (rows : Rows) (c : Command) → IsLegal rows c → TellsAll rows c
 tells_all rows c legal =
     let change = legal_changes rows c legal in
     let first = change.first in
     let second = change.second in
-    let own : AreOwn rows c.op (Changes first second) = subst (λ (a : Attempt). AreOwn rows c.op a) change.is (own-attempt rows c.now c.op) in
-    let after : rows_after rows c ≡ changed_by rows (Changes first second) = ap (λ (a : Attempt). changed_by rows a) change.is in
+    let own : AreOwn rows c.op (Changes first second) = subst (λ (a : Attempt). AreOwn rows c.op a) change.is
+    (own-attempt rows c.now c.op) in
+    let after : rows_after rows c ≡ changed_by rows (Changes first second) =
+    ap (λ (a : Attempt). changed_by rows a) change.is in
     record {
       events = record { first = event_of rows first; second = event_again (edited rows first) second };
       told = ap (λ (a : Attempt). events_in rows a) change.is;
@@ -78,7 +93,8 @@ tells_all rows c legal =
     }
 
 -- who follows the events has the rows
-follows-rows : (rows : Rows) (cs : List Command) → AreLegal rows cs → replay rows cs ≡ after_all rows (told_of_commands rows cs)
+follows-rows : (rows : Rows) (cs : List Command) → AreLegal rows cs
+    → replay rows cs ≡ after_all rows (told_of_commands rows cs)
 follows-rows rows [] legal = refl
 follows-rows rows (c ∷ cs) legal =
     let tells = tells_all rows c legal.0 in
@@ -90,7 +106,8 @@ follows-each : (rows : Rows) (cs : List Command) → AreLegal rows cs → length
 follows-each rows [] legal = refl
 follows-each rows (c ∷ cs) legal =
     let later = told_of_commands (rows_after rows c) cs in
-    ap (λ (t : Option Events). length (told_before t later)) (tells_all rows c legal.0).told ∙ ap (λ n. suc n) (follows-each (rows_after rows c) cs legal.1)
+    ap (λ (t : Option Events). length (told_before t later)) (tells_all rows c legal.0).told ∙ ap (λ n. suc n)
+    (follows-each (rows_after rows c) cs legal.1)
 
 pub follows : (rows : Rows) (cs : List Command) → FollowsTheBoard rows cs
 follows rows cs = record { rows_are = follows-rows rows cs; each = follows-each rows cs }
@@ -105,12 +122,17 @@ Stands-with_row rows (row.Domain d) =
     find_row-put_row_same name_order domain_name_of IsKeyOrder-name_order d rows.domains
 
 free-without : (rows : Rows) (r : Row) → has_place_of (without_place_of rows r) r ≡ false
-free-without rows (row.Desired d) = ap (λ o. is_some o) (find_row-without_row_same name_order process_of IsKeyOrder-name_order d.process rows.desired)
-free-without rows (row.Actual a) = ap (λ o. is_some o) (find_row-without_row_same place_order place_of IsKeyOrder-place_order (place_of a) rows.actual)
-free-without rows (row.Task t) = ap (λ o. is_some o) (find_row-without_row_same name_order task_name_of IsKeyOrder-name_order t.name rows.tasks)
-free-without rows (row.Cell c) = ap (λ o. is_some o) (find_row-without_row_same name_order cell_name_of IsKeyOrder-name_order c.cell rows.cells)
+free-without rows (row.Desired d) = ap (λ o. is_some o)
+    (find_row-without_row_same name_order process_of IsKeyOrder-name_order d.process rows.desired)
+free-without rows (row.Actual a) = ap (λ o. is_some o)
+    (find_row-without_row_same place_order place_of IsKeyOrder-place_order (place_of a) rows.actual)
+free-without rows (row.Task t) = ap (λ o. is_some o) (find_row-without_row_same name_order task_name_of
+    IsKeyOrder-name_order t.name rows.tasks)
+free-without rows (row.Cell c) = ap (λ o. is_some o) (find_row-without_row_same name_order cell_name_of
+    IsKeyOrder-name_order c.cell rows.cells)
 free-without rows (row.Domain d) =
-    ap (λ o. is_some o) (find_row-without_row_same name_order domain_name_of IsKeyOrder-name_order d.domain rows.domains)
+    ap (λ o. is_some o) (find_row-without_row_same name_order domain_name_of IsKeyOrder-name_order d.domain
+    rows.domains)
 
 shown : (change : Change) (r : Row) (rows : Rows) → IsShown change r (with_change change r rows)
 shown Created r rows = Stands-with_row rows r
@@ -138,7 +160,8 @@ shown-advanced Removed (row.Task t) rows h = h
 shown-advanced Removed (row.Cell c) rows h = h
 shown-advanced Removed (row.Domain d) rows h = h
 
-said : (change : Change) (r : Row) (old new : Rows) → FitsRows change r old → IsShown change r new → SaysSo change r old new
+said : (change : Change) (r : Row) (old new : Rows) → FitsRows change r old → IsShown change r new
+    → SaysSo change r old new
 said Created r old new due after = (due, after)
 said Changed r old new due after = (due, after)
 said Removed r old new due after = (due, after)
@@ -146,8 +169,10 @@ said Removed r old new due after = (due, after)
 says : (e : Event) (old : Rows) → FitsRows e.change e.row old → SaysSo e.change e.row old (with_event e old)
 says e old due = said e.change e.row old (with_event e old) due (shows old e)
 
-says_last : (e : Event) (old : Rows) → FitsRows e.change e.row old → SaysSo e.change e.row old (advanced (with_event e old))
-says_last e old due = said e.change e.row old (advanced (with_event e old)) due (shown-advanced e.change e.row (with_event e old) (shows old e))
+says_last : (e : Event) (old : Rows) → FitsRows e.change e.row old
+    → SaysSo e.change e.row old (advanced (with_event e old))
+says_last e old due = said e.change e.row old (advanced (with_event e old)) due
+    (shown-advanced e.change e.row (with_event e old) (shows old e))
 
 true_as : (old : Rows) (first : Event) (second : Option Event) → AreDue old (with_second first second)
     → AreTrue old (advanced (with_events (with_second first second) old)) (record { first = first; second = second })

@@ -15,7 +15,8 @@ believed_ok : (ok : Bool) (rest : Bool) → not ok ≡ true → (not ok || rest)
 believed_ok true rest is = absurd (cc)
 believed_ok false rest is = refl
 
-refusal_agrees : (first : First) (history : List Call) (call : Call) → refuses call ≡ true → agrees first call history ≡ true
+refusal_agrees : (first : First) (history : List Call) (call : Call) → refuses call ≡ true
+    → agrees first call history ≡ true
 refusal_agrees first history began is = refl
 refusal_agrees first history (means area at len) is = refl
 refusal_agrees first history (measured area ok count) is = believed_ok ok _ is
@@ -46,10 +47,13 @@ some_or_end count len at ends = elim (leb_tells count 0) [
   | inr some ↦ rw (lt-ltb 0 count some.1) refl
 ]
 
-gives_taken : (reads : List ℕ) (at count : ℕ) → count ≤ length reads - at → (count ≡ 0 → length reads ≤ at) → gives reads at (take count (drop at reads)) ≡ true
+gives_taken : (reads : List ℕ) (at count : ℕ) → count ≤ length reads - at → (count ≡ 0 → length reads ≤ at)
+    → gives reads at (take count (drop at reads)) ≡ true
 gives_taken reads at count within ends =
-    let len : length (take count (drop at reads)) ≡ count = omega (arith, length-take count (drop at reads), length-drop at reads) in
-    and_both _ _ ((bytes_eq-Decides (take (length (take count (drop at reads))) (drop at reads)) (take count (drop at reads))).1 (ap (λ (n : ℕ). take n (drop at reads)) len))
+    let len : length (take count (drop at reads)) ≡ count =
+    omega (arith, length-take count (drop at reads), length-drop at reads) in
+    and_both _ _ ((bytes_eq-Decides (take (length (take count (drop at reads))) (drop at reads))
+    (take count (drop at reads))).1 (ap (λ (n : ℕ). take n (drop at reads)) len))
     (ap (λ (n : ℕ). nat_lt 0 n || nat_le (length reads) at) len ∙ some_or_end count (length reads) at ends)
 
 pub believes : (first : First) (history : List Call) → is_honest first history ≡ true → Believes first history
@@ -57,14 +61,16 @@ believes first history honest = record {
   began_is = honest;
   means_is = λ area at len. honest;
   lengths = λ area. and_both _ _ (eq-eqb _ _ refl) honest;
-  bytes = λ area at count within ends. and_both _ _ (gives_taken (held_by first area history).reads at count within ends) honest;
+  bytes = λ area at count within ends. and_both _ _ (gives_taken
+      (held_by first area history).reads at count within ends) honest;
   writes = λ area at bytes. honest;
   names = λ area none. and_both _ _ (not_false _ none) honest;
   syncs = λ area none. and_both _ _ (not_false _ none) honest;
   refusals = λ call is. and_both _ _ (refusal_agrees first history call is) honest;
 }
 
-other_bytes : (reads : List ℕ) (at : ℕ) (bytes : List ℕ) → take (length bytes) (drop at reads) ≢ bytes → gives reads at bytes ≡ false
+other_bytes : (reads : List ℕ) (at : ℕ) (bytes : List ℕ) → take (length bytes) (drop at reads) ≢ bytes
+    → gives reads at bytes ≡ false
 other_bytes reads at bytes other = elim (cases_Bool (bytes_eq (take (length bytes) (drop at reads)) bytes)) [
   | inl same ↦ absurd (other ((bytes_eq-Decides (take (length bytes) (drop at reads)) bytes).0 same))
   | inr differs ↦ and_false _ _ differs

@@ -58,19 +58,24 @@ syncs_spare area (flushed here ok) is n held = rw (apart area here is) refl
 -- calls that put names on the disk are among those of a sync
 all_wider : (area : Area) (calls : List Call) → list_all is_naming calls ≡ true → list_all (syncs area) calls ≡ true
 all_wider area [] all = refl
-all_wider area (call ∷ calls) all = and_both (syncs area call) _ (naming_syncs area call (and_first (is_naming call) _ all)) (all_wider area calls (and_second (is_naming call) _ all))
+all_wider area (call ∷ calls) all = and_both (syncs area call) _
+    (naming_syncs area call (and_first (is_naming call) _ all))
+    (all_wider area calls (and_second (is_naming call) _ all))
 
 pub adds_wider : (area : Area) (old new : List Call) → AddsCalls is_naming old new → AddsCalls (syncs area) old new
 adds_wider area old new adds = (adds.0, adds.1, all_wider area adds.0 adds.2)
 
-pub sync_adds : (area : Area) (ok : Bool) (old new : List Call) → new ≡ flushed area ok ∷ old → AddsCalls (syncs area) old new
+pub sync_adds : (area : Area) (ok : Bool) (old new : List Call) → new ≡ flushed area ok ∷ old
+    → AddsCalls (syncs area) old new
 sync_adds area ok old new noted = adds_one (syncs area) old new (flushed area ok) (area_here area) noted
 
-pub name_adds : (area : Area) (ok : Bool) (old new : List Call) → new ≡ named area ok ∷ old → AddsCalls is_naming old new
+pub name_adds : (area : Area) (ok : Bool) (old new : List Call) → new ≡ named area ok ∷ old
+    → AddsCalls is_naming old new
 name_adds area ok old new noted = adds_one is_naming old new (named area ok) refl noted
 
 -- names that are put on the disk leave the files unsynced
-unsynced_call : (area : Area) (call : Call) (old : List Call) → is_naming call ≡ true → was_synced area (call ∷ old) ≡ was_synced area old
+unsynced_call : (area : Area) (call : Call) (old : List Call) → is_naming call ≡ true
+    → was_synced area (call ∷ old) ≡ was_synced area old
 unsynced_call area (measured here ok count) old is = refl
 unsynced_call area began old is = absurd (cc)
 unsynced_call area (means here at len) old is = refl
@@ -79,11 +84,14 @@ unsynced_call area (written here at ok bytes) old is = refl
 unsynced_call area (named here ok) old is = refl
 unsynced_call area (flushed here ok) old is = absurd (cc)
 
-unsynced_more : (area : Area) (old calls : List Call) → list_all is_naming calls ≡ true → was_synced area (calls ++ old) ≡ was_synced area old
+unsynced_more : (area : Area) (old calls : List Call) → list_all is_naming calls ≡ true
+    → was_synced area (calls ++ old) ≡ was_synced area old
 unsynced_more area old [] all = refl
-unsynced_more area old (call ∷ calls) all = unsynced_call area call (calls ++ old) (and_first (is_naming call) _ all) ∙ unsynced_more area old calls (and_second (is_naming call) _ all)
+unsynced_more area old (call ∷ calls) all = unsynced_call area call (calls ++ old)
+    (and_first (is_naming call) _ all) ∙ unsynced_more area old calls (and_second (is_naming call) _ all)
 
-pub still_unsynced : (area : Area) (old new : List Call) → AddsCalls is_naming old new → was_synced area old ≡ false → was_synced area new ≡ false
+pub still_unsynced : (area : Area) (old new : List Call) → AddsCalls is_naming old new → was_synced area old ≡ false
+    → was_synced area new ≡ false
 still_unsynced area old new adds is = ap (was_synced area) adds.1 ∙ unsynced_more area old adds.0 adds.2 ∙ is
 
 -- a name that is on the disk stays
@@ -91,23 +99,32 @@ or_second : (a b : Bool) → b ≡ true → (a || b) ≡ true
 or_second true b is = refl
 or_second false b is = is
 
-named_more : (area : Area) (old calls : List Call) → has_its_name area old ≡ true → has_its_name area (calls ++ old) ≡ true
+named_more : (area : Area) (old calls : List Call) → has_its_name area old ≡ true
+    → has_its_name area (calls ++ old) ≡ true
 named_more area old [] is = is
 named_more area old (call ∷ calls) is = or_second (names area call) _ (named_more area old calls is)
 
-pub still_named : (kind : Call → Bool) (area : Area) (old new : List Call) → AddsCalls kind old new → has_its_name area old ≡ true → has_its_name area new ≡ true
-still_named kind area old new adds is = subst (λ (l : List Call). has_its_name area l ≡ true) (sym adds.1) (named_more area old adds.0 is)
+pub still_named : (kind : Call → Bool) (area : Area) (old new : List Call) → AddsCalls kind old new
+    → has_its_name area old ≡ true → has_its_name area new ≡ true
+still_named kind area old new adds is = subst (λ (l : List Call). has_its_name area l ≡ true) (sym adds.1)
+    (named_more area old adds.0 is)
 
 -- what a file holds whose name is on the disk, after a sync
-sync_step : (first : First) (area : Area) (ok : Bool) (old new : List Call) → has_its_name area old ≡ true → new ≡ flushed area ok ∷ old → Synced ok (held_by first area old) (held_by first area new)
+sync_step : (first : First) (area : Area) (ok : Bool) (old new : List Call) → has_its_name area old ≡ true
+    → new ≡ flushed area ok ∷ old → Synced ok (held_by first area old) (held_by first area new)
 sync_step first area true old new is noted = ap (held_by first area) noted ∙ rw (area_here area, is) refl
 sync_step first area false old new is noted = ap (held_by first area) noted ∙ rw (area_here area) refl
 
-pub sync_here : (first : First) (area : Area) (ok : Bool) (start old new : List Call) → AddsCalls is_naming start old → has_its_name area old ≡ true → new ≡ flushed area ok ∷ old → Synced ok (held_by first area start) (held_by first area new)
+pub sync_here : (first : First) (area : Area) (ok : Bool) (start old new : List Call) → AddsCalls is_naming start old
+    → has_its_name area old ≡ true → new ≡ flushed area ok ∷ old
+    → Synced ok (held_by first area start) (held_by first area new)
 sync_here first area ok start old new adds is noted =
-    subst (λ (h : Held). Synced ok h (held_by first area new)) (held_same first area is_naming (naming_spares area) start old adds) (sync_step first area ok old new is noted)
+    subst (λ (h : Held). Synced ok h (held_by first area new))
+    (held_same first area is_naming (naming_spares area) start old adds) (sync_step first area ok old new is noted)
 
 -- a sync that didn't come so far
-pub sync_none : (first : First) (area : Area) (result : Result (Unit {0}) CallError) (start old : List Call) → IsErr result → AddsCalls is_naming start old → Synced (is_ok result) (held_by first area start) (held_by first area old)
+pub sync_none : (first : First) (area : Area) (result : Result (Unit {0}) CallError) (start old : List Call)
+    → IsErr result → AddsCalls is_naming start old → Synced (is_ok result) (held_by first area start)
+    (held_by first area old)
 sync_none first area (Ok x) start old is adds = absurd (cc)
 sync_none first area (Err e) start old is adds = held_same first area is_naming (naming_spares area) start old adds

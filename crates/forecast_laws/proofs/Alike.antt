@@ -12,10 +12,12 @@ pub some_one : {X : Type 0} (x y : X) → Some x ≡ Some y → x ≡ y
 some_one x y e = cc
 
 -- what an element comes to stands among what is kept
-pub kept_inside : {X Y : Type 0} (f : X → Option Y) (xs : List X) (x : X) (y : Y) → Contains xs x → f x ≡ Some y → Contains (filter_map f xs) y
+pub kept_inside : {X Y : Type 0} (f : X → Option Y) (xs : List X) (x : X) (y : Y) → Contains xs x → f x ≡ Some y
+    → Contains (filter_map f xs) y
 kept_inside f [] x y (k, lt, at) e = absurd (omega arith)
 kept_inside {Y = Y} f (z ∷ xs) x y (zero, lt, at) e =
-    subst (λ (o : Option Y). Contains (cons_option o (filter_map f xs)) y) (sym (ap f at ∙ e)) (inside_first y (filter_map f xs))
+    subst (λ (o : Option Y). Contains (cons_option o (filter_map f xs)) y) (sym (ap f at ∙ e))
+    (inside_first y (filter_map f xs))
 kept_inside {Y = Y} f (z ∷ xs) x y (suc k, lt, at) e =
     let rest = kept_inside f xs x y (k, omega arith, at) e in
     elim (f z) as (λ (o : Option Y). Contains (cons_option o (filter_map f xs)) y) [
@@ -38,13 +40,15 @@ module _ {K X : Type 0} (R : K → K → Ordering) (key : X → K) (o : IsKeyOrd
         | false ↦ λ is. not_missed x ys (k, omega arith, at) is
       ] e
 
-  module _ (xs ys : List X) (one : (x y : X) → Contains ys x → Contains ys y → key x ≡ key y → x ≡ y) (same : HaveTheSame xs ys) where
+  module _ (xs ys : List X) (one : (x y : X) → Contains ys x → Contains ys y → key x ≡ key y → x ≡ y)
+      (same : HaveTheSame xs ys) where
     -- the only row of its key is found
     found_there : (x : X) → Contains ys x → find_row R key (key x) ys ≡ Some x
     found_there x inside =
         elim (find_row R key (key x) ys) as (λ (f : Option X). find_row R key (key x) ys ≡ f → f ≡ Some x) [
           | None ↦ λ e. absurd (not_missed x ys inside e)
-          | (Some y) ↦ λ e. ap Some (one y x (Contains-find_row R key (key x) y ys e) inside (key-find_row R key o (key x) y ys e))
+          | (Some y) ↦ λ e. ap Some (one y x (Contains-find_row R key (key x) y ys e) inside
+              (key-find_row R key o (key x) y ys e))
         ] refl
 
     found_alike : (k : K) → find_row R key k xs ≡ find_row R key k ys
@@ -54,11 +58,13 @@ module _ {K X : Type 0} (R : K → K → Ordering) (key : X → K) (o : IsKeyOrd
             | None ↦ λ e. refl
             | (Some y) ↦ λ e.
                 let has : key y ≡ k = key-find_row R key o k y ys e in
-                absurd (not_missed y xs (same.back y (Contains-find_row R key k y ys e)) (subst (λ q. find_row R key q xs ≡ None) (sym has) none))
+                absurd (not_missed y xs (same.back y (Contains-find_row R key k y ys e))
+                (subst (λ q. find_row R key q xs ≡ None) (sym has) none))
           ] refl
           | (Some x) ↦ λ e.
               let has : key x ≡ k = key-find_row R key o k x xs e in
-              sym (subst (λ q. find_row R key q ys ≡ Some x) has (found_there x (same.there x (Contains-find_row R key k x xs e))))
+              sym (subst (λ q. find_row R key q ys ≡ Some x) has
+              (found_there x (same.there x (Contains-find_row R key k x xs e))))
         ] refl
 
     -- rows that are the same, of which each is the only one of its key, have one table

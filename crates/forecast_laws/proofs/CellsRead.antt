@@ -21,7 +21,8 @@ abbrev pub stays_in : Answer → Bool
 stays_in c = not c.evacuating
 
 -- one cell more, which both leave out or neither does
-one_left : (gone : List (List ℕ × Instance)) (c x : Answer) (cs xs : List Answer) (e b : Bool) → b ≡ e → IsReadAs c (less_all gone x) → AllZip IsReadAs cs xs
+one_left : (gone : List (List ℕ × Instance)) (c x : Answer) (cs xs : List Answer) (e b : Bool) → b ≡ e
+    → IsReadAs c (less_all gone x) → AllZip IsReadAs cs xs
     → AllZip IsReadAs (cond (not e) (c ∷ cs) cs) (cons_option (cond b None (Some (less_all gone x))) xs)
 one_left gone c x cs xs true true same alike rest = rest
 one_left gone c x cs xs false false same alike rest = (alike, rest)
@@ -29,23 +30,27 @@ one_left gone c x cs xs true false same alike rest = absurd cc
 one_left gone c x cs xs false true same alike rest = absurd cc
 
 -- of cells with their answers those stay that aren't being emptied, with what is left of the answers
-pub left_alike : (rows : Rows) (gone : List (List ℕ × Instance)) (cs got : List Answer) → AllZip (IsAnswered rows gone) cs got
+pub left_alike : (rows : Rows) (gone : List (List ℕ × Instance)) (cs got : List Answer)
+    → AllZip (IsAnswered rows gone) cs got
     → AllZip IsReadAs (filter stays_in cs) (filter_map (left_open rows gone) got)
 left_alike rows gone [] [] h = tt
 left_alike rows gone [] (x ∷ got) h = absurd h
 left_alike rows gone (c ∷ cs) [] h = absurd h
 left_alike rows gone (c ∷ cs) (x ∷ got) h =
-    one_left gone c x (filter stays_in cs) (filter_map (left_open rows gone) got) c.evacuating (is_being_emptied rows x.cell) h.0.emptied h.0.alike
+    one_left gone c x (filter stays_in cs) (filter_map (left_open rows gone) got) c.evacuating
+    (is_being_emptied rows x.cell) h.0.emptied h.0.alike
     (left_alike rows gone cs got h.1)
 
 -- and these are the open ones
-pub open_same : (site : Site) (lost : List (List ℕ)) (rows : Rows) (gone : List (List ℕ × Instance)) (got : List Answer) (are : AreAnswersOf site lost rows gone got)
+pub open_same : (site : Site) (lost : List (List ℕ)) (rows : Rows) (gone : List (List ℕ × Instance)) (got : List Answer)
+    (are : AreAnswersOf site lost rows gone got)
     → HaveTheSame (open_cells site lost) (filter stays_in are.cells)
 open_same site lost rows gone got are = record {
   there = λ c inside.
       let f = from_filter (is_open lost) site.cells c inside in
       let both = both_true (not (is_lost lost c.cell)) (not c.evacuating) f.1 in
-      inside_filter stays_in are.cells c (are.kept_are.there c (inside_filter (λ x. not (is_lost lost x.cell)) site.cells c f.0 both.0)) both.1;
+      inside_filter stays_in are.cells c (are.kept_are.there c
+      (inside_filter (λ x. not (is_lost lost x.cell)) site.cells c f.0 both.0)) both.1;
   back = λ c inside.
       let f = from_filter stays_in are.cells c inside in
       let g = from_filter (λ x. not (is_lost lost x.cell)) site.cells c (are.kept_are.back c f.0) in

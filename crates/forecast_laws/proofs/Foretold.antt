@@ -30,7 +30,8 @@ use Rattle.forecast_laws.proofs.AlikeAuctions.{auction_alike, names_alike, stand
 
 -- one auction, over jobs that are the same and cells that are read alike
 one_auction : (site : Site) (lost : List (List ℕ)) (rows : Rows) (roomy : List Answer)
-    → auction_from (stands_before site lost) (in_order (jobs rows)) ≡ auction_from (stands_of roomy) (in_order (jobs rows))
+    → auction_from (stands_before site lost) (in_order (jobs rows))
+    ≡ auction_from (stands_of roomy) (in_order (jobs rows))
     → jobs_of_loss site lost ≡ in_order (jobs rows) → placements rows roomy ≡ plan site lost
 one_auction site lost rows roomy stands order = sym (ap (auction_from (stands_before site lost)) order ∙ stands)
 
@@ -52,17 +53,21 @@ plan_is_round by now line s s' r h site lost reads =
     let rows = rows_seen h.opened.view in
     let read = map stand_of reads.cells in
     let valid : IsValid p.rows = subst IsValid (sym placed.rows_are) placed.valid in
-    let answers : AreAnswers p.roomy = open_answers rows h.opened.reps h.opens.hearing.got p.roomy h.opens.heard.apart placed.open_are in
-    let apart : AllPairs (λ a b. a ≢ b) (map (λ (s : Stand). s.cell) read) = subst (AllPairs (λ a b. a ≢ b)) (names_alike reads.cells p.roomy reads.alike) answers.differ in
+    let answers : AreAnswers p.roomy = open_answers rows h.opened.reps h.opens.hearing.got p.roomy h.opens.heard.apart
+    placed.open_are in
+    let apart : AllPairs (λ a b. a ≢ b) (map (λ (s : Stand). s.cell) read) =
+    subst (AllPairs (λ a b. a ≢ b)) (names_alike reads.cells p.roomy reads.alike) answers.differ in
     let tables : stands_before site lost ≡ table name_order (λ (s : Stand). s.cell) read =
     table-of_same name_order (λ (s : Stand). s.cell) IsKeyOrder-name_order (map stand_of (open_cells site lost)) read
     (one_of_name (λ (s : Stand). s.cell) read (differ_pairs (map (λ (s : Stand). s.cell) read) apart))
     (read_same (open_cells site lost) reads.cells reads.open_are) in
     let order : jobs_of_loss site lost ≡ in_order (jobs p.rows) =
     table-of_same turn_order turn_of IsKeyOrder-turn_order (waits site lost) (jobs p.rows)
-    (λ a b in_a in_b turns. one_of_name (λ (j : Job). j.job) (jobs p.rows) (differ_pairs (map (λ (j : Job). j.job) (jobs p.rows)) (jobs_differ p.rows valid)) a b in_a in_b
+    (λ a b in_a in_b turns. one_of_name (λ (j : Job). j.job) (jobs p.rows)
+    (differ_pairs (map (λ (j : Job). j.job) (jobs p.rows)) (jobs_differ p.rows valid)) a b in_a in_b
     (same_turn a b turns)) reads.jobs in
-    let stands : auction_from (stands_before site lost) (in_order (jobs p.rows)) ≡ auction_from (stands_of p.roomy) (in_order (jobs p.rows)) =
+    let stands : auction_from (stands_before site lost) (in_order (jobs p.rows))
+    ≡ auction_from (stands_of p.roomy) (in_order (jobs p.rows)) =
     ap (λ (ss : List Stand). auction_from ss (in_order (jobs p.rows))) tables
     ∙ auction_alike (table name_order (λ (s : Stand). s.cell) read) (stands_of p.roomy) (in_order (jobs p.rows))
     (table_alike read (map stand_of p.roomy) (stands_alike reads.cells p.roomy reads.alike)) in

@@ -19,12 +19,15 @@ use Rattle.forecast_laws.specs.Rooms.{DisplacedJobsFindRoom, RoomLeavesNothingWa
 use Rattle.forecast_laws.proofs.Foretold.{plan_is_round}
 
 -- one job more
-leaves_one : (job : Job) (found : Option Stand) (ps : List Placement) (js : List Job) → unplaced ps ≡ map (λ (j : Job). j.job) js → unplaced (placement_on job found ∷ ps) ≡ map (λ (j : Job). j.job) (if_none found job js)
+leaves_one : (job : Job) (found : Option Stand) (ps : List Placement) (js : List Job)
+    → unplaced ps ≡ map (λ (j : Job). j.job) js → unplaced (placement_on job found ∷ ps)
+    ≡ map (λ (j : Job). j.job) (if_none found job js)
 leaves_one job None ps js e = ap (λ (ns : List JobName). job.job ∷ ns) e
 leaves_one job (Some s) ps js e = e
 
 -- an auction has no place for just the jobs that are left over
-leaves_as : (stands : List Stand) (jobs : List Job) → unplaced (auction_from stands jobs) ≡ map (λ (j : Job). j.job) (jobs_left stands jobs)
+leaves_as : (stands : List Stand) (jobs : List Job) → unplaced (auction_from stands jobs)
+    ≡ map (λ (j : Job). j.job) (jobs_left stands jobs)
 leaves_as stands [] = refl
 leaves_as stands (job ∷ jobs) =
     let next = stands_with job (best stands job) stands in
@@ -53,13 +56,16 @@ nothing_inside x (k, lt, at) = omega arith
 
 pub displaced_found : DisplacedJobsFindRoom
 displaced_found by now line s s' r h site lost reads room j moved inside =
-    let none : displaced_left site lost ≡ [] = none_left (stands_before site lost) (jobs_of_loss site lost) (displaced_left site lost) room in
+    let none : displaced_left site lost ≡ [] = none_left (stands_before site lost) (jobs_of_loss site lost)
+    (displaced_left site lost) room in
     let among : Contains (map (λ (x : Job). x.job) (left_of site lost)) j.job =
     subst (λ (ns : List JobName). Contains ns j.job) (round_leaves by now line s s' r h site lost reads) inside in
     let l = from_map (λ (x : Job). x.job) (left_of site lost) j.job among in
-    let is : is_displaced site j.job ≡ true = (from_filter (λ (x : Job). is_displaced site x.job) (waits site lost) j moved).1 in
+    let is : is_displaced site j.job ≡ true = (from_filter (λ (x : Job). is_displaced site x.job)
+    (waits site lost) j moved).1 in
     let left : Contains (displaced_left site lost) l.0 =
-    inside_filter (λ (x : Job). is_displaced site x.job) (left_of site lost) l.0 l.1 (ap (is_displaced site) l.2 ∙ is) in
+    inside_filter (λ (x : Job). is_displaced site x.job) (left_of site lost) l.0 l.1
+    (ap (is_displaced site) l.2 ∙ is) in
     nothing_inside l.0 (subst (λ (js : List Job). Contains js l.0) none left)
 
 pub ends_well : RoundsThatNothingDisturbsAreComplete → CompleteRoundsConverge → RoomMakesRoundsComplete

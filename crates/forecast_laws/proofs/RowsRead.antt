@@ -69,26 +69,32 @@ crashed_waits_not false true h e = cc
 crashed_waits_not false false h e = cc
 
 -- the row of an instance that waits is UNCLAIMED
-waits_unclaimed : (held crashed : Bool) (state : LrpState) → SuitsState held crashed state → (not held && not crashed) ≡ true → state ≡ Unclaimed
+waits_unclaimed : (held crashed : Bool) (state : LrpState) → SuitsState held crashed state
+    → (not held && not crashed) ≡ true → state ≡ Unclaimed
 waits_unclaimed held crashed Unclaimed h e = refl
 waits_unclaimed held crashed (Claimed i c) h e = absurd (held_waits_not held crashed h e)
 waits_unclaimed held crashed (Running i c) h e = absurd (held_waits_not held crashed h e)
 waits_unclaimed held crashed Crashed h e = absurd (crashed_waits_not held crashed h e)
 
 -- an UNCLAIMED row asks for its instance
-row_waits : (rows : Rows) (key : Key) (a : Actual) (j : Job) → find_actual rows key Ordinary ≡ Some a → a.state ≡ Unclaimed → asked_job rows key ≡ Some j
+row_waits : (rows : Rows) (key : Key) (a : Actual) (j : Job) → find_actual rows key Ordinary ≡ Some a
+    → a.state ≡ Unclaimed → asked_job rows key ≡ Some j
     → Contains (filter_map (row_job rows) rows.actual) j
 row_waits rows key a j is state named =
-    let place : place_of a ≡ (key, Ordinary) = key-find_row place_order place_of IsKeyOrder-place_order (key, Ordinary) a rows.actual is in
+    let place : place_of a ≡ (key, Ordinary) = key-find_row place_order place_of IsKeyOrder-place_order
+    (key, Ordinary) a rows.actual is in
     let keys : a.key ≡ key = ap (λ (p : Key × Presence). p.0) place in
     let kinds : a.presence ≡ Ordinary = ap (λ (p : Key × Presence). p.1) place in
     let waiting : row_job rows a ≡ Some j =
-    ap (λ (s : LrpState). waiting_job rows a.key a.presence s) state ∙ ap (λ (p : Presence). waiting_job rows a.key p Unclaimed) kinds
+    ap (λ (s : LrpState). waiting_job rows a.key a.presence s) state ∙ ap
+    (λ (p : Presence). waiting_job rows a.key p Unclaimed) kinds
     ∙ ap (λ (k : Key). asked_job rows k) keys ∙ named in
-    kept_inside (row_job rows) rows.actual a j (Contains-find_row place_order place_of (key, Ordinary) a rows.actual is) waiting
+    kept_inside (row_job rows) rows.actual a j (Contains-find_row place_order place_of (key, Ordinary) a rows.actual is)
+    waiting
 
 -- and a row that asks for one is ORDINARY and UNCLAIMED
-asked_row : (rows : Rows) (key : Key) (p : Presence) (state : LrpState) (j : Job) → waiting_job rows key p state ≡ Some j
+asked_row : (rows : Rows) (key : Key) (p : Presence) (state : LrpState) (j : Job)
+    → waiting_job rows key p state ≡ Some j
     → (p ≡ Ordinary) × (state ≡ Unclaimed) × (asked_job rows key ≡ Some j)
 asked_row rows key Ordinary Unclaimed j e = (refl, refl, e)
 asked_row rows key Ordinary (Claimed i c) j e = absurd cc
@@ -101,28 +107,34 @@ module _ (site : Site) (lost : List (List ℕ)) (rows : Rows) (are : AreRowsOf s
   abbrev waiting_ones : List Wanted
   waiting_ones = filter (does_wait site lost) site.wanted
 
-  instance_there : (j : Job) → Contains (map instance_job waiting_ones) j → Contains (filter_map (row_job rows) rows.actual) j
+  instance_there : (j : Job) → Contains (map instance_job waiting_ones) j
+      → Contains (filter_map (row_job rows) rows.actual) j
   instance_there j here =
       let w = from_map instance_job waiting_ones j here in
       let f = from_filter (does_wait site lost) site.wanted w.0 w.1 in
       let row = are.actual w.0 f.0 in
-      row_waits rows w.0.key row.row j row.there (waits_unclaimed (is_held site lost w.0.key) w.0.crashed row.row.state row.state f.1)
+      row_waits rows w.0.key row.row j row.there (waits_unclaimed
+      (is_held site lost w.0.key) w.0.crashed row.row.state row.state f.1)
       (desired_job rows w.0 (are.desired w.0 f.0) ∙ ap Some w.2)
 
-  instance_back : IsValid rows → (j : Job) → Contains (filter_map (row_job rows) rows.actual) j → Contains (map instance_job waiting_ones) j
+  instance_back : IsValid rows → (j : Job) → Contains (filter_map (row_job rows) rows.actual) j
+      → Contains (map instance_job waiting_ones) j
   instance_back valid j here =
       let a = from_kept (row_job rows) rows.actual j here in
       let asks = asked_row rows a.0.key a.0.presence a.0.state j a.2 in
       let w = are.wanted a.0.key (wanted_if a.0.key (find_desired rows a.0.key.process) j asks.2) in
       let row = are.actual w.0 w.1 in
-      let found : find_actual rows a.0.key a.0.presence ≡ Some a.0 = find_row-Contains place_order place_of IsKeyOrder-place_order a.0 rows.actual valid.actual.rising a.1 in
+      let found : find_actual rows a.0.key a.0.presence ≡ Some a.0 =
+      find_row-Contains place_order place_of IsKeyOrder-place_order a.0 rows.actual valid.actual.rising a.1 in
       let at : find_actual rows w.0.key Ordinary ≡ Some a.0 = (λ i. find_actual rows (w.2 i) (sym asks.0 i)) ∙ found in
       let one : row.row ≡ a.0 = some_one row.row a.0 (sym row.there ∙ at) in
       let suits : SuitsState (is_held site lost w.0.key) w.0.crashed Unclaimed =
-      subst (SuitsState (is_held site lost w.0.key) w.0.crashed) (ap (λ (x : Actual). x.state) one ∙ asks.1) row.state in
+      subst (SuitsState (is_held site lost w.0.key) w.0.crashed)
+      (ap (λ (x : Actual). x.state) one ∙ asks.1) row.state in
       let waits_so : does_wait site lost w.0 ≡ true = λ i. not (suits.0 i) && not (suits.1 i) in
       let is : instance_job w.0 ≡ j =
-      some_one (instance_job w.0) j (sym (desired_job rows w.0 (are.desired w.0 w.1)) ∙ ap (λ (k : Key). asked_job rows k) w.2 ∙ asks.2) in
+      some_one (instance_job w.0) j (sym (desired_job rows w.0 (are.desired w.0 w.1)) ∙ ap
+      (λ (k : Key). asked_job rows k) w.2 ∙ asks.2) in
       subst (Contains (map instance_job waiting_ones)) is
       (inside_map instance_job waiting_ones w.0 (inside_filter (does_wait site lost) site.wanted w.0 w.1 waits_so))
 
@@ -130,9 +142,11 @@ module _ (site : Site) (lost : List (List ℕ)) (rows : Rows) (are : AreRowsOf s
   jobs_read valid = record {
     there = λ j inside. ⊎_elim
         (λ (here : Contains (map instance_job waiting_ones) j).
-        Contains-append_left (filter_map (row_job rows) rows.actual) (filter_map task_job rows.tasks) j (instance_there j here))
+        Contains-append_left (filter_map (row_job rows) rows.actual) (filter_map task_job rows.tasks) j
+        (instance_there j here))
         (λ (here : Contains site.pending j).
-        Contains-append_right (filter_map (row_job rows) rows.actual) (filter_map task_job rows.tasks) j (are.pending.there j here))
+        Contains-append_right (filter_map (row_job rows) rows.actual) (filter_map task_job rows.tasks) j
+        (are.pending.there j here))
         (Contains-append_cases (map instance_job waiting_ones) site.pending j inside);
     back = λ j inside. ⊎_elim
         (λ (here : Contains (filter_map (row_job rows) rows.actual) j).

@@ -25,19 +25,22 @@ is_true true h = refl
 is_true false h = absurd h
 
 -- the rows of a table, which keep what it asks
-pub record IsTable {K X : Type 0} (R : K → K → Ordering) (key : X → K) (keeps : Keeps X) (next : ℕ) (rows : List X) : Type 0 where
+pub record IsTable {K X : Type 0} (R : K → K → Ordering) (key : X → K) (keeps : Keeps X) (next : ℕ)
+    (rows : List X) : Type 0 where
   pub rising : IsRising R key rows
   pub few : length rows ≤ keeps.most
   pub each : AllByRecursion (λ x. keeps.suits next x ≡ true) rows
   pub wanted : sum_by keeps.wants rows ≤ most_wanted
   pub distinct : IfSome keeps.stamp (λ stamp. IsDistinct nat_eq (map stamp rows))
 
-stamp-push : {X : Type 0} (stamp : Option (X → ℕ)) (rows : List X) (row : X) → IfSome stamp (λ f. IsDistinct nat_eq (map f rows)) → is_fresh stamp rows row ≡ true
+stamp-push : {X : Type 0} (stamp : Option (X → ℕ)) (rows : List X) (row : X)
+    → IfSome stamp (λ f. IsDistinct nat_eq (map f rows)) → is_fresh stamp rows row ≡ true
     → IfSome stamp (λ f. IsDistinct nat_eq (map f (rows ++ row ∷ [])))
 stamp-push None rows row h e = tt
 stamp-push (Some f) rows row h e = distinct-push f rows row h (not_true (list_any (λ x. nat_eq (f x) (f row)) rows) e)
 
-stamp-fresh : {X : Type 0} (stamp : Option (X → ℕ)) (rows : List X) (row : X) (rest : List X) → IfSome stamp (λ f. IsDistinct nat_eq (map f (rows ++ row ∷ rest)))
+stamp-fresh : {X : Type 0} (stamp : Option (X → ℕ)) (rows : List X) (row : X) (rest : List X)
+    → IfSome stamp (λ f. IsDistinct nat_eq (map f (rows ++ row ∷ rest)))
     → is_fresh stamp rows row ≡ true
 stamp-fresh None rows row rest h = refl
 stamp-fresh (Some f) rows row rest h = ap not (distinct-fresh f rows row rest h)
@@ -58,13 +61,17 @@ module _ {K X : Type 0} (R : K → K → Ordering) (key : X → K) where
   all_below [] row e = All-nil (λ x. R (key x) (key row) ≡ Less)
   all_below (x ∷ xs) row e =
       let parts = both_true (is_lt (R (key x) (key row))) (is_above R key xs row) e in
-      All-cons (λ y. R (key y) (key row) ≡ Less) x xs (less_from (R (key x) (key row)) parts.0) (all_below xs row parts.1)
+      All-cons (λ y. R (key y) (key row) ≡ Less) x xs (less_from (R (key x) (key row)) parts.0)
+      (all_below xs row parts.1)
 
-  below_at : (k : K) (xs : List X) (x : X) (rest : List X) → T (below_all R k (keyed R key (xs ++ x ∷ rest))) → T (is_lt (R k (key x)))
+  below_at : (k : K) (xs : List X) (x : X) (rest : List X) → T (below_all R k (keyed R key (xs ++ x ∷ rest)))
+      → T (is_lt (R k (key x)))
   below_at k [] x rest h = first_of_both (is_lt (R k (key x))) (below_all R k (keyed R key rest)) h
-  below_at k (y ∷ ys) x rest h = below_at k ys x rest (second_of_both (is_lt (R k (key y))) (below_all R k (keyed R key (ys ++ x ∷ rest))) h)
+  below_at k (y ∷ ys) x rest h = below_at k ys x rest (second_of_both (is_lt (R k (key y)))
+      (below_all R k (keyed R key (ys ++ x ∷ rest))) h)
 
-  pub above-rising : (rows : List X) (row : X) (rest : List X) → IsRising R key (rows ++ row ∷ rest) → is_above R key rows row ≡ true
+  pub above-rising : (rows : List X) (row : X) (rest : List X) → IsRising R key (rows ++ row ∷ rest)
+      → is_above R key rows row ≡ true
   above-rising [] row rest h = refl
   above-rising (x ∷ xs) row rest h =
       true_both (is_lt (R (key x) (key row))) (is_above R key xs row)
@@ -73,10 +80,12 @@ module _ {K X : Type 0} (R : K → K → Ordering) (key : X → K) where
 
   module _ (keeps : Keeps X) (next : ℕ) where
     -- a table with a row that may follow is one
-    pub IsTable-push : IsKeyOrder R → (rows : List X) (row : X) → IsTable R key keeps next rows → may_follow R key keeps next rows row ≡ true → IsTable R key keeps next (rows ++ row ∷ [])
+    pub IsTable-push : IsKeyOrder R → (rows : List X) (row : X) → IsTable R key keeps next rows
+        → may_follow R key keeps next rows row ≡ true → IsTable R key keeps next (rows ++ row ∷ [])
     unfolding may_follow
     IsTable-push o rows row t e =
-        let halves = both_true ((is_above R key rows row && has_room keeps rows row) && keeps.suits next row) (is_fresh keeps.stamp rows row) e in
+        let halves = both_true ((is_above R key rows row && has_room keeps rows row) && keeps.suits next row)
+        (is_fresh keeps.stamp rows row) e in
         let middle = both_true (is_above R key rows row && has_room keeps rows row) (keeps.suits next row) halves.0 in
         let front = both_true (is_above R key rows row) (has_room keeps rows row) middle.0 in
         let room = from_room (length rows) keeps.most (sum_by keeps.wants rows + keeps.wants row) front.1 in
@@ -89,13 +98,17 @@ module _ {K X : Type 0} (R : K → K → Ordering) (key : X → K) where
         }
 
     -- in a table each row may follow those before it
-    pub may_follow-table : (rows : List X) (row : X) (rest : List X) → IsTable R key keeps next (rows ++ row ∷ rest) → may_follow R key keeps next rows row ≡ true
+    pub may_follow-table : (rows : List X) (row : X) (rest : List X) → IsTable R key keeps next (rows ++ row ∷ rest)
+        → may_follow R key keeps next rows row ≡ true
     unfolding may_follow
     may_follow-table rows row rest t =
         let few : length rows < keeps.most = omega (arith, t.few, length-append rows (row ∷ rest)) in
-        let sum : sum_by keeps.wants rows + keeps.wants row ≤ most_wanted = omega (arith, t.wanted, sum_by-append keeps.wants rows (row ∷ rest), sum_by-cons keeps.wants row rest) in
-        true_both ((is_above R key rows row && has_room keeps rows row) && keeps.suits next row) (is_fresh keeps.stamp rows row)
+        let sum : sum_by keeps.wants rows + keeps.wants row ≤ most_wanted =
+        omega (arith, t.wanted, sum_by-append keeps.wants rows (row ∷ rest), sum_by-cons keeps.wants row rest) in
+        true_both ((is_above R key rows row && has_room keeps rows row) && keeps.suits next row)
+        (is_fresh keeps.stamp rows row)
         (true_both (is_above R key rows row && has_room keeps rows row) (keeps.suits next row)
-        (true_both (is_above R key rows row) (has_room keeps rows row) (above-rising rows row rest t.rising) (to_room (length rows) keeps.most (sum_by keeps.wants rows + keeps.wants row) few sum))
+        (true_both (is_above R key rows row) (has_room keeps rows row) (above-rising rows row rest t.rising)
+        (to_room (length rows) keeps.most (sum_by keeps.wants rows + keeps.wants row) few sum))
         (each-at (λ x. keeps.suits next x ≡ true) rows row rest t.each))
         (stamp-fresh keeps.stamp rows row rest t.distinct)

@@ -49,7 +49,10 @@ counts_fit version rows fits = by (nat_eq version 1) fits.domains
       none_there rows.domains none,
       (
         omega (arith, v.next),
-        ((omega (arith, v.desired.few), omega (arith, v.actual.few)), (omega (arith, v.tasks.few), omega (arith, v.cells.few))),
+        (
+          (omega (arith, v.desired.few), omega (arith, v.actual.few)),
+          (omega (arith, v.tasks.few), omega (arith, v.cells.few)),
+        ),
       ),
     )
     by false some = (
@@ -85,18 +88,35 @@ parts_again version rows bytes fits s0 =
     let a : List Actual × ℕ = (rows.actual, 0 + length ct + length dt + length at) in
     let t : List Task × ℕ = (rows.tasks, 0 + length ct + length dt + length at + length kt) in
     let r : List CellRow × ℕ = (rows.cells, 0 + length ct + length dt + length at + length kt + length rt) in
-    let m : List DomainRow × ℕ = (rows.domains, 0 + length ct + length dt + length at + length kt + length rt + length mt) in
-    let e0 : counts_at version bytes ≡ Ok c = ap counts_read ((IsFormat-counts_in version).again bytes 0 (head_counts rows) (counts_fit version rows fits) (StandsAt-front bytes 0 ct rest s0))
+    let m : List DomainRow × ℕ = (
+      rows.domains,
+      0 + length ct + length dt + length at + length kt + length rt + length
+          mt,
+    ) in
+    let e0 : counts_at version bytes ≡ Ok c = ap counts_read
+    ((IsFormat-counts_in version).again bytes 0 (head_counts rows) (counts_fit version rows fits)
+    (StandsAt-front bytes 0 ct rest s0))
     ∙ ap (λ (b : Bool). cond b (Ok c) (Err (BadField 0))) in_range in
-    let e1 : desired_at next (length rows.desired) bytes c.1 ≡ Ok d = table_again name_order process_of IsKeyOrder-name_order desired_keep next desired laws-desired.field rows.desired bytes c.1
-    (desired_table next rows.desired v.desired) fits.desired (StandsAt-front bytes c.1 dt (at ++ (kt ++ (rt ++ mt))) s1) in
-    let e2 : actual_at version next (length rows.actual) bytes d.1 ≡ Ok a = table_again place_order place_of IsKeyOrder-place_order actual_keep next (actual_in version) (IsFormat-actual_in version) rows.actual bytes d.1
+    let e1 : desired_at next (length rows.desired) bytes c.1 ≡ Ok d =
+    table_again name_order process_of IsKeyOrder-name_order desired_keep next desired laws-desired.field
+    rows.desired bytes c.1
+    (desired_table next rows.desired v.desired) fits.desired
+    (StandsAt-front bytes c.1 dt (at ++ (kt ++ (rt ++ mt))) s1) in
+    let e2 : actual_at version next (length rows.actual) bytes d.1 ≡ Ok a =
+    table_again place_order place_of IsKeyOrder-place_order actual_keep next (actual_in version)
+    (IsFormat-actual_in version) rows.actual bytes d.1
     (actual_table next rows.actual v.actual) fits.actual (StandsAt-front bytes d.1 at (kt ++ (rt ++ mt)) s2) in
-    let e3 : tasks_at next (length rows.tasks) bytes a.1 ≡ Ok t = table_again name_order task_name_of IsKeyOrder-name_order tasks_keep next task_row laws-task_row.field rows.tasks bytes a.1
+    let e3 : tasks_at next (length rows.tasks) bytes a.1 ≡ Ok t =
+    table_again name_order task_name_of IsKeyOrder-name_order tasks_keep next task_row laws-task_row.field
+    rows.tasks bytes a.1
     (tasks_table next rows.tasks v.tasks) fits.tasks (StandsAt-front bytes a.1 kt (rt ++ mt) s3) in
-    let e4 : cells_at next (length rows.cells) bytes t.1 ≡ Ok r = table_again name_order cell_name_of IsKeyOrder-name_order cells_keep next cell_row laws-cell_row.field rows.cells bytes t.1
+    let e4 : cells_at next (length rows.cells) bytes t.1 ≡ Ok r =
+    table_again name_order cell_name_of IsKeyOrder-name_order cells_keep next cell_row laws-cell_row.field
+    rows.cells bytes t.1
     (cells_table next rows.cells v.cells) fits.cells (StandsAt-front bytes t.1 rt mt s4) in
-    let e5 : domains_at version next (length rows.domains) bytes r.1 ≡ Ok m = table_again name_order domain_name_of IsKeyOrder-name_order domains_keep next (domain_in version) (IsFormat-domain_in version) rows.domains bytes r.1
+    let e5 : domains_at version next (length rows.domains) bytes r.1 ≡ Ok m =
+    table_again name_order domain_name_of IsKeyOrder-name_order domains_keep next (domain_in version)
+    (IsFormat-domain_in version) rows.domains bytes r.1
     (domains_table next rows.domains v.domains) fits.domains s5 in
     record {
       c = c;
@@ -136,7 +156,8 @@ unfolding head_reading
 head_again version rows fits =
     let bytes : List ℕ = head_spelled version rows in
     let last : Rows → ℕ → Result Rows CodecFault = λ w n. head_ended bytes w n in
-    parts_last version bytes last rows (length bytes) (parts_again version rows bytes fits (record { rest = []; parts = sym (append-nil bytes) }))
+    parts_last version bytes last rows (length bytes) (parts_again version rows bytes fits
+    (record { rest = []; parts = sym (append-nil bytes) }))
     ∙ ended_there bytes rows (length bytes) refl
 
 -- no head begins another
@@ -146,7 +167,8 @@ head_ends version a b x y fits_a fits_b e =
     let bytes : List ℕ = head_spelled version a ++ x in
     let one = parts_again version a bytes fits_a (record { rest = x; parts = refl }) in
     let other = parts_again version b bytes fits_b (record { rest = y; parts = e }) in
-    let same : a ≡ b = (parts_one version bytes a b (length (head_spelled version a)) (length (head_spelled version b)) one other).0 in
+    let same : a ≡ b = (parts_one version bytes a b (length (head_spelled version a))
+    (length (head_spelled version b)) one other).0 in
     let text : List ℕ = head_spelled version b in (
       same,
       sym (drop_at text x (length text) refl)

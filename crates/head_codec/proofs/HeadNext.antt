@@ -14,11 +14,13 @@ use Rattle.head_codec.specs.Head.{Counts, counts_of_old, counts, old_counts, cou
 use Rattle.head_codec.proofs.HeadParts.{parts_found, kept_counts}
 
 -- a number of eight bytes that was read at the front
-number_found : (bytes : List ℕ) (n : ℕ × ℕ) → number_at w64 bytes 0 ≡ Ok n → (8 ≤ length bytes) × (from_be_bytes w64 (take 8 bytes) ≡ n.0)
+number_found : (bytes : List ℕ) (n : ℕ × ℕ) → number_at w64 bytes 0 ≡ Ok n
+    → (8 ≤ length bytes) × (from_be_bytes w64 (take 8 bytes) ≡ n.0)
 unfolding number_at
 number_found bytes n is = by_test (nat_lt (length bytes) 8) refl is
   where
-    by_test : (b : Bool) → nat_lt (length bytes) 8 ≡ b → field_placed bytes 0 (cond b Ends (Holds (from_be_bytes w64 (take 8 bytes)) 8)) ≡ Ok n
+    by_test : (b : Bool) → nat_lt (length bytes) 8 ≡ b → field_placed bytes 0
+        (cond b Ends (Holds (from_be_bytes w64 (take 8 bytes)) 8)) ≡ Ok n
         → (8 ≤ length bytes) × (from_be_bytes w64 (take 8 bytes) ≡ n.0)
     by_test true h e = absurd cc
     by_test false h e =
@@ -26,7 +28,8 @@ number_found bytes n is = by_test (nat_lt (length bytes) 8) refl is
         (grind (arith, nat_tests, h), ap (λ (x : ℕ × ℕ). x.0) same)
 
 -- and so the first of what else stands behind it
-first_found : {X : Type 0} (rest : Reads X) (bytes : List ℕ) (c : (ℕ × X) × ℕ) → both_at (number_at w64) rest bytes 0 ≡ Ok c
+first_found : {X : Type 0} (rest : Reads X) (bytes : List ℕ) (c : (ℕ × X) × ℕ)
+    → both_at (number_at w64) rest bytes 0 ≡ Ok c
     → (8 ≤ length bytes) × (from_be_bytes w64 (take 8 bytes) ≡ c.0.0)
 first_found {X} rest bytes c is =
     let first = bind_ok (number_at w64 bytes 0) (λ x. rest bytes x.1 >>= λ y. Ok ((x.0, y.0), y.1)) c is in
@@ -40,7 +43,8 @@ counts_found : (version : ℕ) (bytes : List ℕ) (c : Counts × ℕ) → (count
     → (8 ≤ length bytes) × (from_be_bytes w64 (take 8 bytes) ≡ c.0.0)
 counts_found version bytes c = by (nat_eq version 1)
   where
-    by : (b : Bool) → (old_or b old_counts counts).read bytes 0 ≡ Ok c → (8 ≤ length bytes) × (from_be_bytes w64 (take 8 bytes) ≡ c.0.0)
+    by : (b : Bool) → (old_or b old_counts counts).read bytes 0 ≡ Ok c
+        → (8 ≤ length bytes) × (from_be_bytes w64 (take 8 bytes) ≡ c.0.0)
     by true is =
         let rest : Reads ((ℕ × ℕ) × (ℕ × ℕ)) = (both (both number32 number32) (both number32 number32)).read in
         let x = seen_found counts_of_old (both_at (number_at w64) rest) bytes 0 c.0 c.1 is in

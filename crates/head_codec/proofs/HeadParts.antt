@@ -19,12 +19,14 @@ use Rattle.head_codec.proofs.RowLists.{same_ok}
 use Rattle.head_codec.proofs.Steps.{bind_is}
 
 -- the rows of these parts
-abbrev pub rows_of : Counts × ℕ → List Desired × ℕ → List Actual × ℕ → List Task × ℕ → List CellRow × ℕ → List DomainRow × ℕ → Rows
+abbrev pub rows_of : Counts × ℕ → List Desired × ℕ → List Actual × ℕ → List Task × ℕ → List CellRow × ℕ
+    → List DomainRow × ℕ → Rows
 rows_of c d a t r m = record { desired = d.0; actual = a.0; tasks = t.0; cells = r.0; domains = m.0; next = c.0.0 }
 
 -- what is read behind each part, where something is done last with the rows and the place behind them
 module _ {Z : Type 0} (version : ℕ) (bytes : List ℕ) (last : Rows → ℕ → Result Z CodecFault) where
-  abbrev pub behind_cells : Counts × ℕ → List Desired × ℕ → List Actual × ℕ → List Task × ℕ → List CellRow × ℕ → Result Z CodecFault
+  abbrev pub behind_cells : Counts × ℕ → List Desired × ℕ → List Actual × ℕ → List Task × ℕ → List CellRow × ℕ
+      → Result Z CodecFault
   behind_cells c d a t r = domains_at version c.0.0 c.0.1.1.1.1 bytes r.1 >>= λ m. last (rows_of c d a t r m) m.1
 
   abbrev pub behind_tasks : Counts × ℕ → List Desired × ℕ → List Actual × ℕ → List Task × ℕ → Result Z CodecFault
@@ -64,11 +66,16 @@ pub parts_last : {Z : Type 0} (version : ℕ) (bytes : List ℕ) (last : Rows �
     (after : ℕ) → Parts version bytes rows after → parts_read version bytes last ≡ last rows after
 parts_last version bytes last rows after p =
     bind_is (counts_at version bytes) p.c (λ c. behind_counts version bytes last c) p.counts_are
-    ∙ bind_is (desired_at p.c.0.0 p.c.0.1.0.0 bytes p.c.1) p.d (λ d. behind_desired version bytes last p.c d) p.desired_are
-    ∙ bind_is (actual_at version p.c.0.0 p.c.0.1.0.1 bytes p.d.1) p.a (λ a. behind_actual version bytes last p.c p.d a) p.actual_are
-    ∙ bind_is (tasks_at p.c.0.0 p.c.0.1.1.0 bytes p.a.1) p.t (λ t. behind_tasks version bytes last p.c p.d p.a t) p.tasks_are
-    ∙ bind_is (cells_at p.c.0.0 p.c.0.1.1.1.0 bytes p.t.1) p.r (λ r. behind_cells version bytes last p.c p.d p.a p.t r) p.cells_are
-    ∙ bind_is (domains_at version p.c.0.0 p.c.0.1.1.1.1 bytes p.r.1) p.m (λ m. last (rows_of p.c p.d p.a p.t p.r m) m.1) p.domains_are
+    ∙ bind_is (desired_at p.c.0.0 p.c.0.1.0.0 bytes p.c.1) p.d
+    (λ d. behind_desired version bytes last p.c d) p.desired_are
+    ∙ bind_is (actual_at version p.c.0.0 p.c.0.1.0.1 bytes p.d.1) p.a
+    (λ a. behind_actual version bytes last p.c p.d a) p.actual_are
+    ∙ bind_is (tasks_at p.c.0.0 p.c.0.1.1.0 bytes p.a.1) p.t
+    (λ t. behind_tasks version bytes last p.c p.d p.a t) p.tasks_are
+    ∙ bind_is (cells_at p.c.0.0 p.c.0.1.1.1.0 bytes p.t.1) p.r
+    (λ r. behind_cells version bytes last p.c p.d p.a p.t r) p.cells_are
+    ∙ bind_is (domains_at version p.c.0.0 p.c.0.1.1.1.1 bytes p.r.1) p.m
+    (λ m. last (rows_of p.c p.d p.a p.t p.r m) m.1) p.domains_are
     ∙ ap (λ (w : Rows). last w p.m.1) p.rows_are
     ∙ ap (λ (n : ℕ). last rows n) p.after_is
 
@@ -77,13 +84,16 @@ pub parts_one : (version : ℕ) (bytes : List ℕ) (rows more : Rows) (after beh
     → Parts version bytes more behind → (rows ≡ more) × (after ≡ behind)
 parts_one version bytes rows more after behind p q =
     let ends : Rows → ℕ → Result (Rows × ℕ) CodecFault = λ w n. Ok (w, n) in
-    let pair = same_ok {X = Rows × ℕ} (rows, after) (more, behind) (sym (parts_last version bytes ends rows after p) ∙ parts_last version bytes ends more behind q) in
+    let pair = same_ok {X = Rows × ℕ} (rows, after) (more, behind)
+    (sym (parts_last version bytes ends rows after p) ∙ parts_last version bytes ends more behind q) in
     (ap (λ (x : Rows × ℕ). x.0) pair, ap (λ (x : Rows × ℕ). x.1) pair)
 
-ended_found : (bytes : List ℕ) (rows last : Rows) (at : ℕ) → head_ended bytes rows at ≡ Ok last → (length bytes ≤ at) × (rows ≡ last)
+ended_found : (bytes : List ℕ) (rows last : Rows) (at : ℕ) → head_ended bytes rows at ≡ Ok last
+    → (length bytes ≤ at) × (rows ≡ last)
 ended_found bytes rows last at e = by_test (nat_lt at (length bytes)) refl e
   where
-    by_test : (b : Bool) → nat_lt at (length bytes) ≡ b → cond b (Err (Trailing at)) (Ok rows) ≡ Ok last → (length bytes ≤ at) × (rows ≡ last)
+    by_test : (b : Bool) → nat_lt at (length bytes) ≡ b → cond b (Err (Trailing at)) (Ok rows) ≡ Ok last
+        → (length bytes ≤ at) × (rows ≡ last)
     by_test true h e = absurd cc
     by_test false h e = (grind (arith, nat_tests, h), same_ok {X = Rows} rows last e)
 
@@ -94,11 +104,16 @@ unfolding head_reading
 parts_found version bytes rows e =
     let last : Rows → ℕ → Result Rows CodecFault = λ w n. head_ended bytes w n in
     let c = bind_ok (counts_at version bytes) (λ x. behind_counts version bytes last x) rows e in
-    let d = bind_ok (desired_at c.0.0.0 c.0.0.1.0.0 bytes c.0.1) (λ x. behind_desired version bytes last c.0 x) rows c.2 in
-    let a = bind_ok (actual_at version c.0.0.0 c.0.0.1.0.1 bytes d.0.1) (λ x. behind_actual version bytes last c.0 d.0 x) rows d.2 in
-    let t = bind_ok (tasks_at c.0.0.0 c.0.0.1.1.0 bytes a.0.1) (λ x. behind_tasks version bytes last c.0 d.0 a.0 x) rows a.2 in
-    let r = bind_ok (cells_at c.0.0.0 c.0.0.1.1.1.0 bytes t.0.1) (λ x. behind_cells version bytes last c.0 d.0 a.0 t.0 x) rows t.2 in
-    let m = bind_ok (domains_at version c.0.0.0 c.0.0.1.1.1.1 bytes r.0.1) (λ x. last (rows_of c.0 d.0 a.0 t.0 r.0 x) x.1) rows r.2 in
+    let d = bind_ok (desired_at c.0.0.0 c.0.0.1.0.0 bytes c.0.1)
+    (λ x. behind_desired version bytes last c.0 x) rows c.2 in
+    let a = bind_ok (actual_at version c.0.0.0 c.0.0.1.0.1 bytes d.0.1)
+    (λ x. behind_actual version bytes last c.0 d.0 x) rows d.2 in
+    let t = bind_ok (tasks_at c.0.0.0 c.0.0.1.1.0 bytes a.0.1)
+    (λ x. behind_tasks version bytes last c.0 d.0 a.0 x) rows a.2 in
+    let r = bind_ok (cells_at c.0.0.0 c.0.0.1.1.1.0 bytes t.0.1)
+    (λ x. behind_cells version bytes last c.0 d.0 a.0 t.0 x) rows t.2 in
+    let m = bind_ok (domains_at version c.0.0.0 c.0.0.1.1.1.1 bytes r.0.1)
+    (λ x. last (rows_of c.0 d.0 a.0 t.0 r.0 x) x.1) rows r.2 in
     let end = ended_found bytes (rows_of c.0 d.0 a.0 t.0 r.0 m.0) rows m.0.1 m.2 in
     let parts : Parts version bytes rows m.0.1 = record {
       c = c.0;
@@ -119,10 +134,12 @@ parts_found version bytes rows e =
     (m.0.1, parts, end.0)
 
 -- the counts that were kept are those that were read
-pub kept_counts : (read : Result (Counts × ℕ) FieldFault) (c : Counts × ℕ) → counts_read read ≡ Ok c → (read ≡ Ok c) × (c.0.0 ≤ most_transitions)
+pub kept_counts : (read : Result (Counts × ℕ) FieldFault) (c : Counts × ℕ) → counts_read read ≡ Ok c
+    → (read ≡ Ok c) × (c.0.0 ≤ most_transitions)
 kept_counts (Ok x) c e = by_test (nat_le x.0.0 most_transitions) refl e
   where
-    by_test : (b : Bool) → nat_le x.0.0 most_transitions ≡ b → cond b (Ok x) (Err (BadField 0)) ≡ Ok c → (◌≡◌ {A = Result (Counts × ℕ) FieldFault} (Ok x) (Ok c)) × (c.0.0 ≤ most_transitions)
+    by_test : (b : Bool) → nat_le x.0.0 most_transitions ≡ b → cond b (Ok x) (Err (BadField 0)) ≡ Ok c
+        → (◌≡◌ {A = Result (Counts × ℕ) FieldFault} (Ok x) (Ok c)) × (c.0.0 ≤ most_transitions)
     by_test true h e =
         let same : x ≡ c = same_ok {X = Counts × ℕ} x c e in
         let le : x.0.0 ≤ most_transitions = grind (arith, nat_tests, h) in

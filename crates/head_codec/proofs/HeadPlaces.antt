@@ -56,7 +56,8 @@ within-amounts = within-seen _ (within-three (within-number w32) (within-number 
 within-desired : IsWithin desired.read
 within-desired =
     within-seen _
-    (within-three (within-both within-name within-name) (within-three (within-number w32) (within-number w32) (within-number w32))
+    (within-three (within-both within-name within-name) (within-three (within-number w32) (within-number w32)
+    (within-number w32))
     (within-three within-optional_name within-optional_name (within-number w16)))
 
 within-nothing : {X : Type 0} → IsWithin (nothing {X = X}).read
@@ -77,7 +78,8 @@ within-old_actual =
 within-actual : IsWithin actual.read
 within-actual =
     within-seen _
-    (within-three (within-three within-key (within-cases presence_readers presence_within) (within-cases lrp_readers lrp_within))
+    (within-three (within-three within-key (within-cases presence_readers presence_within)
+    (within-cases lrp_readers lrp_within))
     (within-both (within-number w32) (within-number w32)) (within-both within-truth within-optional_name))
 
 within-actual_in : (version : ℕ) → IsWithin (actual_in version).read
@@ -108,7 +110,8 @@ within-count is = within-both (within-number w32) is
 within-old_counts : IsWithin old_counts.read
 within-old_counts =
     within-seen _
-    (within-both (within-number w64) (within-both (within-count (within-number w32)) (within-count (within-number w32))))
+    (within-both (within-number w64) (within-both (within-count (within-number w32))
+    (within-count (within-number w32))))
 
 within-counts : IsWithin counts.read
 within-counts =
@@ -127,32 +130,42 @@ Lies most good (Err fault) = fault_place fault ≤ most
 abbrev EndsIn : {X : Type 0} → List ℕ → X × ℕ → Type 0
 EndsIn bytes x = x.1 ≤ length bytes
 
-bind_lies : {A B : Type 0} (most : ℕ) (good : A → Type 0) (fine : B → Type 0) (r : Result A CodecFault) (f : A → Result B CodecFault) → Lies most good r
+bind_lies : {A B : Type 0} (most : ℕ) (good : A → Type 0) (fine : B → Type 0) (r : Result A CodecFault)
+    (f : A → Result B CodecFault) → Lies most good r
     → ((x : A) → good x → Lies most fine (f x)) → Lies most fine (r >>= f)
 bind_lies most good fine (Ok x) f h more = more x h
 bind_lies most good fine (Err fault) f h more = h
 
-row_lies : {X : Type 0} (follows : List X → X → Bool) (bytes : List ℕ) (done : List X × ℕ) (read : Result (X × ℕ) FieldFault) → done.1 ≤ length bytes
+row_lies : {X : Type 0} (follows : List X → X → Bool) (bytes : List ℕ) (done : List X × ℕ)
+    (read : Result (X × ℕ) FieldFault) → done.1 ≤ length bytes
     → IfOk read (λ r. r.1 ≤ length bytes) → Lies (length bytes) (EndsIn bytes) (row_kept follows done read)
 row_lies follows bytes done (Ok x) le h =
-    elim (follows done.0 x.0) as (λ b. Lies (length bytes) (EndsIn bytes) (cond b (Ok (done.0 ++ x.0 ∷ [], x.1)) (Err (BadField done.1)))) [ true ↦ h | false ↦ le ]
+    elim (follows done.0 x.0) as (λ b. Lies (length bytes) (EndsIn bytes)
+    (cond b (Ok (done.0 ++ x.0 ∷ [], x.1)) (Err (BadField done.1)))) [ true ↦ h | false ↦ le ]
 row_lies follows bytes done (Err fault) le h = le
 
-rows_lie : {X : Type 0} (read : Reads X) (follows : List X → X → Bool) → IsWithin read → (n : ℕ) (bytes : List ℕ) (done : List X × ℕ) → done.1 ≤ length bytes
+rows_lie : {X : Type 0} (read : Reads X) (follows : List X → X → Bool) → IsWithin read
+    → (n : ℕ) (bytes : List ℕ) (done : List X × ℕ) → done.1 ≤ length bytes
     → Lies (length bytes) (EndsIn bytes) (head_rows_at read follows n bytes done)
 rows_lie read follows is zero bytes done le = le
 rows_lie read follows is (suc n) bytes done le =
-    bind_lies (length bytes) (EndsIn bytes) (EndsIn bytes) (row_kept follows done (read bytes done.1)) (λ more. head_rows_at read follows n bytes more)
-    (row_lies follows bytes done (read bytes done.1) le (is.ends bytes done.1 le)) (λ more h. rows_lie read follows is n bytes more h)
+    bind_lies (length bytes) (EndsIn bytes) (EndsIn bytes) (row_kept follows done (read bytes done.1))
+    (λ more. head_rows_at read follows n bytes more)
+    (row_lies follows bytes done (read bytes done.1) le (is.ends bytes done.1 le))
+    (λ more h. rows_lie read follows is n bytes more h)
 
-counts_lie : (bytes : List ℕ) (read : Result (Counts × ℕ) FieldFault) → IfOk read (λ r. r.1 ≤ length bytes) → Lies (length bytes) (EndsIn bytes) (counts_read read)
+counts_lie : (bytes : List ℕ) (read : Result (Counts × ℕ) FieldFault) → IfOk read (λ r. r.1 ≤ length bytes)
+    → Lies (length bytes) (EndsIn bytes) (counts_read read)
 counts_lie bytes (Ok c) h =
-    elim (nat_le c.0.0 most_transitions) as (λ b. Lies (length bytes) (EndsIn bytes) (cond b (Ok c) (Err (BadField 0)))) [ true ↦ h | false ↦ omega arith ]
+    elim (nat_le c.0.0 most_transitions) as (λ b. Lies (length bytes) (EndsIn bytes) (cond b (Ok c) (Err (BadField 0))))
+    [ true ↦ h | false ↦ omega arith ]
 counts_lie bytes (Err fault) h = omega arith
 
-ended_lies : (bytes : List ℕ) (rows : Rows) (at : ℕ) → at ≤ length bytes → Lies (length bytes) (λ _. Unit {0}) (head_ended bytes rows at)
+ended_lies : (bytes : List ℕ) (rows : Rows) (at : ℕ) → at ≤ length bytes
+    → Lies (length bytes) (λ _. Unit {0}) (head_ended bytes rows at)
 ended_lies bytes rows at le =
-    elim (nat_lt at (length bytes)) as (λ b. Lies (length bytes) (λ _. Unit {0}) (cond b (Err (Trailing at)) (Ok rows))) [ true ↦ le | false ↦ tt ]
+    elim (nat_lt at (length bytes)) as (λ b. Lies (length bytes) (λ _. Unit {0}) (cond b (Err (Trailing at)) (Ok rows)))
+    [ true ↦ le | false ↦ tt ]
 
 head_lies : (version : ℕ) (bytes : List ℕ) → Lies (length bytes) (λ _. Unit {0}) (head_reading version bytes)
 unfolding head_reading counts_at desired_at actual_at tasks_at cells_at domains_at
@@ -162,19 +175,30 @@ head_lies version bytes =
     let last : Rows → ℕ → Result Rows CodecFault = λ w n. head_ended bytes w n in
     bind_lies most (EndsIn bytes) any (counts_at version bytes) (λ c. behind_counts version bytes last c)
     (counts_lie bytes ((counts_in version).read bytes 0) ((within-counts_in version).ends bytes 0 (omega arith)))
-    (λ c in_c. bind_lies most (EndsIn bytes) any (desired_at c.0.0 c.0.1.0.0 bytes c.1) (λ d. behind_desired version bytes last c d)
-    (rows_lie desired.read (may_follow name_order process_of desired_keep c.0.0) within-desired c.0.1.0.0 bytes ([], c.1) in_c)
-    (λ d in_d. bind_lies most (EndsIn bytes) any (actual_at version c.0.0 c.0.1.0.1 bytes d.1) (λ a. behind_actual version bytes last c d a)
-    (rows_lie (actual_in version).read (may_follow place_order place_of actual_keep c.0.0) (within-actual_in version) c.0.1.0.1 bytes ([], d.1) in_d)
-    (λ a in_a. bind_lies most (EndsIn bytes) any (tasks_at c.0.0 c.0.1.1.0 bytes a.1) (λ t. behind_tasks version bytes last c d a t)
-    (rows_lie task_row.read (may_follow name_order task_name_of tasks_keep c.0.0) within-task c.0.1.1.0 bytes ([], a.1) in_a)
-    (λ t in_t. bind_lies most (EndsIn bytes) any (cells_at c.0.0 c.0.1.1.1.0 bytes t.1) (λ r. behind_cells version bytes last c d a t r)
-    (rows_lie cell_row.read (may_follow name_order cell_name_of cells_keep c.0.0) within-cell c.0.1.1.1.0 bytes ([], t.1) in_t)
-    (λ r in_r. bind_lies most (EndsIn bytes) any (domains_at version c.0.0 c.0.1.1.1.1 bytes r.1) (λ m. last (rows_of c d a t r m) m.1)
-    (rows_lie (domain_in version).read (may_follow name_order domain_name_of domains_keep c.0.0) (within-domain_in version) c.0.1.1.1.1 bytes ([], r.1) in_r)
+    (λ c in_c. bind_lies most (EndsIn bytes) any (desired_at c.0.0 c.0.1.0.0 bytes c.1)
+    (λ d. behind_desired version bytes last c d)
+    (rows_lie desired.read (may_follow name_order process_of desired_keep c.0.0) within-desired c.0.1.0.0 bytes
+    ([], c.1) in_c)
+    (λ d in_d. bind_lies most (EndsIn bytes) any (actual_at version c.0.0 c.0.1.0.1 bytes d.1)
+    (λ a. behind_actual version bytes last c d a)
+    (rows_lie (actual_in version).read (may_follow place_order place_of actual_keep c.0.0)
+    (within-actual_in version) c.0.1.0.1 bytes ([], d.1) in_d)
+    (λ a in_a. bind_lies most (EndsIn bytes) any (tasks_at c.0.0 c.0.1.1.0 bytes a.1)
+    (λ t. behind_tasks version bytes last c d a t)
+    (rows_lie task_row.read (may_follow name_order task_name_of tasks_keep c.0.0) within-task c.0.1.1.0 bytes
+    ([], a.1) in_a)
+    (λ t in_t. bind_lies most (EndsIn bytes) any (cells_at c.0.0 c.0.1.1.1.0 bytes t.1)
+    (λ r. behind_cells version bytes last c d a t r)
+    (rows_lie cell_row.read (may_follow name_order cell_name_of cells_keep c.0.0) within-cell c.0.1.1.1.0 bytes
+    ([], t.1) in_t)
+    (λ r in_r. bind_lies most (EndsIn bytes) any (domains_at version c.0.0 c.0.1.1.1.1 bytes r.1)
+    (λ m. last (rows_of c d a t r m) m.1)
+    (rows_lie (domain_in version).read (may_follow name_order domain_name_of domains_keep c.0.0)
+    (within-domain_in version) c.0.1.1.1.1 bytes ([], r.1) in_r)
     (λ m in_m. ended_lies bytes (rows_of c d a t r m) m.1 in_m))))))
 
 -- the place of a fault of a head is within its bytes
 pub head_fault_lies : (version : ℕ) (bytes : List ℕ) (fault : CodecFault) → head_reading version bytes ≡ Err fault
     → fault_place fault ≤ length bytes
-head_fault_lies version bytes fault e = subst (λ (r : Result Rows CodecFault). Lies (length bytes) (λ _. Unit {0}) r) e (head_lies version bytes)
+head_fault_lies version bytes fault e = subst (λ (r : Result Rows CodecFault). Lies (length bytes) (λ _. Unit {0}) r) e
+    (head_lies version bytes)

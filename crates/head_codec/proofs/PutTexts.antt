@@ -17,7 +17,8 @@ Puts-nothing out at =
     }
 
 -- a text behind one that was put in front
-pub Puts-more : {old mid new : List ℕ} {middle after : ℕ} {a b text : List ℕ} → PutsText old 0 a mid middle → PutsText mid middle b new after → b ≡ text
+pub Puts-more : {old mid new : List ℕ} {middle after : ℕ} {a b text : List ℕ} → PutsText old 0 a mid middle
+    → PutsText mid middle b new after → b ≡ text
     → PutsText old 0 (a ++ text) new after
 Puts-more {old} {mid} {new} {middle} {after} {a} {b} {text} first second is =
     Puts-then (omega arith) first (subst (λ (t : List ℕ). PutsText mid middle t new after) is second)
@@ -26,10 +27,12 @@ Puts-more {old} {mid} {new} {middle} {after} {a} {b} {text} first second is =
 pub Puts-behind : {old text new : List ℕ} {after : ℕ} → PutsText old 0 text new after → drop after new ≡ drop after old
 unfolding written
 Puts-behind {old} {text} {new} {after} puts =
-    ap (drop after) puts.bytes ∙ drop_at text (drop (0 + length text) old) after (omega (arith, puts.place)) ∙ ap (λ (n : ℕ). drop n old) (sym puts.place)
+    ap (drop after) puts.bytes ∙ drop_at text (drop (0 + length text) old) after (omega (arith, puts.place)) ∙ ap
+    (λ (n : ℕ). drop n old) (sym puts.place)
 
 -- the text of one row more
-pub flat_map-next : {X : Type 0} (f : X → List ℕ) (xs : List X) (i : ℕ) (x : X) → i < length xs → flat_map f (take (i + 1) xs) ≡ flat_map f (take i xs) ++ f (get_or xs i x)
+pub flat_map-next : {X : Type 0} (f : X → List ℕ) (xs : List X) (i : ℕ) (x : X) → i < length xs
+    → flat_map f (take (i + 1) xs) ≡ flat_map f (take i xs) ++ f (get_or xs i x)
 flat_map-next f xs i x lt =
     ap (flat_map f) (take_more xs i x lt) ∙ flat_map-append f (take i xs) (get_or xs i x ∷ [])
     ∙ ap (λ (l : List ℕ). flat_map f (take i xs) ++ l) (append-nil (f (get_or xs i x)))
@@ -43,7 +46,8 @@ joined c d a t r m =
     ∙ append_assoc c d (a ++ (t ++ (r ++ m)))
 
 -- and how long they are
-pub length-joined : (c d a t r m : List ℕ) → length (c ++ (d ++ (a ++ (t ++ (r ++ m))))) ≡ length c + (length d + (length a + (length t + (length r + length m))))
+pub length-joined : (c d a t r m : List ℕ) → length (c ++ (d ++ (a ++ (t ++ (r ++ m)))))
+    ≡ length c + (length d + (length a + (length t + (length r + length m))))
 length-joined c d a t r m =
     omega (
       arith,

@@ -18,7 +18,8 @@ use Rattle.head_codec.specs.Head.{Counts, counts, counts_of_old, old_counts_of, 
 laws-counts : HasLaws counts 28 28
 laws-counts =
     laws-both laws-number64
-    (laws-both (laws-both laws-number32 laws-number32) (laws-both laws-number32 (laws-both laws-number32 laws-number32)))
+    (laws-both (laws-both laws-number32 laws-number32) (laws-both laws-number32
+    (laws-both laws-number32 laws-number32)))
 
 -- counts without domains have as many parts as are told
 no_domains : (c : Counts) → c.1.1.1.1 ≡ 0 → counts_of_old (old_counts_of c) ≡ c
@@ -27,7 +28,8 @@ no_domains c none = ap (λ (n : ℕ). (c.0, (c.1.0, (c.1.1.0, (c.1.1.1.0, n)))))
 laws-old_counts : HasLaws old_counts 24 24
 laws-old_counts =
     laws-seen_where (record { made = no_domains; parted = λ x. refl; within = λ x. refl })
-    (laws-both laws-number64 (laws-both (laws-both laws-number32 laws-number32) (laws-both laws-number32 laws-number32)))
+    (laws-both laws-number64 (laws-both (laws-both laws-number32 laws-number32)
+    (laws-both laws-number32 laws-number32)))
 
 pub IsFormat-counts_in : (version : ℕ) → IsFormat (counts_in version)
 IsFormat-counts_in version = IsFormat-in laws-old_counts.field laws-counts.field version

@@ -76,24 +76,29 @@ does_suit Ordinary row h = refl
 does_suit Evacuating row h = true_both (row_is_running row.state) (not row.error) (runs row.state h.0) (ap not h.1)
 does_suit Suspect row h = true_both (row_is_running row.state) (not row.error) (runs row.state h.0) (ap not h.1)
 
-pub AreDesired-table : (next : ℕ) (rows : List Desired) → IsTable name_order process_of desired_keep next rows → AreDesired rows
+pub AreDesired-table : (next : ℕ) (rows : List Desired) → IsTable name_order process_of desired_keep next rows
+    → AreDesired rows
 AreDesired-table next rows t = record {
   rising = t.rising;
   few = t.few;
-  each = each_weaker (λ (d : Desired). nat_le d.instances most_instances ≡ true) HasFewInstances (λ d e. within d.instances most_instances e) rows t.each;
+  each = each_weaker (λ (d : Desired). nat_le d.instances most_instances ≡ true) HasFewInstances
+      (λ d e. within d.instances most_instances e) rows t.each;
   wanted = t.wanted;
 }
 
-pub desired_table : (next : ℕ) (rows : List Desired) → AreDesired rows → IsTable name_order process_of desired_keep next rows
+pub desired_table : (next : ℕ) (rows : List Desired) → AreDesired rows
+    → IsTable name_order process_of desired_keep next rows
 desired_table next rows h = record {
   rising = h.rising;
   few = h.few;
-  each = each_weaker HasFewInstances (λ (d : Desired). nat_le d.instances most_instances ≡ true) (λ d le. is_within d.instances most_instances le) rows h.each;
+  each = each_weaker HasFewInstances (λ (d : Desired). nat_le d.instances most_instances ≡ true)
+      (λ d le. is_within d.instances most_instances le) rows h.each;
   wanted = h.wanted;
   distinct = tt;
 }
 
-pub AreActual-table : (next : ℕ) (rows : List Actual) → IsTable place_order place_of actual_keep next rows → AreActual next rows
+pub AreActual-table : (next : ℕ) (rows : List Actual) → IsTable place_order place_of actual_keep next rows
+    → AreActual next rows
 AreActual-table next rows t = record {
   rising = t.rising;
   few = t.few;
@@ -102,17 +107,20 @@ AreActual-table next rows t = record {
       record { held = held next (holder_of a.state) parts.0; suits = suits a.presence a parts.1 }) rows t.each;
 }
 
-pub actual_table : (next : ℕ) (rows : List Actual) → AreActual next rows → IsTable place_order place_of actual_keep next rows
+pub actual_table : (next : ℕ) (rows : List Actual) → AreActual next rows
+    → IsTable place_order place_of actual_keep next rows
 actual_table next rows h = record {
   rising = h.rising;
   few = h.few;
   each = each_weaker (IsActualRow next) (λ (a : Actual). actual_keep.suits next a ≡ true)
-      (λ a is. true_both (is_held_before next (holder_of a.state)) (suits_presence a.presence a) (is_held next (holder_of a.state) is.held) (does_suit a.presence a is.suits)) rows h.each;
+      (λ a is. true_both (is_held_before next (holder_of a.state)) (suits_presence a.presence a)
+      (is_held next (holder_of a.state) is.held) (does_suit a.presence a is.suits)) rows h.each;
   wanted = omega (arith, sum_zero rows);
   distinct = tt;
 }
 
-pub AreTasks-table : (next : ℕ) (rows : List Task) → IsTable name_order task_name_of tasks_keep next rows → AreTasks next rows
+pub AreTasks-table : (next : ℕ) (rows : List Task) → IsTable name_order task_name_of tasks_keep next rows
+    → AreTasks next rows
 AreTasks-table next rows t = record {
   rising = t.rising;
   few = t.few;
@@ -122,29 +130,35 @@ AreTasks-table next rows t = record {
   births = t.distinct;
 }
 
-pub tasks_table : (next : ℕ) (rows : List Task) → AreTasks next rows → IsTable name_order task_name_of tasks_keep next rows
+pub tasks_table : (next : ℕ) (rows : List Task) → AreTasks next rows
+    → IsTable name_order task_name_of tasks_keep next rows
 tasks_table next rows h = record {
   rising = h.rising;
   few = h.few;
   each = each_weaker (IsTaskRow next) (λ (a : Task). tasks_keep.suits next a ≡ true)
-      (λ a is. true_both (nat_lt a.birth next) (is_held_before next (runner_of a.state)) (is_below a.birth next is.born) (is_held next (runner_of a.state) is.held)) rows h.each;
+      (λ a is. true_both (nat_lt a.birth next) (is_held_before next (runner_of a.state)) (is_below a.birth next is.born)
+      (is_held next (runner_of a.state) is.held)) rows h.each;
   wanted = omega (arith, sum_zero rows);
   distinct = h.births;
 }
 
-pub AreCells-table : (next : ℕ) (rows : List CellRow) → IsTable name_order cell_name_of cells_keep next rows → AreCells next rows
+pub AreCells-table : (next : ℕ) (rows : List CellRow) → IsTable name_order cell_name_of cells_keep next rows
+    → AreCells next rows
 AreCells-table next rows t = record {
   rising = t.rising;
   few = t.few;
-  each = each_weaker (λ (c : CellRow). nat_lt c.epoch next ≡ true) (HasJoined next) (λ c e. below c.epoch next e) rows t.each;
+  each = each_weaker (λ (c : CellRow). nat_lt c.epoch next ≡ true) (HasJoined next)
+      (λ c e. below c.epoch next e) rows t.each;
   epochs = t.distinct;
 }
 
-pub cells_table : (next : ℕ) (rows : List CellRow) → AreCells next rows → IsTable name_order cell_name_of cells_keep next rows
+pub cells_table : (next : ℕ) (rows : List CellRow) → AreCells next rows
+    → IsTable name_order cell_name_of cells_keep next rows
 cells_table next rows h = record {
   rising = h.rising;
   few = h.few;
-  each = each_weaker (HasJoined next) (λ (c : CellRow). nat_lt c.epoch next ≡ true) (λ c lt. is_below c.epoch next lt) rows h.each;
+  each = each_weaker (HasJoined next) (λ (c : CellRow). nat_lt c.epoch next ≡ true)
+      (λ c lt. is_below c.epoch next lt) rows h.each;
   wanted = omega (arith, sum_zero rows);
   distinct = h.epochs;
 }

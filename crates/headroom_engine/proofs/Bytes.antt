@@ -13,14 +13,16 @@ pub stands : (n m : ℕ) → m ≡ n → HasCause false n m
 stands n m same = record { later = omega (arith, same); stood = λ none. same; rose = λ never. absurd (cc (never)) }
 
 -- what was read whole of a source is what it told
-all_read : (left left' : Option (List ℕ)) (bytes read : List ℕ) → left ≡ Some bytes → Consumes left left' read → IsAtEnd left' → read ≡ bytes
+all_read : (left left' : Option (List ℕ)) (bytes read : List ℕ) → left ≡ Some bytes → Consumes left left' read
+    → IsAtEnd left' → read ≡ bytes
 all_read None left' bytes read is consumes end = cc
 all_read (Some xs) None bytes read is consumes end = absurd consumes
 all_read (Some xs) (Some ys) bytes read is consumes end =
     let same : xs ≡ bytes = cc in sym (append-nil read) ∙ ap (λ (l : List ℕ). read ++ l) (sym end) ∙ sym consumes ∙ same
 
 -- no more is taken than there is
-pub not_more : (left left' : Option (List ℕ)) (bytes : List ℕ) (n : ℕ) → left ≡ Some bytes → Lost left left' n → n ≤ length bytes
+pub not_more : (left left' : Option (List ℕ)) (bytes : List ℕ) (n : ℕ) → left ≡ Some bytes → Lost left left' n
+    → n ≤ length bytes
 not_more None left' bytes n is lost = cc
 not_more (Some xs) None bytes n is lost = absurd lost.2
 not_more (Some xs) (Some ys) bytes n is (read, len, consumes) =
@@ -33,7 +35,8 @@ module _ (left left' : Option (List ℕ)) (said : Result Dump FaultAt) (reads : 
 
   -- and there aren't too many
   pub few_of : (bytes : List ℕ) → left ≡ Some bytes → length bytes ≤ limit
-  few_of bytes is = subst (λ (l : List ℕ). length l ≤ limit) (all_read left left' bytes reads.bytes is reads.consumes reads.end) reads.few
+  few_of bytes is = subst (λ (l : List ℕ). length l ≤ limit)
+      (all_read left left' bytes reads.bytes is reads.consumes reads.end) reads.few
 
   pub lost_of : LostAtMost left left' limit
   lost_of = (reads.bytes, reads.few, reads.consumes)

@@ -62,13 +62,15 @@ module _ (text : Asked → Dump → List ℕ) (verdict : Dump → Verdict) (v w 
   starved_from ending.OutOfMemory None n ends = absurd ends
   starved_from how what n ends = absurd (omega (arith, n))
 
-  pub too_long_from : (how : Ending) (what : Option Asked) → status_of how ≡ 8 → Ends how what → Lost v.left w.left (limit + 1)
+  pub too_long_from : (how : Ending) (what : Option Asked) → status_of how ≡ 8 → Ends how what
+      → Lost v.left w.left (limit + 1)
   too_long_from ending.TooLong (Some asked) n ends = ends.lost
   too_long_from ending.TooLong None n ends = absurd ends
   too_long_from how what n ends = absurd (omega (arith, n))
 
   -- the source failed exactly where the status is 3
-  pub read_from : (how : Ending) (what : Option Asked) → Ends how what → HasCause (status_of how == 3) v.read_faults w.read_faults
+  pub read_from : (how : Ending) (what : Option Asked) → Ends how what
+      → HasCause (status_of how == 3) v.read_faults w.read_faults
   read_from ending.Read (Some asked) ends = ends.fault
   read_from ending.Room (Some asked) ends = stands v.read_faults w.read_faults ends.gives.no_fault
   read_from ending.NoRoom (Some asked) ends = stands v.read_faults w.read_faults ends.gives.no_fault

@@ -34,7 +34,8 @@ module _ (text : Asked → Dump → List ℕ) (verdict : Dump → Verdict) (aske
   answers_end dump gives how puts = absurd puts
 
   -- there was none
-  pub fault_ends : (what how : Ending) → ReadsDump (Err what) v.left w.left → HasCause (is_read what) v.read_faults w.read_faults
+  pub fault_ends : (what how : Ending) → ReadsDump (Err what) v.left w.left
+      → HasCause (is_read what) v.read_faults w.read_faults
       → PutsFault what how v.held w.held v.write_faults w.write_faults → Ends how
   fault_ends (ending.Faulty fault line) how reads cause (inl (is, puts)) =
       as_ends (ending.Faulty fault line) how is (record { reads = reads; no_fault = cause.stood refl; prints = puts })
@@ -44,7 +45,8 @@ module _ (text : Asked → Dump → List ℕ) (verdict : Dump → Verdict) (aske
         no_fault = cause.stood refl;
         unwritten = nothing;
       })
-  fault_ends ending.Read how reads cause (is, puts) = as_ends ending.Read how is (record { lost = reads; fault = cause; prints = puts })
+  fault_ends ending.Read how reads cause (is, puts) = as_ends ending.Read how is
+      (record { lost = reads; fault = cause; prints = puts })
   fault_ends ending.TooLong how reads cause (is, puts) =
       as_ends ending.TooLong how is (record { lost = reads; no_fault = cause.stood refl; prints = puts })
   fault_ends ending.OutOfMemory how reads cause (is, nothing) =

@@ -25,7 +25,8 @@ module _ (text : Asked → Dump → List ℕ) (verdict : Dump → Verdict) (aske
   module _ (few : TellsFew bytes v.left) where
     not_too_long : Lost v.left w.left (limit + 1) → ⊥
     not_too_long lost =
-        let more = not_more v.left w.left bytes (limit + 1) few.left_is lost in let less = few.few in omega (arith, more, less)
+        let more = not_more v.left w.left bytes (limit + 1) few.left_is lost in let less = few.few in
+        omega (arith, more, less)
 
     -- the bytes come to what was read
     same : (said : Result Dump FaultAt) → ReadsWhole said v.left w.left → dump_of bytes ≡ said
@@ -37,19 +38,23 @@ module _ (text : Asked → Dump → List ℕ) (verdict : Dump → Verdict) (aske
     told_as : (said : Result Dump FaultAt) (status : ℕ) → ReadsWhole said v.left w.left
         → TellsAll (telling_of text verdict asked said) status v.held w.held → Told status
     told_as said status reads told =
-        subst (λ (s : Result Dump FaultAt). TellsAll (telling_of text verdict asked s) status v.held w.held) (sym (same said reads)) told
+        subst (λ (s : Result Dump FaultAt). TellsAll (telling_of text verdict asked s) status v.held w.held)
+        (sym (same said reads)) told
 
     told_whole : (status : ℕ) → TellsWhole text verdict asked status v w → Told status
     told_whole status whole =
-        told_as (Ok whole.dump) status whole.gives.reads (record { status_is = sym whole.status_is; all = whole.prints.all })
+        told_as (Ok whole.dump) status whole.gives.reads (record
+        { status_is = sym whole.status_is; all = whole.prints.all })
 
-    told_fault : (fault : DumpFault) (line : ℕ) → TellsFault fault line v w → NoFault v.write_faults w.write_faults → Told 2
+    told_fault : (fault : DumpFault) (line : ℕ) → TellsFault fault line v w → NoFault v.write_faults w.write_faults
+        → Told 2
     told_fault fault line tells sink = elim tells.prints [
       | inl whole ↦ told_as (Err (at fault line)) 2 tells.reads (record { status_is = refl; all = whole.all })
       | inr part ↦ absurd (sink (part.fault.rose refl))
     ]
 
-    pub told_from : (how : Ending) → Ends how → NoFault v.read_faults w.read_faults → NoFault v.write_faults w.write_faults
+    pub told_from : (how : Ending) → Ends how → NoFault v.read_faults w.read_faults
+        → NoFault v.write_faults w.write_faults
         → (status_of how ≡ 7) ⊎ Told (status_of how)
     told_from ending.Room ends source sink = inr (told_whole 0 ends)
     told_from ending.NoRoom ends source sink = inr (told_whole 10 ends)
@@ -63,13 +68,17 @@ module _ (text : Asked → Dump → List ℕ) (verdict : Dump → Verdict) (aske
     not_both : (dump : Dump) (fault : FaultAt) → dump_of bytes ≡ Ok dump → dump_of bytes ≡ Err fault → ⊥
     not_both dump fault is other = cc
 
-    pub no_dump_from : (how : Ending) (fault : FaultAt) → Ends how → dump_of bytes ≡ Err fault → NoFault v.read_faults w.read_faults
+    pub no_dump_from : (how : Ending) (fault : FaultAt) → Ends how → dump_of bytes ≡ Err fault
+        → NoFault v.read_faults w.read_faults
         → (status_of how ≡ 2) ⊎ (status_of how ≡ 7)
     no_dump_from (ending.Faulty other line) fault ends is source = inl refl
     no_dump_from ending.OutOfMemory fault ends is source = inr refl
-    no_dump_from ending.Room fault ends is source = absurd (not_both ends.dump fault (same (Ok ends.dump) ends.gives.reads) is)
-    no_dump_from ending.NoRoom fault ends is source = absurd (not_both ends.dump fault (same (Ok ends.dump) ends.gives.reads) is)
-    no_dump_from ending.Unwritten fault ends is source = absurd (not_both ends.dump fault (same (Ok ends.dump) ends.gives.reads) is)
+    no_dump_from ending.Room fault ends is source = absurd
+        (not_both ends.dump fault (same (Ok ends.dump) ends.gives.reads) is)
+    no_dump_from ending.NoRoom fault ends is source = absurd
+        (not_both ends.dump fault (same (Ok ends.dump) ends.gives.reads) is)
+    no_dump_from ending.Unwritten fault ends is source = absurd
+        (not_both ends.dump fault (same (Ok ends.dump) ends.gives.reads) is)
     no_dump_from ending.Read fault ends is source = absurd (source (ends.fault.rose refl))
     no_dump_from ending.TooLong fault ends is source = absurd (not_too_long ends.lost)
     no_dump_from ending.Usage fault ends is source = absurd ends
@@ -81,7 +90,8 @@ module _ (text : Asked → Dump → List ℕ) (verdict : Dump → Verdict) (aske
     not_whole said reads =
         let few = few_of v.left w.left said reads bytes many.left_is in let more = many.many in omega (arith, few, more)
 
-    pub too_much_from : (how : Ending) → Ends how → NoFault v.read_faults w.read_faults → (status_of how ≡ 8) ⊎ (status_of how ≡ 7)
+    pub too_much_from : (how : Ending) → Ends how → NoFault v.read_faults w.read_faults
+        → (status_of how ≡ 8) ⊎ (status_of how ≡ 7)
     too_much_from ending.TooLong ends source = inl refl
     too_much_from ending.OutOfMemory ends source = inr refl
     too_much_from ending.Room ends source = absurd (not_whole (Ok ends.dump) ends.gives.reads)

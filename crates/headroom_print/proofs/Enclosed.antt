@@ -70,7 +70,8 @@ pub built : {E : Type 0} {old first second : Written} (new : Written) (ms : List
     → OnOk r (AddsTokens second new (end_object ∷ []))
     → OnOk r (AddsValue old new (object (members_of ms)))
 built {E} {old} {first} {second} new ms r begun added =
-    on_ok (AddsTokens second new (end_object ∷ [])) (AddsValue old new (object (members_of ms))) r (object_of ms begun added)
+    on_ok (AddsTokens second new (end_object ∷ [])) (AddsValue old new (object (members_of ms))) r
+    (object_of ms begun added)
 
 -- a count, told where it isn't 0
 lack_told : (b : Bool) (name : List ℕ) (n : ℕ) (rest : List (List ℕ × ℕ))

@@ -21,7 +21,8 @@ abbrev pub open_members : Members → List Token
 open_members no_members = []
 open_members (member k d ms) = key k ∷ (json_tokens (outline d) ++ open_members ms)
 
-open_more : (ms : Members) (k : List ℕ) (d : Data) → open_members ms ++ key k ∷ json_tokens (outline d) ≡ open_members (and_member ms k d)
+open_more : (ms : Members) (k : List ℕ) (d : Data) → open_members ms ++ key k ∷ json_tokens (outline d)
+    ≡ open_members (and_member ms k d)
 open_more no_members k d = ap (λ ts. key k ∷ ts) (sym (append-nil (json_tokens (outline d))))
 open_more (member l e ms) k d =
     ap (λ ts. key l ∷ ts)
@@ -43,7 +44,8 @@ pub record IsOpen (old new : Written) (ms : Members) : Type 0 where
 pub opened : {old new : Written} → AddsTokens old new (begin_object ∷ []) → IsOpen old new no_members
 opened e = record { before = e.before; tokens = e.tokens }
 
-pub more : {old mid new : Written} {ms : Members} {k : List ℕ} {d : Data} → IsOpen old mid ms → AddsMember mid new k d → IsOpen old new (and_member ms k d)
+pub more : {old mid new : Written} {ms : Members} {k : List ℕ} {d : Data} → IsOpen old mid ms → AddsMember mid new k d
+    → IsOpen old new (and_member ms k d)
 more {old} {mid} {new} {ms} {k} {d} so_far e = record {
   before = e.before ∙ so_far.before;
   tokens = e.tokens
@@ -53,13 +55,17 @@ more {old} {mid} {new} {ms} {k} {d} so_far e = record {
 }
 
 -- the same, where the value was made by a call
-pub more_as : {old mid new : Written} {ms : Members} {k : List ℕ} {d e : Data} → e ≡ d → IsOpen old mid ms → AddsMember mid new k e → IsOpen old new (and_member ms k d)
-more_as {old} {mid} {new} {ms} {k} {d} {e} same so_far added = more so_far (subst (λ it. AddsMember mid new k it) same added)
+pub more_as : {old mid new : Written} {ms : Members} {k : List ℕ} {d e : Data} → e ≡ d → IsOpen old mid ms
+    → AddsMember mid new k e → IsOpen old new (and_member ms k d)
+more_as {old} {mid} {new} {ms} {k} {d} {e} same so_far added =
+    more so_far (subst (λ it. AddsMember mid new k it) same added)
 
-pub more_text : {old mid new : Written} {ms : Members} {k s t : List ℕ} → t ≡ s → IsOpen old mid ms → AddsMember mid new k (string t) → IsOpen old new (and_member ms k (string s))
+pub more_text : {old mid new : Written} {ms : Members} {k s t : List ℕ} → t ≡ s → IsOpen old mid ms
+    → AddsMember mid new k (string t) → IsOpen old new (and_member ms k (string s))
 more_text same = more_as (ap (λ t. string t) same)
 
-closed_value : {old mid new : Written} {ms : Members} → IsOpen old mid ms → AddsTokens mid new (end_object ∷ []) → AddsValue old new (object ms)
+closed_value : {old mid new : Written} {ms : Members} → IsOpen old mid ms → AddsTokens mid new (end_object ∷ [])
+    → AddsValue old new (object ms)
 closed_value {old} {mid} {new} {ms} so_far e = record {
   before = e.before ∙ so_far.before;
   tokens = e.tokens
@@ -74,11 +80,14 @@ on_ok A B (Ok x) f h = f h
 on_ok A B (Err e) f h = tt
 
 -- the object, whose end was written or wanted memory
-pub closed : {E : Type 0} {old mid : Written} {ms : Members} (new : Written) (r : Result (Unit {0}) E) → IsOpen old mid ms → OnOk r (AddsTokens mid new (end_object ∷ [])) → OnOk r (AddsValue old new (object ms))
-closed {E} {old} {mid} {ms} new r so_far = on_ok (AddsTokens mid new (end_object ∷ [])) (AddsValue old new (object ms)) r (closed_value so_far)
+pub closed : {E : Type 0} {old mid : Written} {ms : Members} (new : Written) (r : Result (Unit {0}) E)
+    → IsOpen old mid ms → OnOk r (AddsTokens mid new (end_object ∷ [])) → OnOk r (AddsValue old new (object ms))
+closed {E} {old} {mid} {ms} new r so_far = on_ok (AddsTokens mid new (end_object ∷ []))
+    (AddsValue old new (object ms)) r (closed_value so_far)
 
 -- a key, and its value
-keyed_value : {old mid new : Written} {k : List ℕ} {d : Data} → AddsTokens old mid (key k ∷ []) → AddsValue mid new d → AddsMember old new k d
+keyed_value : {old mid new : Written} {k : List ℕ} {d : Data} → AddsTokens old mid (key k ∷ []) → AddsValue mid new d
+    → AddsMember old new k d
 keyed_value {old} {mid} {new} {k} {d} named e = record {
   before = e.before ∙ named.before;
   tokens = e.tokens
@@ -86,11 +95,13 @@ keyed_value {old} {mid} {new} {k} {d} named e = record {
       ∙ append_assoc old.tokens (key k ∷ []) (json_tokens (outline d));
 }
 
-pub keyed : {E : Type 0} {old mid : Written} {k : List ℕ} (new : Written) (d : Data) (r : Result (Unit {0}) E) → AddsTokens old mid (key k ∷ []) → OnOk r (AddsValue mid new d) → OnOk r (AddsMember old new k d)
+pub keyed : {E : Type 0} {old mid : Written} {k : List ℕ} (new : Written) (d : Data) (r : Result (Unit {0}) E)
+    → AddsTokens old mid (key k ∷ []) → OnOk r (AddsValue mid new d) → OnOk r (AddsMember old new k d)
 keyed {E} {old} {mid} {k} new d r named = on_ok (AddsValue mid new d) (AddsMember old new k d) r (keyed_value named)
 
 -- a line to which a value was written, and nothing else
-pub line_written : {d : Data} {old new : Written} (text : List ℕ) → (old.before ≡ []) × (old.tokens ≡ []) → AddsValue old new d → text ≡ (new.before ++ print new.tokens) ++ 10 ∷ [] → text ≡ line_text d
+pub line_written : {d : Data} {old new : Written} (text : List ℕ) → (old.before ≡ []) × (old.tokens ≡ [])
+    → AddsValue old new d → text ≡ (new.before ++ print new.tokens) ++ 10 ∷ [] → text ≡ line_text d
 line_written {d} {old} {new} text blank added is =
     is
     ∙ (λ i. (added.before i ++ print (added.tokens i)) ++ 10 ∷ [])

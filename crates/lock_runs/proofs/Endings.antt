@@ -23,15 +23,18 @@ use Rattle.lock_runs.specs.Runs.{EndsOpened, EndsUnlocked, EndsUnread, HasNoLock
 
 module _ (lines : List LockLine) (locks : LockLog) (marks : List ℕ) (v w : Ports) where
   -- they ran on the lock journal that was opened
-  pub opened_ends : (life : List LockCommand) (m : Ports) → OpensWhat (IsLocket life) v m → (how : Ending) → RunsLines life lines how locks marks m w
+  pub opened_ends : (life : List LockCommand) (m : Ports) → OpensWhat (IsLocket life) v m → (how : Ending)
+      → RunsLines life lines how locks marks m w
       → LinesEnd lines how locks marks v w
   opened_ends life m opens ending.Done runs = record { life = life; between = m; opens = opens; runs = runs }
   opened_ends life m opens ending.Doubt runs = record { life = life; between = m; opens = opens; runs = runs }
   opened_ends life m opens ending.Unwritten runs = record { life = life; between = m; opens = opens; runs = runs }
-  opened_ends life m opens ending.OutOfMemory runs = inl (record { life = life; between = m; opens = opens; runs = runs })
+  opened_ends life m opens ending.OutOfMemory runs = inl
+      (record { life = life; between = m; opens = opens; runs = runs })
   opened_ends life m opens how runs = absurd runs.writes
 
-  unlocked : (how : Ending) → HasNoLocks locks marks → EndsClosed RefusesLocket how v w → LinesEnd lines how locks marks v w
+  unlocked : (how : Ending) → HasNoLocks locks marks → EndsClosed RefusesLocket how v w
+      → LinesEnd lines how locks marks v w
   unlocked ending.Done none ends = absurd ends
   unlocked ending.Doubt none ends = absurd ends
   unlocked ending.Unwritten none ends = absurd ends
@@ -39,8 +42,10 @@ module _ (lines : List LockLine) (locks : LockLog) (marks : List ℕ) (v w : Por
   unlocked how none ends = (none, ends)
 
   -- no lock journal was opened
-  pub unlocked_ends : (how other : Ending) → other ≡ how → HasNoLocks locks marks → EndsClosed RefusesLocket how v w → LinesEnd lines other locks marks v w
-  unlocked_ends how other is none ends = subst (λ (x : Ending). LinesEnd lines x locks marks v w) (sym is) (unlocked how none ends)
+  pub unlocked_ends : (how other : Ending) → other ≡ how → HasNoLocks locks marks → EndsClosed RefusesLocket how v w
+      → LinesEnd lines other locks marks v w
+  unlocked_ends how other is none ends = subst (λ (x : Ending). LinesEnd lines x locks marks v w) (sym is)
+      (unlocked how none ends)
 
   -- the disk was looked at
   pub not_before : (how : Ending) → LinesEnd lines how locks marks v w → is_before_board (status_of how) ≡ true → ⊥
@@ -69,16 +74,23 @@ module _ (locks : LockLog) (marks : List ℕ) (left left' : Option (List ℕ)) (
   lines_run how runs = runs
 
   -- these lines, which are those that ran
-  pub given_run : (how : Ending) (lines given : List LockLine) → given ≡ lines → ReadsWhole lock_lines_of (Ok lines) left left'
+  pub given_run : (how : Ending) (lines given : List LockLine) → given ≡ lines
+      → ReadsWhole lock_lines_of (Ok lines) left left'
       → LinesEnd given how locks marks v w → Ends how
   given_run how lines given same reads ends =
-      lines_run how (record { lines = lines; reads = reads; ends = subst (λ (l : List LockLine). LinesEnd l how locks marks v w) same ends })
+      lines_run how (record {
+        lines = lines;
+        reads = reads;
+        ends =
+            subst (λ (l : List LockLine). LinesEnd l how locks marks v w) same ends;
+      })
 
   module _ (same : w.told ≡ v.told) (stands : w.disk_faults ≡ v.disk_faults) (whole : Bool) where
     unseen : (how : Ending) → HasNoLocks locks marks → Prints whole (line_of how) v w → EndsUnread how locks marks v w
     unseen how none prints = (none, record { told = same; faults = stands; whole = whole; prints = prints })
 
-    wants : HasNoLocks locks marks → Prints whole (line_of ending.OutOfMemory) v w → LostAtMost left left' limit → Ends ending.OutOfMemory
+    wants : HasNoLocks locks marks → Prints whole (line_of ending.OutOfMemory) v w → LostAtMost left left' limit
+        → Ends ending.OutOfMemory
     wants none prints lost = inr ((none, rests_unseen v w same stands whole ending.OutOfMemory prints), lost)
 
     lost_of : (fault : ScriptFault) → ReadsWhole lock_lines_of (Err fault) left left' → LostAtMost left left' limit
@@ -87,18 +99,23 @@ module _ (locks : LockLog) (marks : List ℕ) (left left' : Option (List ℕ)) (
     as_prints : (how other : Ending) → other ≡ how → Prints whole (line_of other) v w → Prints whole (line_of how) v w
     as_prints how other is prints = subst (λ (x : Ending). Prints whole (line_of x) v w) is prints
 
-    unread_ends : (what how : Ending) → ReadsAs lock_lines_of (Err what) left left' → EndsAs what how → HasNoLocks locks marks → Prints whole (line_of how) v w → Ends how
+    unread_ends : (what how : Ending) → ReadsAs lock_lines_of (Err what) left left' → EndsAs what how
+        → HasNoLocks locks marks → Prints whole (line_of how) v w → Ends how
     unread_ends (ending.Script why) how reads (inl is) none prints =
         subst Ends (sym is) (unseen (ending.Script why) none (as_prints (ending.Script why) how is prints), reads)
     unread_ends (ending.Script why) how reads (inr is) none prints =
         subst Ends (sym is) (wants none (as_prints ending.OutOfMemory how is prints) (lost_of why reads))
-    unread_ends ending.Read how reads is none prints = subst Ends (sym is) (unseen ending.Read none (as_prints ending.Read how is prints), reads)
-    unread_ends ending.TooLong how reads is none prints = subst Ends (sym is) (unseen ending.TooLong none (as_prints ending.TooLong how is prints), reads)
-    unread_ends ending.OutOfMemory how reads is none prints = subst Ends (sym is) (wants none (as_prints ending.OutOfMemory how is prints) reads)
+    unread_ends ending.Read how reads is none prints = subst Ends (sym is)
+        (unseen ending.Read none (as_prints ending.Read how is prints), reads)
+    unread_ends ending.TooLong how reads is none prints =
+        subst Ends (sym is) (unseen ending.TooLong none (as_prints ending.TooLong how is prints), reads)
+    unread_ends ending.OutOfMemory how reads is none prints =
+        subst Ends (sym is) (wants none (as_prints ending.OutOfMemory how is prints) reads)
     unread_ends what how never is none prints = absurd never
 
     -- it gave no lines
-    pub unread : (what how other : Ending) → other ≡ how → ReadsAs lock_lines_of (Err what) left left' → EndsAs what how → HasNoLocks locks marks
+    pub unread : (what how other : Ending) → other ≡ how → ReadsAs lock_lines_of (Err what) left left' → EndsAs what how
+        → HasNoLocks locks marks
         → Prints whole (line_of how) v w → Ends other
     unread what how other is reads ends none prints = subst Ends (sym is) (unread_ends what how reads ends none prints)
 

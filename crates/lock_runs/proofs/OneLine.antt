@@ -27,7 +27,8 @@ answer_is (Changes next answer) reply (inl is) = cc
 answer_is (Changes next answer) reply (inr (inl never)) = cc
 answer_is (Changes next answer) reply (inr (inr never)) = cc
 
-doubt_is : (verdict : LockVerdict) (command : LockCommand) → EndsLock verdict (Err Disk) → lock_added verdict (Err Disk) command ≡ Doubt command ∷ []
+doubt_is : (verdict : LockVerdict) (command : LockCommand) → EndsLock verdict (Err Disk)
+    → lock_added verdict (Err Disk) command ≡ Doubt command ∷ []
 doubt_is (Stays answer) command never = cc
 doubt_is (Changes next answer) command ends = refl
 
@@ -35,7 +36,8 @@ nothing_is : (verdict : LockVerdict) (command : LockCommand) → lock_added verd
 nothing_is (Stays answer) command = refl
 nothing_is (Changes next answer) command = refl
 
-goes_on : (items : LockLog) (waited waits : Bool) (life : List LockCommand) (p q : Past) → DoesLock items waited waits life p q → Extends p q
+goes_on : (items : LockLog) (waited waits : Bool) (life : List LockCommand) (p q : Past)
+    → DoesLock items waited waits life p q → Extends p q
 goes_on [] waited waits life p q same = subst (λ (x : Past). Extends p x) (sym same) (extends_same p)
 goes_on (Done c ∷ items) waited waits life p q passes = passes.extends
 goes_on (Doubt c ∷ items) waited waits life p q passes = passes.extends
@@ -48,7 +50,8 @@ module _ {D : Type 0} (told : D → Option Past) (moment fault_count : D → ℕ
   pub record Called (result : Result LockReply LockFault) : Type 0 where
     pub ends : EndsLock verdict result
     pub grows : GrowsLocks (lock_added verdict result line.command) (moment w.disk) v w
-    pub does : Goes (told v.disk) (told w.disk) (DoesLock (lock_added verdict result line.command) v.waits w.waits (life_of v))
+    pub does : Goes (told v.disk) (told w.disk) (DoesLock (lock_added verdict result line.command) v.waits w.waits
+        (life_of v))
     pub uses : LockUses moment fault_count (lock_added verdict result line.command) (is_lock_disk_fault result) v w
 
   pub at_fault : (fault other : LockFault) → fault ≡ other → Called (Err fault) → Called (Err other)
@@ -57,13 +60,17 @@ module _ {D : Type 0} (told : D → Option Past) (moment fault_count : D → ℕ
   module _ (text text' : List ℕ) where
     extends_by : (result : Result LockReply LockFault) → Called result → Goes (told v.disk) (told w.disk) Extends
     extends_by result called =
-        goes_weaker (told v.disk) (told w.disk) (DoesLock (lock_added verdict result line.command) v.waits w.waits (life_of v)) Extends
-        (λ p q i j does. goes_on (lock_added verdict result line.command) v.waits w.waits (life_of v) p q does) called.does
+        goes_weaker (told v.disk) (told w.disk) (DoesLock (lock_added verdict result line.command) v.waits w.waits
+        (life_of v)) Extends
+        (λ p q i j does. goes_on (lock_added verdict result line.command) v.waits w.waits (life_of v) p q does)
+        called.does
 
     -- the log of a line that was answered
-    answered_log : (reply : LockReply) → Called (Ok reply) → w.log ≡ (v.log ++ lock_added verdict (Ok (answer_of verdict)) line.command) ++ []
+    answered_log : (reply : LockReply) → Called (Ok reply)
+        → w.log ≡ (v.log ++ lock_added verdict (Ok (answer_of verdict)) line.command) ++ []
     answered_log reply called =
-        called.grows.log ∙ ap (λ (r : LockReply). v.log ++ lock_added verdict (Ok r) line.command) (answer_is verdict reply called.ends)
+        called.grows.log ∙ ap (λ (r : LockReply). v.log ++ lock_added verdict (Ok r) line.command)
+        (answer_is verdict reply called.ends)
         ∙ sym (append-nil (v.log ++ lock_added verdict (Ok (answer_of verdict)) line.command))
 
     pub line_answered : (reply : LockReply) → Called (Ok reply) → text' ≡ text ++ answer_line line.line reply
@@ -87,7 +94,8 @@ module _ {D : Type 0} (told : D → Option Past) (moment fault_count : D → ℕ
     }
 
     -- it was answered, and there was no memory for the text
-    pub line_untold : (reply : LockReply) → Called (Ok reply) → RunsOn told fault_count (line ∷ []) (Err OutOfMemory) text text' v w
+    pub line_untold : (reply : LockReply) → Called (Ok reply)
+        → RunsOn told fault_count (line ∷ []) (Err OutOfMemory) text text' v w
     line_untold reply called = record {
       ran = line ∷ [];
       failed = None;
@@ -105,7 +113,8 @@ module _ {D : Type 0} (told : D → Option Past) (moment fault_count : D → ℕ
     failed_log : Called (Err Disk) → w.log ≡ v.log ++ Doubt line.command ∷ []
     failed_log called = called.grows.log ∙ ap (λ (l : LockLog). v.log ++ l) (doubt_is verdict line.command called.ends)
 
-    pub line_failed : Called (Err Disk) → text' ≡ text ++ disk_line line.line → RunsOn told fault_count (line ∷ []) (Err Disk) text text' v w
+    pub line_failed : Called (Err Disk) → text' ≡ text ++ disk_line line.line
+        → RunsOn told fault_count (line ∷ []) (Err Disk) text text' v w
     line_failed called is = record {
       ran = [];
       failed = Some line;

@@ -14,7 +14,8 @@ pub from-append : (s : LockState) (xs ys : List LockCommand) → state_from s (x
 from-append s [] ys = refl
 from-append s (c ∷ xs) ys = from-append (state_after s c) xs ys
 
-pub changes-append : (s : LockState) (xs ys : List LockCommand) → AreChanges s xs → AreChanges (state_from s xs) ys → AreChanges s (xs ++ ys)
+pub changes-append : (s : LockState) (xs ys : List LockCommand) → AreChanges s xs → AreChanges (state_from s xs) ys
+    → AreChanges s (xs ++ ys)
 changes-append s [] ys first second = second
 changes-append s (c ∷ xs) ys first second = (first.0, changes-append (state_after s c) xs ys first.1 second)
 
@@ -22,7 +23,8 @@ pub changes-front : (s : LockState) (xs ys : List LockCommand) → AreChanges s 
 changes-front s [] ys both = tt
 changes-front s (c ∷ xs) ys both = (both.0, changes-front (state_after s c) xs ys both.1)
 
-pub changes-back : (s : LockState) (xs ys : List LockCommand) → AreChanges s (xs ++ ys) → AreChanges (state_from s xs) ys
+pub changes-back : (s : LockState) (xs ys : List LockCommand) → AreChanges s (xs ++ ys)
+    → AreChanges (state_from s xs) ys
 changes-back s [] ys both = both
 changes-back s (c ∷ xs) ys both = changes-back (state_after s c) xs ys both.1
 
@@ -51,7 +53,8 @@ counted_from s [] counted are = counted
 counted_from s (c ∷ cs) counted are = counted_from (state_after s c) cs (counted_after s c counted are.0) are.1
 
 -- the count is that of the changes
-pub count_from : (s : LockState) (cs : List LockCommand) → AreChanges s cs → (state_from s cs).count ≡ s.count + length cs
+pub count_from : (s : LockState) (cs : List LockCommand) → AreChanges s cs
+    → (state_from s cs).count ≡ s.count + length cs
 count_from s [] are = omega arith
 count_from s (c ∷ cs) are =
     let a = after_change s c are.0 in
@@ -87,14 +90,16 @@ lawful_take s (Done c ∷ log) (suc place) lawful = (lawful.0, lawful_take (stat
 lawful_take s (Doubt c ∷ log) (suc place) lawful = (lawful.0, lawful_take s log place lawful.1)
 
 -- a doubt would change the state that what is done before it leaves
-pub lawful_doubt : (s : LockState) (log : LockLog) (place : ℕ) (c : LockCommand) → IsLawful s log → slice_get log place ≡ Some (Doubt c) → IsChange (state_from s (done_in (take place log))) c
+pub lawful_doubt : (s : LockState) (log : LockLog) (place : ℕ) (c : LockCommand) → IsLawful s log
+    → slice_get log place ≡ Some (Doubt c) → IsChange (state_from s (done_in (take place log))) c
 lawful_doubt s [] place c lawful is = absurd cc
 lawful_doubt s (Done d ∷ log) zero c lawful is = absurd cc
 lawful_doubt s (Done d ∷ log) (suc place) c lawful is = lawful_doubt (state_after s d) log place c lawful.1 is
 lawful_doubt s (Doubt d ∷ log) zero c lawful is = let same : d ≡ c = cc in subst (IsChange s) same lawful.0
 lawful_doubt s (Doubt d ∷ log) (suc place) c lawful is = lawful_doubt s log place c lawful.1 is
 
-pub lawful_more : (s : LockState) (log : LockLog) (ok : Bool) (c : LockCommand) → IsLawful s log → IsChange (state_from s (done_in log)) c → IsLawful s (log ++ entry_of ok c ∷ [])
+pub lawful_more : (s : LockState) (log : LockLog) (ok : Bool) (c : LockCommand) → IsLawful s log
+    → IsChange (state_from s (done_in log)) c → IsLawful s (log ++ entry_of ok c ∷ [])
 lawful_more s [] true c lawful is = (is, tt)
 lawful_more s [] false c lawful is = (is, tt)
 lawful_more s (Done d ∷ log) ok c lawful is = (lawful.0, lawful_more (state_after s d) log ok c lawful.1 is)
@@ -119,14 +124,16 @@ spelled_take (item ∷ log) zero fits = tt
 spelled_take (Done c ∷ log) (suc place) fits = (fits.0, spelled_take log place fits.1)
 spelled_take (Doubt c ∷ log) (suc place) fits = (fits.0, spelled_take log place fits.1)
 
-pub spelled_doubt : (log : LockLog) (place : ℕ) (c : LockCommand) → AreSpelled log → slice_get log place ≡ Some (Doubt c) → FitsLock c
+pub spelled_doubt : (log : LockLog) (place : ℕ) (c : LockCommand) → AreSpelled log
+    → slice_get log place ≡ Some (Doubt c) → FitsLock c
 spelled_doubt [] place c fits is = absurd cc
 spelled_doubt (Done d ∷ log) zero c fits is = absurd cc
 spelled_doubt (Done d ∷ log) (suc place) c fits is = spelled_doubt log place c fits.1 is
 spelled_doubt (Doubt d ∷ log) zero c fits is = let same : d ≡ c = cc in subst FitsLock same fits.0
 spelled_doubt (Doubt d ∷ log) (suc place) c fits is = spelled_doubt log place c fits.1 is
 
-pub spelled_more : (log : LockLog) (ok : Bool) (c : LockCommand) → AreSpelled log → FitsLock c → AreSpelled (log ++ entry_of ok c ∷ [])
+pub spelled_more : (log : LockLog) (ok : Bool) (c : LockCommand) → AreSpelled log → FitsLock c
+    → AreSpelled (log ++ entry_of ok c ∷ [])
 spelled_more [] true c fits is = (is, tt)
 spelled_more [] false c fits is = (is, tt)
 spelled_more (Done d ∷ log) ok c fits is = (fits.0, spelled_more log ok c fits.1 is)

@@ -18,11 +18,14 @@ ok_and_err : {X : Type 0} (x : X) (fault : LoadFault) (r : Result X LoadFault) �
 ok_and_err x fault r first second = cc
 
 -- what was loaded is a locket
-pub loaded_locket : (c : Image) (area : Area) (version generation : ℕ) (head : List ℕ) (payloads : List (List ℕ)) (broken : Option ℕ) (end : ℕ) (s : LockState)
-    → IsOpening c area version generation head payloads broken end → locks_of version area head payloads broken ≡ Ok s → IsLocket (commands_in payloads) c
+pub loaded_locket : (c : Image) (area : Area) (version generation : ℕ) (head : List ℕ) (payloads : List (List ℕ))
+    (broken : Option ℕ) (end : ℕ) (s : LockState)
+    → IsOpening c area version generation head payloads broken end → locks_of version area head payloads broken ≡ Ok s
+    → IsLocket (commands_in payloads) c
 loaded_locket c area version generation head payloads broken end s opening is =
     let none : broken ≡ None = locks_unbroken version area head payloads broken s is in
-    let whole : locks_of version area head payloads None ≡ Ok s = subst (λ (b : Option ℕ). locks_of version area head payloads b ≡ Ok s) none is in
+    let whole : locks_of version area head payloads None ≡ Ok s =
+    subst (λ (b : Option ℕ). locks_of version area head payloads b ≡ Ok s) none is in
     let lived = locks_lived version area head payloads s whole in
     record {
       area = area;
@@ -38,21 +41,28 @@ loaded_locket c area version generation head payloads broken end s opening is =
 
 pub one_life : LocketOpensInOneWay
 one_life a b c first second =
-    let same = opens_once c first.area second.area first.version second.version first.generation second.generation first.head second.head first.payloads second.payloads None None first.end second.end first.opening second.opening in
+    let same = opens_once c first.area second.area first.version second.version first.generation second.generation
+    first.head second.head first.payloads second.payloads None None first.end second.end first.opening
+    second.opening in
     first.life_is ∙ ap commands_in same.payloads_are ∙ sym second.life_is
 
 pub not_refused : LocketOrRefused
 not_refused life fault c l (inl refused) = cc (l.opening.head_is, refused)
 not_refused life fault c l (inr damaged) =
-    let same = opens_once c l.area damaged.area l.version damaged.version l.generation damaged.generation l.head damaged.head l.payloads damaged.payloads None damaged.broken l.end damaged.end l.opening damaged.opening in
-    let there : locks_of l.version l.area l.head l.payloads None ≡ locks_of damaged.version damaged.area damaged.head damaged.payloads damaged.broken =
+    let same = opens_once c l.area damaged.area l.version damaged.version l.generation damaged.generation l.head
+    damaged.head l.payloads damaged.payloads None damaged.broken l.end damaged.end l.opening damaged.opening in
+    let there : locks_of l.version l.area l.head l.payloads None
+    ≡ locks_of damaged.version damaged.area damaged.head damaged.payloads damaged.broken =
     λ i. locks_of (same.version_is i) (same.area_is i) (same.head_is i) (same.payloads_are i) (same.broken_is i) in
     ok_and_err _ fault _ l.state_is (there ∙ damaged.fault_is)
 
 damaged_once : (a b : LoadFault) (c : Image) → IsDamagedLocket a c → IsDamagedLocket b c → a ≡ b
 damaged_once a b c first second =
-    let same = opens_once c first.area second.area first.version second.version first.generation second.generation first.head second.head first.payloads second.payloads first.broken second.broken first.end second.end first.opening second.opening in
-    let there : locks_of first.version first.area first.head first.payloads first.broken ≡ locks_of second.version second.area second.head second.payloads second.broken =
+    let same = opens_once c first.area second.area first.version second.version first.generation second.generation
+    first.head second.head first.payloads second.payloads first.broken second.broken first.end second.end
+    first.opening second.opening in
+    let there : locks_of first.version first.area first.head first.payloads first.broken
+    ≡ locks_of second.version second.area second.head second.payloads second.broken =
     λ i. locks_of (same.version_is i) (same.area_is i) (same.head_is i) (same.payloads_are i) (same.broken_is i) in
     same_fault a b _ first.fault_is (there ∙ second.fault_is)
 
@@ -63,8 +73,13 @@ refused_once a b c (inr first) (inl second) = absurd (ok_and_err _ b _ first.ope
 refused_once a b c (inr first) (inr second) = damaged_once a b c first second
 
 -- what is opened is a locket, or has a defect
-by_frames : (c : Image) (o : IsOpened c) (r : Result LockState LoadFault) → locks_of o.version o.area o.head o.payloads o.broken ≡ r → IsSomeLocket c ⊎ IsNoLocket c
-by_frames c o (Ok s) is = inl (record { life = commands_in o.payloads; locket = loaded_locket c o.area o.version o.generation o.head o.payloads o.broken o.end s o.opening is })
+by_frames : (c : Image) (o : IsOpened c) (r : Result LockState LoadFault)
+    → locks_of o.version o.area o.head o.payloads o.broken ≡ r → IsSomeLocket c ⊎ IsNoLocket c
+by_frames c o (Ok s) is = inl (record {
+  life = commands_in o.payloads;
+  locket =
+      loaded_locket c o.area o.version o.generation o.head o.payloads o.broken o.end s o.opening is;
+})
 by_frames c o (Err fault) is = inr (record {
   fault = fault;
   refused = inr (record {

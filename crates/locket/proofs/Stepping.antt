@@ -27,16 +27,19 @@ pub record IsMade (s next : LockState) (answer : LockReply) (next' : LockState) 
   pub answer_is : answer' ≡ answer
 
 -- a lease was given
-pub record IsGiven (s : LockState) (now : Moment) (owner : List ℕ) (ttl : ℕ) (next : LockState) (answer : LockReply) : Type 0 where
+pub record IsGiven (s : LockState) (now : Moment) (owner : List ℕ) (ttl : ℕ) (next : LockState)
+    (answer : LockReply) : Type 0 where
   pub ran_out : HasRunOut s.held now.0
-  pub made : IsMade s (changed s now (s.last + 1) (Some (next_lease s now owner ttl))) (reply.Ok (next_lease s now owner ttl)) next answer
+  pub made : IsMade s (changed s now (s.last + 1) (Some (next_lease s now owner ttl)))
+      (reply.Ok (next_lease s now owner ttl)) next answer
 
 -- the lease that was given last was renewed
 pub record IsRenewed (s : LockState) (now : Moment) (ttl : ℕ) (next : LockState) (answer : LockReply) : Type 0 where
   pub lease : Lease
   pub held : s.held ≡ Some lease
   pub holds : now.0 < lease.until
-  pub made : IsMade s (changed s now s.last (Some (ending lease (now.0 + ttl)))) (reply.Ok (ending lease (now.0 + ttl))) next answer
+  pub made : IsMade s (changed s now s.last (Some (ending lease (now.0 + ttl))))
+      (reply.Ok (ending lease (now.0 + ttl))) next answer
 
 -- it was released
 pub record IsReleased (s : LockState) (now : Moment) (next : LockState) (answer : LockReply) : Type 0 where
@@ -50,34 +53,43 @@ Happened s now (Acquire owner ttl) next answer = IsGiven s now owner ttl next an
 Happened s now (Renew owner fence ttl) next answer = IsRenewed s now ttl next answer
 Happened s now (Release owner fence) next answer = IsReleased s now next answer
 
-full_made : (s next : LockState) (answer : LockReply) (b : Bool) → (s.count == most_changes) ≡ b → (next' : LockState) (answer' : LockReply)
-    → (if b then refusing LockFull else Changes next answer) ≡ Changes next' answer' → IsMade s next answer next' answer'
+full_made : (s next : LockState) (answer : LockReply) (b : Bool) → (s.count == most_changes) ≡ b
+    → (next' : LockState) (answer' : LockReply)
+    → (if b then refusing LockFull else Changes next answer) ≡ Changes next' answer'
+    → IsMade s next answer next' answer'
 full_made s next answer true is next' answer' e = absurd cc
-full_made s next answer false is next' answer' e = record { few = eqb-false s.count most_changes is; next_is = cc; answer_is = cc }
+full_made s next answer false is next' answer' e = record
+    { few = eqb-false s.count most_changes is; next_is = cc; answer_is = cc }
 
-made : (s next : LockState) (answer : LockReply) (next' : LockState) (answer' : LockReply) → unless_full s next answer ≡ Changes next' answer' → IsMade s next answer next' answer'
+made : (s next : LockState) (answer : LockReply) (next' : LockState) (answer' : LockReply)
+    → unless_full s next answer ≡ Changes next' answer' → IsMade s next answer next' answer'
 made s next answer next' answer' e = full_made s next answer (s.count == most_changes) refl next' answer' e
 
 -- one that is asked for while it holds changes nothing
-taken_stays : (lease : Lease) (owner : List ℕ) (next : LockState) (answer : LockReply) → taken lease owner ≡ Changes next answer → ⊥
+taken_stays : (lease : Lease) (owner : List ℕ) (next : LockState) (answer : LockReply)
+    → taken lease owner ≡ Changes next answer → ⊥
 taken_stays lease owner next answer e =
-    elim (same_owner lease.owner owner) as (λ (b : Bool). (if b then Stays (reply.Same lease) else refusing (Held lease.owner lease.until)) ≡ Changes next answer → ⊥) [
+    elim (same_owner lease.owner owner) as (λ (b : Bool).
+    (if b then Stays (reply.Same lease) else refusing (Held lease.owner lease.until)) ≡ Changes next answer → ⊥) [
       | true ↦ λ x. cc
       | false ↦ λ x. cc
     ] e
 
-acquired_so : (held : Option Lease) (s : LockState) (now : Moment) (owner : List ℕ) (ttl : ℕ) (next : LockState) (answer : LockReply) → acquired held s now owner ttl ≡ Changes next answer
+acquired_so : (held : Option Lease) (s : LockState) (now : Moment) (owner : List ℕ) (ttl : ℕ) (next : LockState)
+    (answer : LockReply) → acquired held s now owner ttl ≡ Changes next answer
     → HasRunOut held now.0 × (given s now owner ttl ≡ Changes next answer)
 acquired_so None s now owner ttl next answer e = (tt, e)
 acquired_so (Some lease) s now owner ttl next answer e = by_end (nat_lt now.0 lease.until) refl e
   where
-    by_end : (b : Bool) → nat_lt now.0 lease.until ≡ b → (if b then taken lease owner else given s now owner ttl) ≡ Changes next answer
+    by_end : (b : Bool) → nat_lt now.0 lease.until ≡ b → (if b then taken lease owner else given s now owner ttl)
+        ≡ Changes next answer
         → (lease.until ≤ now.0) × (given s now owner ttl ≡ Changes next answer)
     by_end true is f = absurd (taken_stays lease owner next answer f)
     by_end false is f = (ltb-false now.0 lease.until is, f)
 
 -- the lease that an owner has is the one that was given last
-own_held : (held : Option Lease) (owner : List ℕ) (fence : ℕ) (lease : Lease) → own_lease held owner fence ≡ Some lease → held ≡ Some lease
+own_held : (held : Option Lease) (owner : List ℕ) (fence : ℕ) (lease : Lease) → own_lease held owner fence ≡ Some lease
+    → held ≡ Some lease
 own_held None owner fence lease e = absurd cc
 own_held (Some own) owner fence lease e = by_test (same_owner own.owner owner && own.fence == fence) e
   where
@@ -85,42 +97,57 @@ own_held (Some own) owner fence lease e = by_test (same_owner own.owner owner &&
     by_test true f = f
     by_test false f = absurd cc
 
-renewed_so : (own : Option Lease) (s : LockState) (now : Moment) (ttl : ℕ) (next : LockState) (answer : LockReply) → renewed own s now ttl ≡ Changes next answer
+renewed_so : (own : Option Lease) (s : LockState) (now : Moment) (ttl : ℕ) (next : LockState) (answer : LockReply)
+    → renewed own s now ttl ≡ Changes next answer
     → (lease : Lease) × (own ≡ Some lease) × (now.0 < lease.until)
-    × IsMade s (changed s now s.last (Some (ending lease (now.0 + ttl)))) (reply.Ok (ending lease (now.0 + ttl))) next answer
+    × IsMade s (changed s now s.last (Some (ending lease (now.0 + ttl))))
+    (reply.Ok (ending lease (now.0 + ttl))) next answer
 renewed_so None s now ttl next answer e = absurd cc
 renewed_so (Some lease) s now ttl next answer e = by_end (nat_le lease.until now.0) refl e
   where
     longer : LockVerdict
-    longer = unless_full s (changed s now s.last (Some (ending lease (now.0 + ttl)))) (reply.Ok (ending lease (now.0 + ttl)))
+    longer = unless_full s (changed s now s.last (Some (ending lease (now.0 + ttl))))
+        (reply.Ok (ending lease (now.0 + ttl)))
 
-    by_same : (b : Bool) → (if b then Stays (reply.Same lease) else longer) ≡ Changes next answer → longer ≡ Changes next answer
+    by_same : (b : Bool) → (if b then Stays (reply.Same lease) else longer) ≡ Changes next answer
+        → longer ≡ Changes next answer
     by_same true f = absurd cc
     by_same false f = f
 
     by_end : (b : Bool) → nat_le lease.until now.0 ≡ b
-        → (if b then refusing (Expired lease.until) else (if lease.until == now.0 + ttl then Stays (reply.Same lease) else longer)) ≡ Changes next answer
+        → (if b then refusing (Expired lease.until) else (if lease.until == now.0 + ttl then Stays
+        (reply.Same lease) else longer)) ≡ Changes next answer
         → (found : Lease) × (Some lease ≡ Some found) × (now.0 < found.until)
-        × IsMade s (changed s now s.last (Some (ending found (now.0 + ttl)))) (reply.Ok (ending found (now.0 + ttl))) next answer
+        × IsMade s (changed s now s.last (Some (ending found (now.0 + ttl))))
+        (reply.Ok (ending found (now.0 + ttl))) next answer
     by_end true is f = absurd cc
     by_end false is f = (
       lease,
       refl,
       leb-false lease.until now.0 is,
-      made s (changed s now s.last (Some (ending lease (now.0 + ttl)))) (reply.Ok (ending lease (now.0 + ttl))) next answer (by_same (lease.until == now.0 + ttl) f),
+      made s (changed s now s.last (Some (ending lease (now.0 + ttl))))
+          (reply.Ok (ending lease (now.0 + ttl))) next answer (by_same (lease.until == now.0 + ttl) f),
     )
 
-released_so : (own : Option Lease) (s : LockState) (now : Moment) (next : LockState) (answer : LockReply) → released own s now ≡ Changes next answer
-    → (lease : Lease) × (own ≡ Some lease) × IsMade s (changed s now s.last None) (reply.Released lease.fence) next answer
+released_so : (own : Option Lease) (s : LockState) (now : Moment) (next : LockState) (answer : LockReply)
+    → released own s now ≡ Changes next answer
+    → (lease : Lease) × (own ≡ Some lease) × IsMade s (changed s now s.last None)
+    (reply.Released lease.fence) next answer
 released_so None s now next answer e = absurd cc
-released_so (Some lease) s now next answer e = (lease, refl, made s (changed s now s.last None) (reply.Released lease.fence) next answer e)
+released_so (Some lease) s now next answer e = (
+  lease,
+  refl,
+  made s (changed s now s.last None) (reply.Released lease.fence) next answer e,
+)
 
-op_happened : (s : LockState) (now : Moment) (op : LockOp) (next : LockState) (answer : LockReply) → by_op s now op ≡ Changes next answer → Happened s now op next answer
+op_happened : (s : LockState) (now : Moment) (op : LockOp) (next : LockState) (answer : LockReply)
+    → by_op s now op ≡ Changes next answer → Happened s now op next answer
 op_happened s now (Acquire owner ttl) next answer e =
     let so = acquired_so s.held s now owner ttl next answer e in
     record {
       ran_out = so.0;
-      made = made s (changed s now (s.last + 1) (Some (next_lease s now owner ttl))) (reply.Ok (next_lease s now owner ttl)) next answer so.1;
+      made = made s (changed s now (s.last + 1) (Some (next_lease s now owner ttl)))
+          (reply.Ok (next_lease s now owner ttl)) next answer so.1;
     }
 op_happened s now (Renew owner fence ttl) next answer e =
     let so = renewed_so (own_lease s.held owner fence) s now ttl next answer e in
@@ -134,13 +161,19 @@ pub record IsStep (s : LockState) (c : LockCommand) (next : LockState) (answer :
   pub seen : s.seen.0 ≤ c.now.0
   pub happened : Happened s c.now c.op next answer
 
-pub stepped : (s : LockState) (c : LockCommand) (next : LockState) (answer : LockReply) → lock_step s c ≡ Changes next answer → IsStep s c next answer
+pub stepped : (s : LockState) (c : LockCommand) (next : LockState) (answer : LockReply)
+    → lock_step s c ≡ Changes next answer → IsStep s c next answer
 unfolding lock_step
 stepped s c next answer e = by_moment (nat_lt c.now.0 s.seen.0) refl e
   where
-    by_moment : (b : Bool) → nat_lt c.now.0 s.seen.0 ≡ b → (if b then refusing (Past s.seen) else by_op s c.now c.op) ≡ Changes next answer → IsStep s c next answer
+    by_moment : (b : Bool) → nat_lt c.now.0 s.seen.0 ≡ b → (if b then refusing (Past s.seen) else by_op s c.now c.op)
+        ≡ Changes next answer → IsStep s c next answer
     by_moment true is f = absurd cc
-    by_moment false is f = record { seen = ltb-false c.now.0 s.seen.0 is; happened = op_happened s c.now c.op next answer f }
+    by_moment false is f = record {
+      seen = ltb-false c.now.0 s.seen.0 is;
+      happened =
+          op_happened s c.now c.op next answer f;
+    }
 
 -- ---- a change as a verdict
 
@@ -156,10 +189,12 @@ verdict_of (Stays answer) is = absurd cc
 pub change_is : (s : LockState) (c : LockCommand) → IsChange s c → IsVerdict (lock_step s c)
 change_is s c is = verdict_of (lock_step s c) is
 
-pub is_changed : (s : LockState) (c : LockCommand) (next : LockState) (answer : LockReply) → lock_step s c ≡ Changes next answer → IsChange s c
+pub is_changed : (s : LockState) (c : LockCommand) (next : LockState) (answer : LockReply)
+    → lock_step s c ≡ Changes next answer → IsChange s c
 is_changed s c next answer e = ap is_change e
 
-pub after_is : (s : LockState) (c : LockCommand) (next : LockState) (answer : LockReply) → lock_step s c ≡ Changes next answer → state_after s c ≡ next
+pub after_is : (s : LockState) (c : LockCommand) (next : LockState) (answer : LockReply)
+    → lock_step s c ≡ Changes next answer → state_after s c ≡ next
 after_is s c next answer e = ap (left_by s) e
 
 -- the state after a change counts one more, and its moment is the command's
@@ -171,7 +206,8 @@ pub record IsAfter (s : LockState) (c : LockCommand) (next : LockState) : Type 0
   pub last : s.last ≤ next.last
   pub by_one : next.last ≤ s.last + 1
 
-after_made : (s next next' : LockState) (answer answer' : LockReply) (c : LockCommand) (last : ℕ) (held : Option Lease) → next ≡ changed s c.now last held → s.last ≤ last → last ≤ s.last + 1 → s.seen.0 ≤ c.now.0
+after_made : (s next next' : LockState) (answer answer' : LockReply) (c : LockCommand) (last : ℕ) (held : Option Lease)
+    → next ≡ changed s c.now last held → s.last ≤ last → last ≤ s.last + 1 → s.seen.0 ≤ c.now.0
     → IsMade s next answer next' answer' → IsAfter s c next'
 after_made s next next' answer answer' c last held is low high seen m =
     let e : next' ≡ changed s c.now last held = m.next_is ∙ is in
@@ -184,10 +220,16 @@ after_made s next next' answer answer' c last held is low high seen m =
       by_one = omega (arith, high, ap (λ (x : LockState). x.last) e);
     }
 
-after_op : (s : LockState) (c : LockCommand) (op : LockOp) (next : LockState) (answer : LockReply) → s.seen.0 ≤ c.now.0 → Happened s c.now op next answer → IsAfter s c next
-after_op s c (Acquire owner ttl) next answer seen h = after_made s _ next _ answer c (s.last + 1) _ refl (omega arith) (omega arith) seen h.made
-after_op s c (Renew owner fence ttl) next answer seen h = after_made s _ next _ answer c s.last _ refl (omega arith) (omega arith) seen h.made
-after_op s c (Release owner fence) next answer seen h = after_made s _ next _ answer c s.last _ refl (omega arith) (omega arith) seen h.made
+after_op : (s : LockState) (c : LockCommand) (op : LockOp) (next : LockState) (answer : LockReply) → s.seen.0 ≤ c.now.0
+    → Happened s c.now op next answer → IsAfter s c next
+after_op s c (Acquire owner ttl) next answer seen h = after_made s _ next _ answer c (s.last + 1) _ refl (omega arith)
+    (omega arith) seen h.made
+after_op s c (Renew owner fence ttl) next answer seen h =
+    after_made s _ next _ answer c s.last _ refl (omega arith) (omega arith) seen h.made
+after_op s c (Release owner fence) next answer seen h =
+    after_made s _ next _ answer c s.last _ refl (omega arith) (omega arith) seen h.made
 
-pub after_step : (s : LockState) (c : LockCommand) (next : LockState) (answer : LockReply) → lock_step s c ≡ Changes next answer → IsAfter s c next
-after_step s c next answer e = let step = stepped s c next answer e in after_op s c c.op next answer step.seen step.happened
+pub after_step : (s : LockState) (c : LockCommand) (next : LockState) (answer : LockReply)
+    → lock_step s c ≡ Changes next answer → IsAfter s c next
+after_step s c next answer e = let step = stepped s c next answer e in
+    after_op s c c.op next answer step.seen step.happened

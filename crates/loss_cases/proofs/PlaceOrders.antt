@@ -17,8 +17,13 @@ both_tie Greater b e = absurd cc
 
 pub IsKeyOrder-place_order : IsKeyOrder place_order
 IsKeyOrder-place_order = record {
-  total = then_total (on_total (λ p. p.zone) IsKeyOrder-name_order.total) (on_total (λ p. p.cell) IsKeyOrder-name_order.total);
+  total = then_total (on_total (λ p. p.zone) IsKeyOrder-name_order.total)
+      (on_total (λ p. p.cell) IsKeyOrder-name_order.total);
   exact = λ x y e i.
       let both = both_tie (name_order x.zone y.zone) (name_order x.cell y.cell) e in
-      record { zone = IsKeyOrder-name_order.exact x.zone y.zone both.0 i; cell = IsKeyOrder-name_order.exact x.cell y.cell both.1 i };
+      record {
+        zone = IsKeyOrder-name_order.exact x.zone y.zone both.0 i;
+        cell =
+            IsKeyOrder-name_order.exact x.cell y.cell both.1 i;
+      };
 }

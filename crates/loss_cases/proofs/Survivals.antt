@@ -17,9 +17,11 @@ record SurvivesBehind (site : Site) (gone : List (List ℕ)) (cells : List (List
   next : count < length gone + length cells → can_go site (take (count + 1) (gone ++ cells)) ≡ false
 
 -- the first cells up to one more are these
-one_more : (gone cells : List (List ℕ)) (c : List ℕ) (j : ℕ) → j ≡ length gone + 1 → take j (gone ++ c ∷ cells) ≡ gone ++ c ∷ []
+one_more : (gone cells : List (List ℕ)) (c : List ℕ) (j : ℕ) → j ≡ length gone + 1
+    → take j (gone ++ c ∷ cells) ≡ gone ++ c ∷ []
 one_more gone cells c j e =
-    ap (take j) (sym (append_assoc gone (c ∷ []) cells)) ∙ take_at (gone ++ c ∷ []) cells j (length-append gone (c ∷ []) ∙ sym e)
+    ap (take j) (sym (append_assoc gone (c ∷ []) cells)) ∙ take_at (gone ++ c ∷ []) cells j
+    (length-append gone (c ∷ []) ∙ sym e)
 
 none_left : (site : Site) (gone : List (List ℕ)) → SurvivesBehind site gone [] (length gone)
 none_left site gone = record {
@@ -29,7 +31,8 @@ none_left site gone = record {
   next = λ a. absurd (omega arith);
 }
 
-stopped : (site : Site) (gone cells : List (List ℕ)) (c : List ℕ) → can_go site (gone ++ c ∷ []) ≡ false → SurvivesBehind site gone (c ∷ cells) (length gone)
+stopped : (site : Site) (gone cells : List (List ℕ)) (c : List ℕ) → can_go site (gone ++ c ∷ []) ≡ false
+    → SurvivesBehind site gone (c ∷ cells) (length gone)
 stopped site gone cells c stays = record {
   low = omega arith;
   within = omega arith;
@@ -37,7 +40,8 @@ stopped site gone cells c stays = record {
   next = λ a. ap (can_go site) (one_more gone cells c (length gone + 1) refl) ∙ stays;
 }
 
-went : (site : Site) (gone cells : List (List ℕ)) (c : List ℕ) (count : ℕ) → can_go site (gone ++ c ∷ []) ≡ true → SurvivesBehind site (gone ++ c ∷ []) cells count → SurvivesBehind site gone (c ∷ cells) count
+went : (site : Site) (gone cells : List (List ℕ)) (c : List ℕ) (count : ℕ) → can_go site (gone ++ c ∷ []) ≡ true
+    → SurvivesBehind site (gone ++ c ∷ []) cells count → SurvivesBehind site gone (c ∷ cells) count
 went site gone cells c count goes h =
     let more : length (gone ++ c ∷ []) ≡ length gone + 1 = length-append gone (c ∷ []) in
     let same : (gone ++ c ∷ []) ++ cells ≡ gone ++ c ∷ cells = append_assoc gone (c ∷ []) cells in
@@ -52,17 +56,24 @@ went site gone cells c count goes h =
     }
 
 -- what a cell that goes, or one that is too much, leaves to the rest
-survives_if : (site : Site) (tag : Option (List ℕ)) (n : ℕ) (gone cells : List (List ℕ)) (c : List ℕ) (rest : Turn) (b : Bool) → can_go site (gone ++ c ∷ []) ≡ b → (b ≡ true → SurvivesBehind site (gone ++ c ∷ []) cells rest.survived) → SurvivesBehind site gone (c ∷ cells) (if b then rest else one_too_many tag n (length gone) (gone ++ c ∷ []) (left_by (planned site (gone ++ c ∷ [])))).survived
+survives_if : (site : Site) (tag : Option (List ℕ)) (n : ℕ) (gone cells : List (List ℕ)) (c : List ℕ) (rest : Turn)
+    (b : Bool) → can_go site (gone ++ c ∷ []) ≡ b → (b ≡ true
+    → SurvivesBehind site (gone ++ c ∷ []) cells rest.survived)
+    → SurvivesBehind site gone (c ∷ cells) (if b then rest else one_too_many tag n (length gone) (gone ++ c ∷ [])
+    (left_by (planned site (gone ++ c ∷ [])))).survived
 survives_if site tag n gone cells c rest true is h = went site gone cells c rest.survived is (h refl)
 survives_if site tag n gone cells c rest false is h = stopped site gone cells c is
 
-survives_from : (site : Site) (tag : Option (List ℕ)) (n : ℕ) (gone : List (List ℕ)) (cells : List TaggedCell) → SurvivesBehind site gone (map (λ c. c.cell) cells) (turn_from site tag n gone cells).survived
+survives_from : (site : Site) (tag : Option (List ℕ)) (n : ℕ) (gone : List (List ℕ)) (cells : List TaggedCell)
+    → SurvivesBehind site gone (map (λ c. c.cell) cells) (turn_from site tag n gone cells).survived
 survives_from site tag n gone [] = none_left site gone
 survives_from site tag n gone (c ∷ cs) =
-    survives_if site tag n gone (map (λ c. c.cell) cs) c.cell (turn_from site tag n (gone ++ c.cell ∷ []) cs) (can_go site (gone ++ c.cell ∷ [])) refl
+    survives_if site tag n gone (map (λ c. c.cell) cs) c.cell (turn_from site tag n (gone ++ c.cell ∷ []) cs)
+    (can_go site (gone ++ c.cell ∷ [])) refl
     (λ e. survives_from site tag n (gone ++ c.cell ∷ []) cs)
 
-pub turns_survive : (site : Site) (tag : Option (List ℕ)) (cells : List TaggedCell) → Survives site (map (λ c. c.cell) cells) (turn_of site tag cells).survived
+pub turns_survive : (site : Site) (tag : Option (List ℕ)) (cells : List TaggedCell)
+    → Survives site (map (λ c. c.cell) cells) (turn_of site tag cells).survived
 turns_survive site tag cells =
     let h = survives_from site tag (length cells) [] cells in
     record { within = omega (arith, h.within); each = λ j a b. h.each j a b; next = λ a. h.next (omega (arith, a)) }

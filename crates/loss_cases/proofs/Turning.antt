@@ -9,17 +9,26 @@ use Rattle.loss_cases.specs.Cases.{can_go}
 use Rattle.loss_cases.specs.Turns.{least_from, least_survived, left_by, one_too_many, turn_from}
 use Rattle.loss_cases.specs.declared.cells.TaggedCell.{TaggedCell}
 
-module _ (site : Site) (tag : Option (List ℕ)) (n : ℕ) (gone : List (List ℕ)) (cells : List TaggedCell) (i : ℕ) (c : TaggedCell) (low : i < length cells) (is : c ≡ get_or cells i c) where
+module _ (site : Site) (tag : Option (List ℕ)) (n : ℕ) (gone : List (List ℕ)) (cells : List TaggedCell) (i : ℕ)
+    (c : TaggedCell) (low : i < length cells) (is : c ≡ get_or cells i c) where
   next : turn_from site tag n gone (drop i cells) ≡ turn_from site tag n gone (c ∷ drop (i + 1) cells)
   next = ap (turn_from site tag n gone) (drop_more cells i c low ∙ ap (λ x. x ∷ drop (i + 1) cells) (sym is))
 
-  pub turn_goes : can_go site (gone ++ c.cell ∷ []) ≡ true → turn_from site tag n (gone ++ c.cell ∷ []) (drop (i + 1) cells) ≡ turn_from site tag n gone (drop i cells)
-  turn_goes goes = sym (next ∙ ap (λ b. if b then turn_from site tag n (gone ++ c.cell ∷ []) (drop (i + 1) cells) else one_too_many tag n (length gone) (gone ++ c.cell ∷ []) (left_by (planned site (gone ++ c.cell ∷ [])))) goes)
+  pub turn_goes : can_go site (gone ++ c.cell ∷ []) ≡ true
+      → turn_from site tag n (gone ++ c.cell ∷ []) (drop (i + 1) cells) ≡ turn_from site tag n gone (drop i cells)
+  turn_goes goes = sym (next ∙ ap (λ b. if b then turn_from site tag n (gone ++ c.cell ∷ [])
+      (drop (i + 1) cells) else one_too_many tag n (length gone) (gone ++ c.cell ∷ [])
+      (left_by (planned site (gone ++ c.cell ∷ [])))) goes)
 
-  pub turn_stops : can_go site (gone ++ c.cell ∷ []) ≡ false → one_too_many tag n (length gone) (gone ++ c.cell ∷ []) (left_by (planned site (gone ++ c.cell ∷ []))) ≡ turn_from site tag n gone (drop i cells)
-  turn_stops stays = sym (next ∙ ap (λ b. if b then turn_from site tag n (gone ++ c.cell ∷ []) (drop (i + 1) cells) else one_too_many tag n (length gone) (gone ++ c.cell ∷ []) (left_by (planned site (gone ++ c.cell ∷ [])))) stays)
+  pub turn_stops : can_go site (gone ++ c.cell ∷ []) ≡ false
+      → one_too_many tag n (length gone) (gone ++ c.cell ∷ []) (left_by (planned site (gone ++ c.cell ∷ [])))
+      ≡ turn_from site tag n gone (drop i cells)
+  turn_stops stays = sym (next ∙ ap (λ b. if b then turn_from site tag n (gone ++ c.cell ∷ [])
+      (drop (i + 1) cells) else one_too_many tag n (length gone) (gone ++ c.cell ∷ [])
+      (left_by (planned site (gone ++ c.cell ∷ [])))) stays)
 
-pub least_of_first : (turns : List Turn) (t : Turn) → 0 < length turns → t ≡ get_or turns 0 t → least_from t.survived turns ≡ least_survived turns
+pub least_of_first : (turns : List Turn) (t : Turn) → 0 < length turns → t ≡ get_or turns 0 t
+    → least_from t.survived turns ≡ least_survived turns
 least_of_first [] t low is = absurd (omega arith)
 least_of_first (x ∷ xs) t low is = ap (λ (u : Turn). least_from u.survived (x ∷ xs)) is
 

@@ -18,13 +18,16 @@ KeepsPlace-lrp_move row move now = grind (arith, common_steps)
 pub KeepsDomain-lrp_move : (row : Actual) (move : LrpMove) (now : Moment) → KeepsDomain row (lrp_move row move now)
 KeepsDomain-lrp_move row move now = grind (arith, common_steps)
 
-pub place_of-changed : (row new : Actual) (move : LrpMove) (now : Moment) → lrp_move row move now ≡ Changed new → place_of new ≡ place_of row
+pub place_of-changed : (row new : Actual) (move : LrpMove) (now : Moment) → lrp_move row move now ≡ Changed new
+    → place_of new ≡ place_of row
 place_of-changed row new move now is = subst (KeepsPlace row) is (KeepsPlace-lrp_move row move now)
 
 -- a crashed row changes by a restart alone
-pub ChangesByRestart-lrp_move : (row : Actual) (move : LrpMove) (now : Moment) → row.state ≡ Crashed → ChangesByRestart move (lrp_move row move now)
+pub ChangesByRestart-lrp_move : (row : Actual) (move : LrpMove) (now : Moment) → row.state ≡ Crashed
+    → ChangesByRestart move (lrp_move row move now)
 ChangesByRestart-lrp_move row move now is = grind (arith, common_steps)
 
 -- a claim never takes another container's row
-pub NeverTakesAClaim-lrp_move : (row : Actual) (move : LrpMove) (now : Moment) → NeverTakesAClaim row move (lrp_move row move now)
+pub NeverTakesAClaim-lrp_move : (row : Actual) (move : LrpMove) (now : Moment)
+    → NeverTakesAClaim row move (lrp_move row move now)
 NeverTakesAClaim-lrp_move row move now instance held cell is has other = grind (arith, common_steps)

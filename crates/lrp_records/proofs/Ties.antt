@@ -34,7 +34,8 @@ IsKeyOrder-presence_order = record { total = on_total rank_of nat_cmp_total; exa
 
 pub IsKeyOrder-place_order : IsKeyOrder place_order
 IsKeyOrder-place_order = record {
-  total = then_total (on_total (λ p. p.0) IsKeyOrder-key_order.total) (on_total (λ p. p.1) IsKeyOrder-presence_order.total);
+  total = then_total (on_total (λ p. p.0) IsKeyOrder-key_order.total)
+      (on_total (λ p. p.1) IsKeyOrder-presence_order.total);
   exact = λ x y e i.
       let ties = both_tie (key_order x.0 y.0) (presence_order x.1 y.1) e in
       (IsKeyOrder-key_order.exact x.0 y.0 ties.0 i, presence_order-exact x.1 y.1 ties.1 i);

@@ -19,7 +19,8 @@ module _ {X : Type 0} where
   doubts-doubt (Doubt y ∷ log) x = ap (λ (n : ℕ). n + 1) (doubts-doubt log x)
 
   -- what adds a doubt has met a fault, and nothing takes one back
-  pub rose_more : (log : List (Entry X)) (ok : Bool) (x : X) (faults before after : ℕ) → RoseBy (doubts_in log) faults before → HasCause (not ok) before after
+  pub rose_more : (log : List (Entry X)) (ok : Bool) (x : X) (faults before after : ℕ)
+      → RoseBy (doubts_in log) faults before → HasCause (not ok) before after
       → RoseBy (doubts_in (log ++ entry_of ok x ∷ [])) faults after
   rose_more log true x faults before after rose cause =
       let later = cause.later in

@@ -12,7 +12,8 @@ use Rattle.payload_log.specs.declared.entry.Entry.TheVariants.{Done, Doubt}
 
 module _ {X : Type 0} where
   -- what stands at a place stands there in a longer list
-  pub get_more : (xs ys : List X) (place : ℕ) (x : X) → slice_get xs place ≡ Some x → slice_get (xs ++ ys) place ≡ Some x
+  pub get_more : (xs ys : List X) (place : ℕ) (x : X) → slice_get xs place ≡ Some x
+      → slice_get (xs ++ ys) place ≡ Some x
   get_more [] ys place x is = cc
   get_more (y ∷ xs) ys zero x is = is
   get_more (y ∷ xs) ys (suc place) x is = get_more xs ys place x is
@@ -54,7 +55,8 @@ module _ {X : Type 0} where
 
   pub stored-done : (spelling : X → List ℕ) (log : List (Entry X)) (x : X)
       → stored_in spelling (log ++ Done x ∷ []) ≡ stored_in spelling log ++ spelling x ∷ []
-  stored-done spelling log x = ap (map spelling) (done-append log (Done x ∷ [])) ∙ map-append spelling (done_in log) (x ∷ [])
+  stored-done spelling log x = ap (map spelling) (done-append log (Done x ∷ [])) ∙ map-append spelling (done_in log)
+      (x ∷ [])
 
   pub stored-doubt : (spelling : X → List ℕ) (log : List (Entry X)) (x : X)
       → stored_in spelling (log ++ Doubt x ∷ []) ≡ stored_in spelling log
@@ -63,7 +65,8 @@ module _ {X : Type 0} where
 -- ---- what is listed
 
 module _ {X : Type 0} (spelling : X → List ℕ) (start : Opened) where
-  pub listed_more : (xs ys : List (Entry X)) (from : ℕ) (image : Image) → IsListed spelling start xs from image → IsListed spelling start (xs ++ ys) from image
+  pub listed_more : (xs ys : List (Entry X)) (from : ℕ) (image : Image) → IsListed spelling start xs from image
+      → IsListed spelling start (xs ++ ys) from image
   listed_more xs ys from image is = record {
     place = is.place;
     low = is.low;
@@ -74,7 +77,8 @@ module _ {X : Type 0} (spelling : X → List ℕ) (start : Opened) where
       same : stored_in spelling (take is.place xs) ≡ stored_in spelling (take is.place (xs ++ ys))
       same = ap (stored_in spelling) (sym (take_front xs ys is.place is.high))
 
-      moved : OpensBehind start (stored_in spelling (take is.place xs)) image → OpensBehind start (stored_in spelling (take is.place (xs ++ ys))) image
+      moved : OpensBehind start (stored_in spelling (take is.place xs)) image
+          → OpensBehind start (stored_in spelling (take is.place (xs ++ ys))) image
       moved opened = subst (λ (l : List (List ℕ)). OpensBehind start l image) same opened
 
       shown : ShowsDoubt spelling start xs is.place image → ShowsDoubt spelling start (xs ++ ys) is.place image
@@ -85,16 +89,19 @@ module _ {X : Type 0} (spelling : X → List ℕ) (start : Opened) where
       }
 
   -- all that is done, from any place on
-  pub listed_end : (log : List (Entry X)) (from : ℕ) (image : Image) → from ≤ length log → OpensBehind start (stored_in spelling log) image → IsListed spelling start log from image
+  pub listed_end : (log : List (Entry X)) (from : ℕ) (image : Image) → from ≤ length log
+      → OpensBehind start (stored_in spelling log) image → IsListed spelling start log from image
   listed_end log from image le opened = record {
     place = length log;
     low = le;
     high = omega arith;
-    opens = inl (subst (λ (l : List (Entry X)). OpensBehind start (stored_in spelling l) image) (sym (take_all (length log) log (omega arith))) opened);
+    opens = inl (subst (λ (l : List (Entry X)). OpensBehind start (stored_in spelling l) image)
+        (sym (take_all (length log) log (omega arith))) opened);
   }
 
   -- all that is done before a doubt, and that
-  pub listed_doubt : (log : List (Entry X)) (x : X) (from : ℕ) (image : Image) → from ≤ length log → OpensBehind start (stored_in spelling log ++ spelling x ∷ []) image
+  pub listed_doubt : (log : List (Entry X)) (x : X) (from : ℕ) (image : Image) → from ≤ length log
+      → OpensBehind start (stored_in spelling log ++ spelling x ∷ []) image
       → IsListed spelling start (log ++ Doubt x ∷ []) from image
   listed_doubt log x from image le opened = record {
     place = length log;
@@ -103,12 +110,14 @@ module _ {X : Type 0} (spelling : X → List ℕ) (start : Opened) where
     opens = inr (record {
       payload = x;
       doubt = get_last log (Doubt x);
-      shown = subst (λ (l : List (Entry X)). OpensBehind start (stored_in spelling l ++ spelling x ∷ []) image) (sym (take_whole log (Doubt x ∷ []))) opened;
+      shown = subst (λ (l : List (Entry X)). OpensBehind start (stored_in spelling l ++ spelling x ∷ []) image)
+          (sym (take_whole log (Doubt x ∷ []))) opened;
     });
   }
 
 -- ---- marks
 
-pub rising_more : (low : ℕ) (marks : List ℕ) (high mark : ℕ) → RiseWithin low marks high → high ≤ mark → RiseWithin low (marks ++ mark ∷ []) mark
+pub rising_more : (low : ℕ) (marks : List ℕ) (high mark : ℕ) → RiseWithin low marks high → high ≤ mark
+    → RiseWithin low (marks ++ mark ∷ []) mark
 rising_more low [] high mark rising le = (omega (arith, rising, le), omega arith)
 rising_more low (m ∷ marks) high mark rising le = (rising.0, rising_more m marks high mark rising.1 le)

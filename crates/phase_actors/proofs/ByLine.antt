@@ -25,7 +25,8 @@ one_more l n = map-range_with_len_more (turn_at l) 0 n n (omega arith)
 all_runs : (l : Line) (n : ℕ) → n < l.times → turns_of l ≡ first_turns l (n + 1) ++ drop (n + 1) (turns_of l)
 all_runs l n within =
     sym (take-append-drop (n + 1) (turns_of l))
-    ∙ ap (λ (ts : List Turn). ts ++ drop (n + 1) (turns_of l)) (take-map-range_with_len (turn_at l) 0 l.times (n + 1) (omega (arith, within)))
+    ∙ ap (λ (ts : List Turn). ts ++ drop (n + 1) (turns_of l))
+    (take-map-range_with_len (turn_at l) 0 l.times (n + 1) (omega (arith, within)))
 
 turns_both : (by : ℕ) (xs ys : List Line) → turns_in by (xs ++ ys) ≡ turns_in by xs ++ turns_in by ys
 turns_both by xs ys =
@@ -34,8 +35,10 @@ turns_both by xs ys =
 
 module _ (by : ℕ) (now : Moment) where
   -- one run more of a line
-  pub more_runs : (l : Line) (n other : ℕ) (mark : Option Loss) (s m s' : ActorStanding) → other ≡ by → mark ≡ mark_at l.lost n
-      → Takes by now (first_turns l n) s m → Takes other now (line_turn l mark ∷ []) m s' → Takes by now (first_turns l (n + 1)) s s'
+  pub more_runs : (l : Line) (n other : ℕ) (mark : Option Loss) (s m s' : ActorStanding) → other ≡ by
+      → mark ≡ mark_at l.lost n
+      → Takes by now (first_turns l n) s m → Takes other now (line_turn l mark ∷ []) m s'
+      → Takes by now (first_turns l (n + 1)) s s'
   more_runs l n other mark s m s' by_is mark_is first next =
       subst (λ (ts : List Turn). Takes by now ts s s') (sym (one_more l n))
       (takes_then by now (first_turns l n) (turn_at l n ∷ []) s m s' first
@@ -43,9 +46,11 @@ module _ (by : ℕ) (now : Moment) where
       (subst (λ (k : Option Loss). Takes other now (line_turn l k ∷ []) m s') mark_is next)))
 
   -- the next run of a line is cut off
-  pub line_cut : (l : Line) (n other : ℕ) (mark : Option Loss) (s m : ActorStanding) (a' : ActorState) (w : PortView) → n < l.times
+  pub line_cut : (l : Line) (n other : ℕ) (mark : Option Loss) (s m : ActorStanding) (a' : ActorState) (w : PortView)
+      → n < l.times
       → other ≡ by → mark ≡ mark_at l.lost n → Takes by now (first_turns l n) s m
-      → IsCutShort other now (line_turn l mark ∷ []) m.actor m.view a' w → IsCutShort by now (turns_of l) s.actor s.view a' w
+      → IsCutShort other now (line_turn l mark ∷ []) m.actor m.view a' w
+      → IsCutShort by now (turns_of l) s.actor s.view a' w
   line_cut l n other mark s m a' w within by_is mark_is first cut =
       subst (λ (ts : List Turn). IsCutShort by now ts s.actor s.view a' w) (sym (all_runs l n within))
       (cut_before by now (first_turns l (n + 1)) (drop (n + 1) (turns_of l)) s.actor a' s.view w
@@ -62,15 +67,18 @@ module _ (by : ℕ) (now : Moment) where
     turns_more = ap (turns_in by) with_next ∙ turns_both by (take i lines) (d ∷ [])
 
     -- one line more
-    pub more_lines : (s m s' : ActorStanding) → Takes by now (turns_in by (take i lines)) s m → Takes by now (turns_in by (d ∷ [])) m s'
+    pub more_lines : (s m s' : ActorStanding) → Takes by now (turns_in by (take i lines)) s m
+        → Takes by now (turns_in by (d ∷ [])) m s'
         → Takes by now (turns_in by (take (i + 1) lines)) s s'
     more_lines s m s' first next =
         subst (λ (ts : List Turn). Takes by now ts s s') (sym turns_more)
         (takes_then by now (turns_in by (take i lines)) (turns_in by (d ∷ [])) s m s' first next)
 
     -- the next line is cut off
-    pub lines_cut : (s m : ActorStanding) (a' : ActorState) (w : PortView) → Takes by now (turns_in by (take i lines)) s m
-        → IsCutShort by now (turns_in by (d ∷ [])) m.actor m.view a' w → IsCutShort by now (turns_in by lines) s.actor s.view a' w
+    pub lines_cut : (s m : ActorStanding) (a' : ActorState) (w : PortView)
+        → Takes by now (turns_in by (take i lines)) s m
+        → IsCutShort by now (turns_in by (d ∷ [])) m.actor m.view a' w
+        → IsCutShort by now (turns_in by lines) s.actor s.view a' w
     lines_cut s m a' w first cut =
         subst (λ (ts : List Turn). IsCutShort by now ts s.actor s.view a' w) (sym whole)
         (cut_before by now (turns_in by (take (i + 1) lines)) (turns_in by (drop (i + 1) lines)) s.actor a' s.view w
@@ -78,18 +86,21 @@ module _ (by : ℕ) (now : Moment) where
         (cut_then by now (turns_in by (take i lines)) (turns_in by (d ∷ [])) s m m first a' w cut)))
       where
         whole : turns_in by lines ≡ turns_in by (take (i + 1) lines) ++ turns_in by (drop (i + 1) lines)
-        whole = ap (turns_in by) (sym (take-append-drop (i + 1) lines)) ∙ turns_both by (take (i + 1) lines) (drop (i + 1) lines)
+        whole = ap (turns_in by) (sym (take-append-drop (i + 1) lines)) ∙ turns_both by (take (i + 1) lines)
+            (drop (i + 1) lines)
 
     -- an actor that can do all lines can do the next, whatever it has done
     pub can_next : (a b : ActorState) → CanDo by lines a → IsOneActor a b → CanDo by (d ∷ []) b
-    can_next a b can one l has = fits_on l.act a b one (can l (subst (λ (ls : List Line). Contains (lines_by by ls) l) (take-append-drop (i + 1) lines) among))
+    can_next a b can one l has = fits_on l.act a b one (can l
+        (subst (λ (ls : List Line). Contains (lines_by by ls) l) (take-append-drop (i + 1) lines) among))
       where
         mine : Line → Bool
         mine x = x.actor == by
 
         among : Contains (lines_by by (take (i + 1) lines ++ drop (i + 1) lines)) l
         among =
-            subst (λ (ls : List Line). Contains ls l) (sym (filter-append mine (take (i + 1) lines) (drop (i + 1) lines)))
+            subst (λ (ls : List Line). Contains ls l) (sym (filter-append mine (take (i + 1) lines)
+            (drop (i + 1) lines)))
             (Contains-append_left (lines_by by (take (i + 1) lines)) (lines_by by (drop (i + 1) lines)) l
             (subst (λ (ls : List Line). Contains (lines_by by ls) l) (sym with_next)
             (subst (λ (ls : List Line). Contains ls l) (sym (filter-append mine (take i lines) (d ∷ [])))

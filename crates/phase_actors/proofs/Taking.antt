@@ -11,19 +11,22 @@ use Rattle.phase_actors.specs.Turns.{is_any_unfed, line_answer, ActorStanding, I
 use Rattle.phase_actors.specs.declared.actor_state.ActorState.{ActorState}
 
 -- the answers want memory where the calls did
-pub unfed_answers : (by line : ℕ) (calls : List Called) → is_any_unfed (map (line_answer by line) calls) ≡ is_any_starved calls
+pub unfed_answers : (by line : ℕ) (calls : List Called)
+    → is_any_unfed (map (line_answer by line) calls) ≡ is_any_starved calls
 unfed_answers by line [] = refl
 unfed_answers by line (x ∷ xs) = ap (λ (b : Bool). is_starved_end x.end || b) (unfed_answers by line xs)
 
 module _ (by : ℕ) (now : Moment) where
   -- a run that was made
-  pub one_taken : (t : Turn) (a a' : ActorState) (v w : PortView) (first : List Called) → HasRun by now t.act t.mark a a' v w first
+  pub one_taken : (t : Turn) (a a' : ActorState) (v w : PortView) (first : List Called)
+      → HasRun by now t.act t.mark a a' v w first
       → TakesTurns by now (t ∷ []) a v (map (line_answer by t.line) first) a' w
   one_taken t a a' v w first run =
       (first, [], a', w, sym (append-nil (map (line_answer by t.line) first)), run, (refl, (refl, refl)))
 
   -- of one run that was made, nothing is left
-  pub cut_behind : (t : Turn) (a a' : ActorState) (v w : PortView) (first : List Called) → HasRun by now t.act t.mark a a' v w first
+  pub cut_behind : (t : Turn) (a a' : ActorState) (v w : PortView) (first : List Called)
+      → HasRun by now t.act t.mark a a' v w first
       → IsCutShort by now (t ∷ []) a v a' w
   cut_behind t a a' v w first run = record {
     done = t ∷ [];
@@ -38,7 +41,8 @@ module _ (by : ℕ) (now : Moment) where
 
   -- runs behind runs
   pub taken_then : (ts us : List Turn) (a m b : ActorState) (v x w : PortView) (new more : List Answered)
-      → TakesTurns by now ts a v new m x → TakesTurns by now us m x more b w → TakesTurns by now (ts ++ us) a v (new ++ more) b w
+      → TakesTurns by now ts a v new m x → TakesTurns by now us m x more b w
+      → TakesTurns by now (ts ++ us) a v (new ++ more) b w
   taken_then [] us a m b v x w new more (none, (m_is, x_is)) then =
       subst (λ (l : List Answered). TakesTurns by now us a v (l ++ more) b w) (sym none)
       (subst (λ (y : ActorState). TakesTurns by now us y v more b w) m_is
@@ -58,14 +62,16 @@ module _ (by : ℕ) (now : Moment) where
     pub takes_then : Takes by now us m s' → Takes by now (ts ++ us) s s'
     takes_then more = record {
       new = taken.new ++ more.new;
-      out_is = more.out_is ∙ ap (λ (l : List Answered). l ++ more.new) taken.out_is ∙ append_assoc s.out taken.new more.new;
+      out_is = more.out_is ∙ ap (λ (l : List Answered). l ++ more.new) taken.out_is ∙ append_assoc s.out taken.new
+          more.new;
       taken = taken_then ts us s.actor m.actor s'.actor s.view m.view s'.view taken.new more.new taken.taken more.taken;
       fed = list_any-append (λ (a : Answered). is_starved_end a.end) taken.new more.new
           ∙ ap (λ (b : Bool). b || is_any_unfed more.new) taken.fed ∙ more.fed;
     }
 
     -- all of the first, and the second cut off
-    pub cut_then : (a' : ActorState) (w : PortView) → IsCutShort by now us m.actor m.view a' w → IsCutShort by now (ts ++ us) s.actor s.view a' w
+    pub cut_then : (a' : ActorState) (w : PortView) → IsCutShort by now us m.actor m.view a' w
+        → IsCutShort by now (ts ++ us) s.actor s.view a' w
     cut_then a' w cut = record {
       done = ts ++ cut.done;
       rest = cut.rest;
@@ -73,12 +79,14 @@ module _ (by : ℕ) (now : Moment) where
       new = taken.new ++ cut.new;
       mid = cut.mid;
       middle = cut.middle;
-      taken = taken_then ts cut.done s.actor m.actor cut.mid s.view m.view cut.middle taken.new cut.new taken.taken cut.taken;
+      taken = taken_then ts cut.done s.actor m.actor cut.mid s.view m.view cut.middle taken.new cut.new taken.taken
+          cut.taken;
       cut = cut.cut;
     }
 
   -- what was cut off among the first is cut off among more
-  pub cut_before : (ts us : List Turn) (a a' : ActorState) (v w : PortView) → IsCutShort by now ts a v a' w → IsCutShort by now (ts ++ us) a v a' w
+  pub cut_before : (ts us : List Turn) (a a' : ActorState) (v w : PortView) → IsCutShort by now ts a v a' w
+      → IsCutShort by now (ts ++ us) a v a' w
   cut_before ts us a a' v w cut = record {
     done = cut.done;
     rest = cut.rest ++ us;
@@ -94,7 +102,8 @@ module _ (by : ℕ) (now : Moment) where
       begun_nothing [] same = same
       begun_nothing (u ∷ us) same = inl same
 
-      begun : (rest us : List Turn) → IsCutAt by now rest cut.mid cut.middle a' w → IsCutAt by now (rest ++ us) cut.mid cut.middle a' w
+      begun : (rest us : List Turn) → IsCutAt by now rest cut.mid cut.middle a' w
+          → IsCutAt by now (rest ++ us) cut.mid cut.middle a' w
       begun [] us same = begun_nothing us same
       begun (t ∷ rest) us is = is
 

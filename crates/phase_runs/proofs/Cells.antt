@@ -16,7 +16,8 @@ pub more_reps : (actors : List ActorState) (i : ℕ) (d : ActorState) → i < le
     → reps_of (take (i + 1) actors) ≡ reps_of (take i actors) ++ option_to_list (rep_of (get_or actors i d))
 more_reps actors i d within =
     ap reps_of (take_more actors i d within) ∙ filter_map-append rep_of (take i actors) (get_or actors i d ∷ [])
-    ∙ ap (λ (rs : List CellRep). reps_of (take i actors) ++ rs) (of_one (rep_of (get_or actors i d)) (get_or actors i d) refl)
+    ∙ ap (λ (rs : List CellRep). reps_of (take i actors) ++ rs)
+    (of_one (rep_of (get_or actors i d)) (get_or actors i d) refl)
 
 -- the first actors are bare, and the others as they were
 abbrev pub bare_first : ℕ → List ActorState → List ActorState
@@ -32,9 +33,11 @@ bare_next : (actors : List ActorState) (i : ℕ) (d : ActorState) → i < length
     → set (bare_first i actors) i (bare (get_or actors i d)) ≡ bare_first (suc i) actors
 bare_next [] i d within = absurd (omega (arith, within))
 bare_next (a ∷ rest) zero d within = refl
-bare_next (a ∷ rest) (suc i) d within = ap (λ (l : List ActorState). bare a ∷ l) (bare_next rest i d (omega (arith, within)))
+bare_next (a ∷ rest) (suc i) d within = ap (λ (l : List ActorState). bare a ∷ l)
+    (bare_next rest i d (omega (arith, within)))
 
-module _ (actors now : List ActorState) (i : ℕ) (d new : ActorState) (within : i < length actors) (now_is : now ≡ bare_first i actors) where
+module _ (actors now : List ActorState) (i : ℕ) (d new : ActorState) (within : i < length actors)
+    (now_is : now ≡ bare_first i actors) where
   -- the next actor is as it was
   pub next_is : get_or now i d ≡ get_or actors i d
   next_is = ap (λ (l : List ActorState). get_or l i d) now_is ∙ still_there actors i d
@@ -54,22 +57,26 @@ one_up : (i : ℕ) → suc i ≡ i + 1
 one_up i = omega arith
 
 -- the actors from one on have that one first
-from_there : (actors : List ActorState) (i : ℕ) (d : ActorState) → i < length actors → drop i actors ≡ get_or actors i d ∷ drop (suc i) actors
+from_there : (actors : List ActorState) (i : ℕ) (d : ActorState) → i < length actors
+    → drop i actors ≡ get_or actors i d ∷ drop (suc i) actors
 from_there [] i d within = absurd (omega (arith, within))
 from_there (a ∷ rest) zero d within = refl
 from_there (a ∷ rest) (suc i) d within = from_there rest i d (omega (arith, within))
 
-up_to : (actors : List ActorState) (i : ℕ) (new : ActorState) → i < length actors → take (suc i) (set actors i new) ≡ take i actors ++ new ∷ []
+up_to : (actors : List ActorState) (i : ℕ) (new : ActorState) → i < length actors
+    → take (suc i) (set actors i new) ≡ take i actors ++ new ∷ []
 up_to [] i new within = absurd (omega (arith, within))
 up_to (a ∷ rest) zero new within = refl
 up_to (a ∷ rest) (suc i) new within = ap (λ (l : List ActorState). a ∷ l) (up_to rest i new (omega (arith, within)))
 
-behind_it : (actors : List ActorState) (i : ℕ) (new : ActorState) → drop (suc i) (set actors i new) ≡ drop (suc i) actors
+behind_it : (actors : List ActorState) (i : ℕ) (new : ActorState)
+    → drop (suc i) (set actors i new) ≡ drop (suc i) actors
 behind_it [] i new = refl
 behind_it (a ∷ rest) zero new = refl
 behind_it (a ∷ rest) (suc i) new = behind_it rest i new
 
-module _ (olds now : List ActorState) (all reps reps' : List CellRep) (i : ℕ) (d new : ActorState) (within : i < length now) (inside : i < length olds)
+module _ (olds now : List ActorState) (all reps reps' : List CellRep) (i : ℕ) (d new : ActorState)
+    (within : i < length now) (inside : i < length olds)
     (whole : with_reps olds all ≡ take i now ++ with_reps (drop i olds) reps) (same : drop i now ≡ drop i olds)
     (puts : PutsNext (get_or now i d) reps new reps') where
   heads : get_or now i d ∷ drop (suc i) now ≡ get_or olds i d ∷ drop (suc i) olds

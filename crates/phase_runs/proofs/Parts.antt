@@ -28,14 +28,17 @@ module _ (base : Rows) (before fresh more : List Item) (by : ℕ) (none : by_num
     from = sees.from;
     upto = (
       sees.upto.0 ++ more,
-      sym (append_assoc before fresh more) ∙ ap (λ (xs : List Item). xs ++ more) sees.upto.1 ∙ append_assoc w.seen sees.upto.0 more,
+      sym (append_assoc before fresh more) ∙ ap (λ (xs : List Item). xs ++ more) sees.upto.1 ∙ append_assoc w.seen
+          sees.upto.0 more,
     );
     own = sees.own ∙ ap (λ (xs : List Item). v.mine ++ xs)
-        (sym (append-nil (by_number by fresh)) ∙ ap (λ (xs : List Item). by_number by fresh ++ xs) (sym none) ∙ sym (by_both by fresh more));
+        (sym (append-nil (by_number by fresh)) ∙ ap (λ (xs : List Item). by_number by fresh ++ xs) (sym none) ∙ sym
+        (by_both by fresh more));
   }
 
   pub ran_on : (now : Moment) (lines : List Line) (a a' : ActorState) (answers : List Answered)
-      → PartRan base now lines before fresh by a a' answers → PartRan base now lines before (fresh ++ more) by a a' answers
+      → PartRan base now lines before fresh by a a' answers
+      → PartRan base now lines before (fresh ++ more) by a a' answers
   ran_on now lines a a' answers ran = record {
     first = ran.first;
     last = ran.last;
@@ -45,7 +48,8 @@ module _ (base : Rows) (before fresh more : List Item) (by : ℕ) (none : by_num
   }
 
 -- an actor that did all its lines did them up to their end
-pub ran_whole : (base : Rows) (now : Moment) (lines : List Line) (before fresh : List Item) (by : ℕ) (a a' : ActorState) (answers : List Answered)
+pub ran_whole : (base : Rows) (now : Moment) (lines : List Line) (before fresh : List Item) (by : ℕ) (a a' : ActorState)
+    (answers : List Answered)
     → PartRan base now lines before fresh by a a' answers → PartCut base now lines before fresh by a a'
 ran_whole base now lines before fresh by a a' answers ran = record {
   first = ran.first;
@@ -64,7 +68,8 @@ ran_whole base now lines before fresh by a a' answers ran = record {
 }
 
 -- an actor that had no turn did nothing yet
-pub not_begun : (base : Rows) (now : Moment) (lines : List Line) (before fresh : List Item) (by : ℕ) (a : ActorState) → by_number by fresh ≡ []
+pub not_begun : (base : Rows) (now : Moment) (lines : List Line) (before fresh : List Item) (by : ℕ) (a : ActorState)
+    → by_number by fresh ≡ []
     → PartCut base now lines before fresh by a a
 not_begun base now lines before fresh by a none = record {
   first = view;
@@ -95,7 +100,8 @@ not_begun base now lines before fresh by a none = record {
     begun_nothing (t ∷ ts) = inl (refl, refl)
 
 -- a caller alone sees the board as it was and as it is
-pub own_sees : {D : Type 0} (told : D → Option Past) (by name name' : ℕ) (m w : View D) (went : Went told by by name name' m w)
+pub own_sees : {D : Type 0} (told : D → Option Past) (by name name' : ℕ) (m w : View D)
+    (went : Went told by by name name' m w)
     → SeesPhase m.base m.log went.more by (seen_of by m) (seen_of by w)
 own_sees told by name name' m w went = record {
   base_is = refl;
@@ -105,14 +111,25 @@ own_sees told by name name' m w went = record {
 }
 
 -- what is seen behind others is seen of the phase
-pub sees_behind : {D : Type 0} (told : D → Option Past) (by : ℕ) (v m : View D) (fresh more : List Item) → BoardGoesOn told fresh v m
-    → by_number by fresh ≡ [] → (first last : PortView) → SeesPhase m.base m.log more by first last → SeesPhase v.base v.log (fresh ++ more) by first last
+pub sees_behind : {D : Type 0} (told : D → Option Past) (by : ℕ) (v m : View D) (fresh more : List Item)
+    → BoardGoesOn told fresh v m
+    → by_number by fresh ≡ [] → (first last : PortView) → SeesPhase m.base m.log more by first last
+    → SeesPhase v.base v.log (fresh ++ more) by first last
 sees_behind told by v m fresh more goes none first last sees = record {
   base_is = sees.base_is ∙ goes.base;
-  from = (fresh ++ sees.from.0, sees.from.1 ∙ ap (λ (xs : List Item). xs ++ sees.from.0) goes.grows ∙ append_assoc v.log fresh sees.from.0);
-  upto = (sees.upto.0, sym (append_assoc v.log fresh more) ∙ ap (λ (xs : List Item). xs ++ more) (sym goes.grows) ∙ sees.upto.1);
+  from = (
+    fresh ++ sees.from.0,
+    sees.from.1 ∙ ap (λ (xs : List Item). xs ++ sees.from.0) goes.grows ∙ append_assoc v.log
+        fresh sees.from.0,
+  );
+  upto = (
+    sees.upto.0,
+    sym (append_assoc v.log fresh more) ∙ ap (λ (xs : List Item). xs ++ more)
+        (sym goes.grows) ∙ sees.upto.1,
+  );
   own = sees.own
-      ∙ ap (λ (xs : List Item). first.mine ++ xs) (sym (by_both by fresh more ∙ ap (λ (xs : List Item). xs ++ by_number by more) none));
+      ∙ ap (λ (xs : List Item). first.mine ++ xs) (sym (by_both by fresh more ∙ ap
+      (λ (xs : List Item). xs ++ by_number by more) none));
 }
 
 module _ {D : Type 0} (told : D → Option Past) (by name name' : ℕ) (v m w : View D) (fresh : List Item)
@@ -120,7 +137,8 @@ module _ {D : Type 0} (told : D → Option Past) (by name name' : ℕ) (v m w : 
   -- an actor whose turn it is sees the phase as it is by then
   sole_sees : SeesPhase v.base v.log (fresh ++ went.more) by (seen_of by m) (seen_of by w)
   sole_sees =
-      sees_behind told by v m fresh went.more goes none (seen_of by m) (seen_of by w) (own_sees told by name name' m w went)
+      sees_behind told by v m fresh went.more goes none (seen_of by m) (seen_of by w)
+      (own_sees told by name name' m w went)
 
   pub part_ran : (now : Moment) (lines : List Line) (a a' : ActorState) (out : List Answered)
       → Takes by now (turns_in by lines) (actor_standing a (seen_of by m) []) (actor_standing a' (seen_of by w) out)
@@ -129,7 +147,8 @@ module _ {D : Type 0} (told : D → Option Past) (by name name' : ℕ) (v m w : 
     first = seen_of by m;
     last = seen_of by w;
     sees = sole_sees;
-    taken = subst (λ (l : List Answered). TakesTurns by now (turns_in by lines) a (seen_of by m) l a' (seen_of by w)) (sym takes.out_is) takes.taken;
+    taken = subst (λ (l : List Answered). TakesTurns by now (turns_in by lines) a (seen_of by m) l a' (seen_of by w))
+        (sym takes.out_is) takes.taken;
     fed = ap is_any_unfed takes.out_is ∙ takes.fed;
   }
 

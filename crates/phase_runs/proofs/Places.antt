@@ -14,7 +14,8 @@ beside_set (y ∷ ys) zero (suc j) x ne = refl
 beside_set (y ∷ ys) (suc i) zero x ne = refl
 beside_set (y ∷ ys) (suc i) (suc j) x ne = beside_set ys i j x (λ is. ne (ap suc is))
 
-pub before_last : {X : Type 0} (xs : List X) (j : ℕ) (x p : X) → j < length xs → slice_get (xs ++ x ∷ []) j ≡ Some p → slice_get xs j ≡ Some p
+pub before_last : {X : Type 0} (xs : List X) (j : ℕ) (x p : X) → j < length xs → slice_get (xs ++ x ∷ []) j ≡ Some p
+    → slice_get xs j ≡ Some p
 before_last [] j x p within is = absurd (omega (arith, within))
 before_last (y ∷ ys) zero x p within is = is
 before_last (y ∷ ys) (suc j) x p within is = before_last ys j x p (omega (arith, within)) is

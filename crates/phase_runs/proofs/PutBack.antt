@@ -14,7 +14,8 @@ use Rattle.phase_runs.specs.Reps.{bare, reps_of, with_reps}
 use Rattle.phase_runs.proofs.Places.{one_of}
 
 -- it makes no difference that they were away
-pub put_back : (xs : List ActorState) (rs : List CellRep) → KeepReps (reps_of xs) rs → with_reps (map bare xs) rs ≡ with_reps xs rs
+pub put_back : (xs : List ActorState) (rs : List CellRep) → KeepReps (reps_of xs) rs
+    → with_reps (map bare xs) rs ≡ with_reps xs rs
 put_back [] rs kept = refl
 put_back (Client name ∷ xs) rs kept = ap (λ (l : List ActorState). Client name ∷ l) (put_back xs rs kept)
 put_back (Cell rep ∷ xs) [] kept = absurd kept
@@ -32,7 +33,8 @@ pub put_after : (olds bared news : List ActorState) (took lent after : List Cell
     → news ≡ with_reps bared (take len (after ++ drop (length after) took))
     → (news ≡ with_reps olds after) × KeepReps (reps_of olds) after
 put_after olds bared news took lent after len taken lent_is len_is kept put = (
-  put ∙ ap (with_reps bared) all_of ∙ ap (λ (l : List ActorState). with_reps l after) taken.1 ∙ put_back olds after kept_now,
+  put ∙ ap (with_reps bared) all_of ∙ ap (λ (l : List ActorState). with_reps l after) taken.1 ∙ put_back olds after
+      kept_now,
   kept_now,
 )
   where
@@ -43,7 +45,8 @@ put_after olds bared news took lent after len taken lent_is len_is kept put = (
     enough = len_is ∙ sym (ap length lent_is) ∙ sym (same_number lent after kept)
 
     all_of : take len (after ++ drop (length after) took) ≡ after
-    all_of = take-append-le len after (drop (length after) took) (omega (arith, enough)) ∙ take_all len after (omega (arith, enough))
+    all_of = take-append-le len after (drop (length after) took) (omega (arith, enough)) ∙ take_all len after
+        (omega (arith, enough))
 
 as_many : (xs : List ActorState) (rs : List CellRep) → length (with_reps xs rs) ≡ length xs
 as_many [] rs = refl
@@ -65,14 +68,16 @@ one_put (Cell rep ∷ xs) (r ∷ rs) kept zero a a' old new = between (Cell rep)
 one_put (Cell rep ∷ xs) (r ∷ rs) kept (suc k) a a' old new = one_put xs rs kept.1 k a a' old new
 
 -- each is the client or the cell that it was
-pub same_put : (xs : List ActorState) (rs : List CellRep) → KeepReps (reps_of xs) rs → AreSameActors xs (with_reps xs rs)
+pub same_put : (xs : List ActorState) (rs : List CellRep) → KeepReps (reps_of xs) rs
+    → AreSameActors xs (with_reps xs rs)
 same_put xs rs kept = record { length_is = as_many xs rs; one = one_put xs rs kept }
 
 pub same_as : (xs ys : List ActorState) → ys ≡ xs → AreSameActors xs ys
 same_as xs ys is = record {
   length_is = ap length is;
   one = λ k a a' old new.
-      subst (IsOneActor a) (one_of (slice_get xs k) a a' old (sym (ap (λ (l : List ActorState). slice_get l k) is) ∙ new))
+      subst (IsOneActor a) (one_of (slice_get xs k) a a' old
+      (sym (ap (λ (l : List ActorState). slice_get l k) is) ∙ new))
       (one_same a);
 }
 
@@ -82,5 +87,6 @@ same_then xs ys zs first second = record {
   one = λ k a c old new.
       let within : k < length ys = omega (arith, slice_get_within xs k a old, first.length_is) in
       let middle : slice_get ys k ≡ Some (get_or ys k a) = slice_get-get_or ys k a within in
-      one_then a (get_or ys k a) c (first.one k a (get_or ys k a) old middle) (second.one k (get_or ys k a) c middle new);
+      one_then a (get_or ys k a) c (first.one k a (get_or ys k a) old middle)
+      (second.one k (get_or ys k a) c middle new);
 }

@@ -27,7 +27,8 @@ use Rattle.phase_runs.proofs.Parts.{own_sees}
 
 module _ {D : Type 0} (told : D → Option Past) (now : Moment) (v : View D) where
   -- the phase has none
-  pub no_round : (round : Option RoundLine) (actors : List ActorState) → round ≡ None → RoundAlone told now round actors actors None v v
+  pub no_round : (round : Option RoundLine) (actors : List ActorState) → round ≡ None
+      → RoundAlone told now round actors actors None v v
   no_round round actors none = subst (λ r. RoundAlone told now r actors actors None v v) (sym none) (record {
     fresh = [];
     goes = goes_nowhere told v;
@@ -52,15 +53,19 @@ module _ {D : Type 0} (told : D → Option Past) (now : Moment) (v : View D) whe
             (sym later.mine.1 ∙ (own_sees told 0 alone.name alone.name' v w alone.went).own)
 
     -- the doubt of a disk fault is one of those that came
-    pub tells_fault : (line : RoundLine) (reps reps' : List CellRep) (why : CallFault) (place : ℕ) → why ≡ fault.Disk place
-        → IsCausedBy 0 (seen_of 0 v) (seen_of 0 w) why → IsToldBy now line reps reps' (seen_of 0 v) (seen_of 0 w) its None
+    pub tells_fault : (line : RoundLine) (reps reps' : List CellRep) (why : CallFault) (place : ℕ)
+        → why ≡ fault.Disk place
+        → IsCausedBy 0 (seen_of 0 v) (seen_of 0 w) why → IsToldBy now line reps reps' (seen_of 0 v)
+        (seen_of 0 w) its None
     tells_fault line reps reps' why place is cause =
         let doubt : IsDoubtedAt 0 place (seen_of 0 v) (seen_of 0 w) = cause.disk place is in
         (doubt.command, own_came doubt.later (Doubt 0 doubt.command) doubt.own)
 
-    module _ (line : RoundLine) (mids : List ActorState) (items : HasItems 0 now (reps_of mids) (seen_of 0 v) (seen_of 0 w)) where
+    module _ (line : RoundLine) (mids : List ActorState) (items : HasItems 0 now (reps_of mids) (seen_of 0 v)
+        (seen_of 0 w)) where
       -- it was held
-      pub was_held : (news : List ActorState) (reps : List CellRep) → news ≡ with_reps mids reps → KeepReps (reps_of mids) reps
+      pub was_held : (news : List ActorState) (reps : List CellRep) → news ≡ with_reps mids reps
+          → KeepReps (reps_of mids) reps
           → (report : Option Report) → IsToldBy now line (reps_of mids) reps (seen_of 0 v) (seen_of 0 w) its report
           → RoundAlone told now (Some line) mids news report v w
       was_held news reps news_are kept report is_told = record {

@@ -12,25 +12,31 @@ module _ {X : Type 0} (number : X → ℕ) where
   falls_nowhere xs h i j d le l =
       ⊎_elim
       (λ (lt : i < j). let rises : number (get_or xs i d) < number (get_or xs j d) = h i j d lt l in omega arith)
-      (λ (ge : j ≤ i). let one : i ≡ j = omega arith in let e : number (get_or xs i d) ≡ number (get_or xs j d) = ap (λ k. number (get_or xs k d)) one in omega arith)
+      (λ (ge : j ≤ i). let one : i ≡ j = omega arith in let e : number (get_or xs i d) ≡ number (get_or xs j d) =
+      ap (λ k. number (get_or xs k d)) one in omega arith)
       (cases_lt i j)
 
   unlike : (m n : ℕ) → (m ≡ n → ⊥) → (m == n) ≡ false
   unlike m n h = grind (arith, nat_tests)
 
   -- the first with a number is found
-  find_first : (n : ℕ) (xs : List X) (i : ℕ) (d : X) → ((j : ℕ) → j < i → number (get_or xs j d) ≡ n → ⊥) → i < length xs → number (get_or xs i d) ≡ n → find (λ x. number x == n) xs ≡ Some (get_or xs i d)
+  find_first : (n : ℕ) (xs : List X) (i : ℕ) (d : X) → ((j : ℕ) → j < i → number (get_or xs j d) ≡ n → ⊥)
+      → i < length xs → number (get_or xs i d) ≡ n → find (λ x. number x == n) xs ≡ Some (get_or xs i d)
   find_first n [] i d before l here = absurd (omega arith)
-  find_first n (x ∷ xs) zero d before l here = ap (λ b. cond b (Some x) (find (λ y. number y == n) xs)) (eq-eqb (number x) n here)
+  find_first n (x ∷ xs) zero d before l here = ap (λ b. cond b (Some x) (find (λ y. number y == n) xs))
+      (eq-eqb (number x) n here)
   find_first n (x ∷ xs) (suc i) d before l here =
       ap (λ b. cond b (Some x) (find (λ y. number y == n) xs)) (unlike (number x) n (before zero (omega arith)))
       ∙ find_first n xs i d (λ j lt e. before (suc j) (omega arith) e) (omega arith) here
 
-  module _ (n : ℕ) (xs : List X) (rising : AllPairs (λ a b. number a < number b) xs) (i : ℕ) (point : IsPartitionPoint (λ y. ltb (number y) n ≡ true) (λ y. ltb (number y) n ≡ false) xs i) (k : ℕ) (there : k < length xs) (d : X) (has : number (get_or xs k d) ≡ n) where
+  module _ (n : ℕ) (xs : List X) (rising : AllPairs (λ a b. number a < number b) xs) (i : ℕ)
+      (point : IsPartitionPoint (λ y. ltb (number y) n ≡ true) (λ y. ltb (number y) n ≡ false) xs i) (k : ℕ)
+      (there : k < length xs) (d : X) (has : number (get_or xs k d) ≡ n) where
     not_behind : i ≤ k
     not_behind =
         ⊎_elim
-        (λ (lt : k < i). let less : ltb (number (get_or xs k d)) n ≡ true = point.0 k d (omega arith) lt in absurd (grind (arith, nat_tests)))
+        (λ (lt : k < i). let less : ltb (number (get_or xs k d)) n ≡ true = point.0 k d (omega arith) lt in
+        absurd (grind (arith, nat_tests)))
         (λ (ge : i ≤ k). ge)
         (cases_lt k i)
 
@@ -54,4 +60,5 @@ module _ {X : Type 0} (number : X → ℕ) where
 
     -- what stands at the point is what is found
     pub found_read : (x : X) → x ≡ get_or xs i x → find (λ y. number y == n) xs ≡ Some x
-    found_read x at = found_at_point ∙ ap Some (get_or_default xs k d x there ∙ ap (λ j. get_or xs j x) (sym point_is_there) ∙ sym at)
+    found_read x at = found_at_point ∙ ap Some (get_or_default xs k d x there ∙ ap (λ j. get_or xs j x)
+        (sym point_is_there) ∙ sym at)

@@ -25,9 +25,11 @@ less_by_test false false = refl
 less_is : (x y : ℕ) → is_lt (nat_cmp x y) ≡ nat_lt x y
 less_is x y = less_by_test (nat_lt x y) (x == y)
 
-pub by_line_is : (xs ys : List Answered) → IsSortedByKey (λ (a : Answered). a.line) nat_cmp ys → IsStableByKey (λ (a : Answered). a.line) nat_cmp xs ys → ys ≡ sorted_by is_earlier_line xs
+pub by_line_is : (xs ys : List Answered) → IsSortedByKey (λ (a : Answered). a.line) nat_cmp ys
+    → IsStableByKey (λ (a : Answered). a.line) nat_cmp xs ys → ys ≡ sorted_by is_earlier_line xs
 by_line_is xs ys sorted stable =
-    sorted_by_is (λ (a b : Answered). is_lt (nat_cmp a.line b.line)) (ranks_by nat_cmp_total (λ (a : Answered). a.line)) xs ys sorted stable
+    sorted_by_is (λ (a b : Answered). is_lt (nat_cmp a.line b.line))
+    (ranks_by nat_cmp_total (λ (a : Answered). a.line)) xs ys sorted stable
     ∙ ap (λ (is_before : Answered → Answered → Bool). sorted_by is_before xs) (λ i a b. less_is a.line b.line i)
 
 -- any two spots compare
@@ -37,9 +39,11 @@ spots_total =
     (then_total (on_total (λ s. s.name) IsKeyOrder-name_order.total)
     (then_total (on_total (λ s. s.index) nat_cmp_total) (on_total (λ s. s.presence) (on_total rank_of nat_cmp_total))))
 
-pub by_key_is : (xs ys : List Event) → IsSortedByKey (λ (e : Event). spot_of e.row) event_order ys → IsStableByKey (λ (e : Event). spot_of e.row) event_order xs ys → ys ≡ by_key xs
+pub by_key_is : (xs ys : List Event) → IsSortedByKey (λ (e : Event). spot_of e.row) event_order ys
+    → IsStableByKey (λ (e : Event). spot_of e.row) event_order xs ys → ys ≡ by_key xs
 by_key_is xs ys sorted stable =
-    sorted_by_is (λ (a b : Event). is_lt (event_order (spot_of a.row) (spot_of b.row))) (ranks_by spots_total (λ (e : Event). spot_of e.row)) xs ys sorted stable
+    sorted_by_is (λ (a b : Event). is_lt (event_order (spot_of a.row) (spot_of b.row)))
+    (ranks_by spots_total (λ (e : Event). spot_of e.row)) xs ys sorted stable
 
 -- a tie of what isn't there leaves the order as it is
 then_tied : (o : Ordering) → ordering_then o Equal ≡ o

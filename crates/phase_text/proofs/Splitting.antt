@@ -19,7 +19,8 @@ module _ {X : Type 0} (p : X → Bool) where
       ∙ keeps_none xs (All-tail (λ y. p y ≡ false) x xs h)
 
 -- what stands before the point, and what stands behind it
-parts_at : {X : Type 0} (P Q : X → Type 0) (xs : List X) (i : ℕ) → IsPartitionPoint P Q xs i → All P (take i xs) × All Q (drop i xs)
+parts_at : {X : Type 0} (P Q : X → Type 0) (xs : List X) (i : ℕ) → IsPartitionPoint P Q xs i
+    → All P (take i xs) × All Q (drop i xs)
 parts_at P Q xs i point = (
   λ k d l.
       let within : k < i = omega (arith, length-take i xs, l) in
@@ -29,7 +30,8 @@ parts_at P Q xs i point = (
       subst Q (sym (get_or-drop i xs k d)) (point.1 (i + k) d (omega arith) within),
 )
 
-module _ {X : Type 0} (p : X → Bool) (xs : List X) (i : ℕ) (point : IsPartitionPoint (λ y. p y ≡ true) (λ y. p y ≡ false) xs i) where
+module _ {X : Type 0} (p : X → Bool) (xs : List X) (i : ℕ)
+    (point : IsPartitionPoint (λ y. p y ≡ true) (λ y. p y ≡ false) xs i) where
   -- a test keeps what stands before its point
   pub kept_is_front : filter p xs ≡ take i xs
   kept_is_front =
@@ -46,5 +48,6 @@ module _ {X : Type 0} (p : X → Bool) (xs : List X) (i : ℕ) (point : IsPartit
       let parts = parts_at (λ y. p y ≡ true) (λ y. p y ≡ false) xs i point in
       ap (filter (λ y. not (p y))) (sym (take-append-drop i xs))
       ∙ filter-append (λ y. not (p y)) (take i xs) (drop i xs)
-      ∙ ap (λ ys. ys ++ filter (λ y. not (p y)) (drop i xs)) (keeps_none (λ y. not (p y)) (take i xs) (λ k d l. ap not (parts.0 k d l)))
+      ∙ ap (λ ys. ys ++ filter (λ y. not (p y)) (drop i xs))
+      (keeps_none (λ y. not (p y)) (take i xs) (λ k d l. ap not (parts.0 k d l)))
       ∙ keeps_all (λ y. not (p y)) (drop i xs) (λ k d l. ap not (parts.1 k d l))

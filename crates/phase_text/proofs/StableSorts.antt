@@ -22,7 +22,8 @@ module _ {X : Type 0} (lt : X → X → Bool) where
   first_from_each x [] h = tt
   first_from_each x (y ∷ ys) h = (h 0 (omega arith), first_from_each x ys (λ j l. h (suc j) (omega arith)))
 
-  order_from_far : (xs : List X) → ((i j : ℕ) (d : X) → i ≤ j → j < length xs → lt (get_or xs j d) (get_or xs i d) ≡ false) → InOrder xs
+  order_from_far : (xs : List X) → ((i j : ℕ) (d : X) → i ≤ j → j < length xs
+      → lt (get_or xs j d) (get_or xs i d) ≡ false) → InOrder xs
   order_from_far [] h = tt
   order_from_far (x ∷ xs) h = (
     first_from_each x xs (λ j l. h 0 (suc j) x (omega arith) (omega arith)),
@@ -55,14 +56,16 @@ module _ {X : Type 0} (lt : X → X → Bool) (o : IsStrictWeakOrder lt) where
 
   -- what ties with x is not before it, nor x before it
   tie_left : (x y : X) → ties lt x y ≡ true → lt x y ≡ false
-  tie_left x y h = by_test (lt x y) (λ is. let e : not true && not (lt y x) ≡ true = subst (λ b. not b && not (lt y x) ≡ true) is h in absurd cc) (λ e. e)
+  tie_left x y h = by_test (lt x y) (λ is. let e : not true && not (lt y x) ≡ true =
+      subst (λ b. not b && not (lt y x) ≡ true) is h in absurd cc) (λ e. e)
 
   both_fail : (a : Bool) → not a && not true ≡ true → ⊥
   both_fail true h = absurd cc
   both_fail false h = absurd cc
 
   tie_right : (x y : X) → ties lt x y ≡ true → lt y x ≡ false
-  tie_right x y h = by_test (lt y x) (λ is. absurd (both_fail (lt x y) (subst (λ b. not (lt x y) && not b ≡ true) is h))) (λ e. e)
+  tie_right x y h = by_test (lt y x) (λ is. absurd (both_fail (lt x y)
+      (subst (λ b. not (lt x y) && not b ≡ true) is h))) (λ e. e)
 
   -- nothing before x ties with it
   before_no_tie : (x y : X) → lt y x ≡ true → ties lt x y ≡ false
@@ -98,7 +101,8 @@ module _ {X : Type 0} (lt : X → X → Bool) (o : IsStrictWeakOrder lt) where
   -- elements that tie stay in their order
   sorted_kept : (x : X) (xs : List X) → filter (ties lt x) (sorted_by lt xs) ≡ filter (ties lt x) xs
   sorted_kept x [] = refl
-  sorted_kept x (a ∷ xs) = placed_kept x a (sorted_by lt xs) ∙ ap (λ zs. cond (ties lt x a) (a ∷ zs) zs) (sorted_kept x xs)
+  sorted_kept x (a ∷ xs) = placed_kept x a (sorted_by lt xs) ∙ ap (λ zs. cond (ties lt x a) (a ∷ zs) zs)
+      (sorted_kept x xs)
 
   first_further : (x a : X) (ys : List X) → lt a x ≡ false → IsFirst lt a ys → IsFirst lt x ys
   first_further x a [] h f = tt
@@ -108,15 +112,18 @@ module _ {X : Type 0} (lt : X → X → Bool) (o : IsStrictWeakOrder lt) where
   first_placed x a [] h f = (h, tt)
   first_placed x a (y ∷ ys) h f =
       by_test (lt y a)
-      (λ is. subst (λ b. IsFirst lt x (cond b (y ∷ with_placed lt a ys) (a ∷ y ∷ ys))) (sym is) (f.0, first_placed x a ys h f.1))
+      (λ is. subst (λ b. IsFirst lt x (cond b (y ∷ with_placed lt a ys) (a ∷ y ∷ ys))) (sym is)
+      (f.0, first_placed x a ys h f.1))
       (λ n. subst (λ b. IsFirst lt x (cond b (y ∷ with_placed lt a ys) (a ∷ y ∷ ys))) (sym n) (h, f))
 
   placed_in_order : (a : X) (ys : List X) → InOrder lt ys → InOrder lt (with_placed lt a ys)
   placed_in_order a [] h = (tt, tt)
   placed_in_order a (y ∷ ys) h =
       by_test (lt y a)
-      (λ is. subst (λ b. InOrder lt (cond b (y ∷ with_placed lt a ys) (a ∷ y ∷ ys))) (sym is) (first_placed y a ys (o.one_way y a is) h.0, placed_in_order a ys h.1))
-      (λ n. subst (λ b. InOrder lt (cond b (y ∷ with_placed lt a ys) (a ∷ y ∷ ys))) (sym n) ((n, first_further a y ys n h.0), h))
+      (λ is. subst (λ b. InOrder lt (cond b (y ∷ with_placed lt a ys) (a ∷ y ∷ ys))) (sym is)
+      (first_placed y a ys (o.one_way y a is) h.0, placed_in_order a ys h.1))
+      (λ n. subst (λ b. InOrder lt (cond b (y ∷ with_placed lt a ys) (a ∷ y ∷ ys))) (sym n)
+      ((n, first_further a y ys n h.0), h))
 
   -- each in its place, they stand in order
   sorted_in_order : (xs : List X) → InOrder lt (sorted_by lt xs)
@@ -134,11 +141,13 @@ module _ {X : Type 0} (lt : X → X → Bool) (o : IsStrictWeakOrder lt) where
       ∙ none_before x z zs h f.1
 
   -- where the filters by ties are the same, neither list's first stands before the other's
-  not_before : (y z : X) (ys zs : List X) → IsFirst lt z zs → filter (ties lt y) (y ∷ ys) ≡ filter (ties lt y) (z ∷ zs) → lt y z ≡ false
+  not_before : (y z : X) (ys zs : List X) → IsFirst lt z zs → filter (ties lt y) (y ∷ ys) ≡ filter (ties lt y) (z ∷ zs)
+      → lt y z ≡ false
   not_before y z ys zs f same =
       by_test (lt y z)
       (λ is.
-      let mine : filter (ties lt y) (y ∷ ys) ≡ y ∷ filter (ties lt y) ys = kept_at (ties lt y y) y (filter (ties lt y) ys) (tied y y (itself y) (itself y)) in
+      let mine : filter (ties lt y) (y ∷ ys) ≡ y ∷ filter (ties lt y) ys =
+      kept_at (ties lt y y) y (filter (ties lt y) ys) (tied y y (itself y) (itself y)) in
       let theirs : filter (ties lt y) (z ∷ zs) ≡ [] = none_before y z (z ∷ zs) is (itself z, f) in
       let clash : y ∷ filter (ties lt y) ys ≡ [] = sym mine ∙ same ∙ theirs in
       absurd cc)
@@ -155,27 +164,34 @@ module _ {X : Type 0} (lt : X → X → Bool) (o : IsStrictWeakOrder lt) where
   same_rest false y ys zs e = e
 
   -- lists in order that keep the same elements tied with each are the same
-  pub same_in_order : (ys zs : List X) → InOrder lt ys → InOrder lt zs → ((x : X) → filter (ties lt x) ys ≡ filter (ties lt x) zs) → ys ≡ zs
+  pub same_in_order : (ys zs : List X) → InOrder lt ys → InOrder lt zs
+      → ((x : X) → filter (ties lt x) ys ≡ filter (ties lt x) zs) → ys ≡ zs
   same_in_order [] [] h k same = refl
   same_in_order [] (z ∷ zs) h k same =
-      let theirs : filter (ties lt z) (z ∷ zs) ≡ z ∷ filter (ties lt z) zs = kept_at (ties lt z z) z (filter (ties lt z) zs) (tied z z (itself z) (itself z)) in
+      let theirs : filter (ties lt z) (z ∷ zs) ≡ z ∷ filter (ties lt z) zs =
+      kept_at (ties lt z z) z (filter (ties lt z) zs) (tied z z (itself z) (itself z)) in
       let clash : [] ≡ z ∷ filter (ties lt z) zs = same z ∙ theirs in
       absurd cc
   same_in_order (y ∷ ys) [] h k same =
-      let mine : filter (ties lt y) (y ∷ ys) ≡ y ∷ filter (ties lt y) ys = kept_at (ties lt y y) y (filter (ties lt y) ys) (tied y y (itself y) (itself y)) in
+      let mine : filter (ties lt y) (y ∷ ys) ≡ y ∷ filter (ties lt y) ys =
+      kept_at (ties lt y y) y (filter (ties lt y) ys) (tied y y (itself y) (itself y)) in
       let clash : y ∷ filter (ties lt y) ys ≡ [] = sym mine ∙ same y in
       absurd cc
   same_in_order (y ∷ ys) (z ∷ zs) h k same =
       let ahead : lt y z ≡ false = not_before y z ys zs k.0 (same y) in
       let back : lt z y ≡ false = not_before z y zs ys h.0 (sym (same z)) in
-      let mine : filter (ties lt y) (y ∷ ys) ≡ y ∷ filter (ties lt y) ys = kept_at (ties lt y y) y (filter (ties lt y) ys) (tied y y (itself y) (itself y)) in
-      let theirs : filter (ties lt y) (z ∷ zs) ≡ z ∷ filter (ties lt y) zs = kept_at (ties lt y z) z (filter (ties lt y) zs) (tied y z ahead back) in
+      let mine : filter (ties lt y) (y ∷ ys) ≡ y ∷ filter (ties lt y) ys =
+      kept_at (ties lt y y) y (filter (ties lt y) ys) (tied y y (itself y) (itself y)) in
+      let theirs : filter (ties lt y) (z ∷ zs) ≡ z ∷ filter (ties lt y) zs =
+      kept_at (ties lt y z) z (filter (ties lt y) zs) (tied y z ahead back) in
       let one : y ≡ z = first_of y z _ _ (sym mine ∙ same y ∙ theirs) in
-      let rest : ys ≡ zs = same_in_order ys zs h.1 k.1 (λ x. same_rest (ties lt x y) y (filter (ties lt x) ys) (filter (ties lt x) zs)
+      let rest : ys ≡ zs = same_in_order ys zs h.1 k.1 (λ x.
+      same_rest (ties lt x y) y (filter (ties lt x) ys) (filter (ties lt x) zs)
       (same x ∙ ap (λ w. cond (ties lt x w) (w ∷ filter (ties lt x) zs) (filter (ties lt x) zs)) (sym one))) in
       λ i. one i ∷ rest i
 
   -- a stable sort leaves the elements, each placed in turn
   pub sorted_by_is : (xs ys : List X) → IsSortedBy lt ys → IsStableBy lt xs ys → ys ≡ sorted_by lt xs
   sorted_by_is xs ys up stable =
-      same_in_order ys (sorted_by lt xs) (in_order_from_sorted lt o ys up) (sorted_in_order xs) (λ x. stable x ∙ sym (sorted_kept x xs))
+      same_in_order ys (sorted_by lt xs) (in_order_from_sorted lt o ys up) (sorted_in_order xs)
+      (λ x. stable x ∙ sym (sorted_kept x xs))

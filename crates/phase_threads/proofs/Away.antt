@@ -58,12 +58,15 @@ own_none : (own : List Line) (rep : CellRep) → All (λ l. not (is_of_cell l.ac
     → ((l : Line) → Contains own l → IsActOf l.act (Cell rep)) → own ≡ []
 own_none [] rep clients can = refl
 own_none (l ∷ ls) rep clients can =
-    absurd (not_its l.act rep (All-head (λ x. not (is_of_cell x.act) ≡ true) l ls clients) (can l (0, omega arith, refl)))
+    absurd (not_its l.act rep (All-head (λ x. not (is_of_cell x.act) ≡ true) l ls clients)
+    (can l (0, omega arith, refl)))
 
-pub no_turns : (by : ℕ) (lines : List Line) (rep : CellRep) → are_of_clients lines ≡ true → CanDo by lines (Cell rep) → turns_in by lines ≡ []
+pub no_turns : (by : ℕ) (lines : List Line) (rep : CellRep) → are_of_clients lines ≡ true → CanDo by lines (Cell rep)
+    → turns_in by lines ≡ []
 no_turns by lines rep clients can =
     ap (flat_map turns_of) (own_none (lines_by by lines) rep
-    (All-filter (λ l. l.actor == by) (λ l. not (is_of_cell l.act) ≡ true) lines (AllPass-from_list_all (λ l. not (is_of_cell l.act)) lines clients)) can)
+    (All-filter (λ l. l.actor == by) (λ l. not (is_of_cell l.act) ≡ true) lines
+    (AllPass-from_list_all (λ l. not (is_of_cell l.act)) lines clients)) can)
 
 -- a cell that was without its rep is the cell that it was
 as_bare : (a b : ActorState) → IsOneActor (bare a) b → IsOneActor a b
@@ -78,7 +81,8 @@ same_bare olds news same = record {
   one = λ k a a' old new.
       let within : k < length (map bare olds) = omega (arith, slice_get_within olds k a old, length-map olds bare) in
       let b = stands (map bare olds) k within in
-      as_bare a a' (subst (λ x. IsOneActor x a') (sym (image_at olds bare k a b.0 old b.1)) (same.one k b.0 a' b.1 new));
+      as_bare a a' (subst (λ x. IsOneActor x a') (sym (image_at olds bare k a b.0 old b.1))
+      (same.one k b.0 a' b.1 new));
 }
 
 -- the actors behind the first
@@ -97,8 +101,10 @@ IsWith (Client name) new mid = mid ≡ new
 IsWith (Cell rep) new mid = mid ≡ Cell rep
 
 -- the actors with the reps that were away
-pub with_at : (olds news : List ActorState) → AreSameActors olds news → (k : ℕ) (a mid : ActorState) → slice_get olds k ≡ Some a
-    → slice_get (with_reps news (reps_of olds)) k ≡ Some mid → (new : ActorState) × (slice_get news k ≡ Some new) × IsWith a new mid
+pub with_at : (olds news : List ActorState) → AreSameActors olds news → (k : ℕ) (a mid : ActorState)
+    → slice_get olds k ≡ Some a
+    → slice_get (with_reps news (reps_of olds)) k ≡ Some mid
+    → (new : ActorState) × (slice_get news k ≡ Some new) × IsWith a new mid
 with_at [] news same k a mid old is = cc (old)
 with_at (x ∷ xs) [] same k a mid old is = absurd (omega (arith, same.length_is))
 with_at (Client name ∷ xs) (Client other ∷ ys) same zero a mid old is = (
@@ -121,7 +127,8 @@ with_at (Cell rep ∷ xs) (Cell other ∷ ys) same (suc k) a mid old is =
     with_at xs ys (behind (Cell rep) (Cell other) xs ys same) k a mid old is
 
 -- they have those reps
-pub reps_back : (olds news : List ActorState) → AreSameActors olds news → reps_of (with_reps news (reps_of olds)) ≡ reps_of olds
+pub reps_back : (olds news : List ActorState) → AreSameActors olds news
+    → reps_of (with_reps news (reps_of olds)) ≡ reps_of olds
 reps_back [] [] same = refl
 reps_back [] (y ∷ ys) same = absurd (omega (arith, same.length_is))
 reps_back (x ∷ xs) [] same = absurd (omega (arith, same.length_is))
@@ -132,16 +139,19 @@ reps_back (Cell rep ∷ xs) (Cell other ∷ ys) same =
     ap (λ (l : List CellRep). rep ∷ l) (reps_back xs ys (behind (Cell rep) (Cell other) xs ys same))
 
 -- the later of two rows of reps is what counts
-pub with_twice : (xs : List ActorState) (rs qs : List CellRep) → KeepReps rs qs → with_reps (with_reps xs rs) qs ≡ with_reps xs qs
+pub with_twice : (xs : List ActorState) (rs qs : List CellRep) → KeepReps rs qs
+    → with_reps (with_reps xs rs) qs ≡ with_reps xs qs
 with_twice [] rs qs kept = refl
 with_twice (Client name ∷ xs) rs qs kept = ap (λ (l : List ActorState). Client name ∷ l) (with_twice xs rs qs kept)
 with_twice (Cell rep ∷ xs) [] [] kept = ap (λ (l : List ActorState). Cell rep ∷ l) (with_twice xs [] [] kept)
 with_twice (Cell rep ∷ xs) [] (q ∷ qs) kept = absurd kept
 with_twice (Cell rep ∷ xs) (r ∷ rs) [] kept = absurd kept
-with_twice (Cell rep ∷ xs) (r ∷ rs) (q ∷ qs) kept = ap (λ (l : List ActorState). Cell q ∷ l) (with_twice xs rs qs kept.1)
+with_twice (Cell rep ∷ xs) (r ∷ rs) (q ∷ qs) kept = ap (λ (l : List ActorState). Cell q ∷ l)
+    (with_twice xs rs qs kept.1)
 
 -- each is the client or the cell that it was
-pub same_with : (olds news : List ActorState) → AreSameActors olds news → AreSameActors olds (with_reps news (reps_of olds))
+pub same_with : (olds news : List ActorState) → AreSameActors olds news
+    → AreSameActors olds (with_reps news (reps_of olds))
 same_with olds news same = record {
   length_is = as_many news (reps_of olds) ∙ same.length_is;
   one = λ k a mid old is.
@@ -165,11 +175,14 @@ module _ (by : ℕ) (now : Moment) (lines : List Line) (clients : are_of_clients
       → Takes by now (turns_in by lines) (actor_standing (bare a) v []) (actor_standing new w answers)
       → Takes by now (turns_in by lines) (actor_standing a v []) (actor_standing mid w answers)
   takes_with (Client name) new mid answers can is takes =
-      subst (λ m. Takes by now (turns_in by lines) (actor_standing (Client name) v []) (actor_standing m w answers)) (sym is) takes
+      subst (λ m. Takes by now (turns_in by lines) (actor_standing (Client name) v []) (actor_standing m w answers))
+      (sym is) takes
   takes_with (Cell rep) new mid answers can is takes =
-      subst (λ m. Takes by now (turns_in by lines) (actor_standing (Cell rep) v []) (actor_standing m w answers)) (sym is)
+      subst (λ m. Takes by now (turns_in by lines) (actor_standing (Cell rep) v []) (actor_standing m w answers))
+      (sym is)
       (subst (λ ts. Takes by now ts (actor_standing (Cell rep) v []) (actor_standing (Cell rep) w answers)) (sym none)
-      (idle (subst (λ ts. Takes by now ts (actor_standing (bare (Cell rep)) v []) (actor_standing new w answers)) none takes)))
+      (idle (subst (λ ts. Takes by now ts (actor_standing (bare (Cell rep)) v []) (actor_standing new w answers)) none
+      takes)))
     where
       none : turns_in by lines ≡ []
       none = no_turns by lines rep clients can
@@ -180,7 +193,8 @@ module _ (by : ℕ) (now : Moment) (lines : List Line) (clients : are_of_clients
 
   pub cut_with : (a new mid : ActorState) → CanDo by lines a → IsWith a new mid
       → IsCutShort by now (turns_in by lines) (bare a) v new w → IsCutShort by now (turns_in by lines) a v mid w
-  cut_with (Client name) new mid can is cut = subst (λ m. IsCutShort by now (turns_in by lines) (Client name) v m w) (sym is) cut
+  cut_with (Client name) new mid can is cut = subst (λ m. IsCutShort by now (turns_in by lines) (Client name) v m w)
+      (sym is) cut
   cut_with (Cell rep) new mid can is cut =
       subst (λ m. IsCutShort by now (turns_in by lines) (Cell rep) v m w) (sym is)
       (subst (λ ts. IsCutShort by now ts (Cell rep) v (Cell rep) w) (sym none)

@@ -27,8 +27,10 @@ use Rattle.phase_threads.specs.declared.acting.Acting.{Acting}
 use Rattle.phase_threads.proofs.Pairs.{as_elem, as_slice, image_at, none_has, stands}
 
 -- lines that were all done were done up to their end
-pub all_done : (by : ℕ) (now : Moment) (lines : List Line) (a a' : ActorState) (v w : PortView) (answers : List Answered)
-    → Takes by now (turns_in by lines) (actor_standing a v []) (actor_standing a' w answers) → IsCutShort by now (turns_in by lines) a v a' w
+pub all_done : (by : ℕ) (now : Moment) (lines : List Line) (a a' : ActorState) (v w : PortView)
+    (answers : List Answered)
+    → Takes by now (turns_in by lines) (actor_standing a v []) (actor_standing a' w answers)
+    → IsCutShort by now (turns_in by lines) a v a' w
 all_done by now lines a a' v w answers takes = record {
   done = turns_in by lines;
   rest = [];
@@ -41,16 +43,19 @@ all_done by now lines a a' v w answers takes = record {
 }
 
 -- whatever became of them, they were done up to some place
-pub acted_cut : (now : Moment) (lines : List Line) (by : ℕ) (a a' : ActorState) (v w : PortView) (answers : List Answered) (starved : Bool)
+pub acted_cut : (now : Moment) (lines : List Line) (by : ℕ) (a a' : ActorState) (v w : PortView)
+    (answers : List Answered) (starved : Bool)
     → HasActedOut now lines by a v a' w answers starved → IsCutShort by now (turns_in by lines) a v a' w
 acted_cut now lines by a a' v w answers false acted = all_done by now lines a a' v w answers (acted.whole refl)
 acted_cut now lines by a a' v w answers true acted = acted.cut refl
 
-module _ {V S D P : Type 0} (pass_of : P → Pass V Item (Origin S)) (board : View D) (z : TableId) (many : ℕ) (now : Moment) (lines : List Line)
+module _ {V S D P : Type 0} (pass_of : P → Pass V Item (Origin S)) (board : View D) (z : TableId) (many : ℕ)
+    (now : Moment) (lines : List Line)
     (olds : List ActorState) where
   module _ (all : List (Acting P)) (set : AtEach (IsSet pass_of board z many) olds all) where
     -- each may begin
-    pub each_ready : CanAllDo lines olds → (k : ℕ) (d : Acting P) → k < length all → IsReady (λ p. (pass_of p).number) lines (get_or all k d)
+    pub each_ready : CanAllDo lines olds → (k : ℕ) (d : Acting P) → k < length all
+        → IsReady (λ p. (pass_of p).number) lines (get_or all k d)
     each_ready can k d within =
         let x = get_or all k d in
         let here : k < length olds = omega (arith, within, set.length_is) in
@@ -58,21 +63,27 @@ module _ {V S D P : Type 0} (pass_of : P → Pass V Item (Origin S)) (board : Vi
         let is = set.at k there.0 x there.1 (slice_get-get_or all k d within) in
         record {
           number = is.own.pass.number ∙ sym is.by;
-          can = subst (λ (n : ℕ). CanDo n lines x.actor) (sym is.by) (subst (CanDo (suc k) lines) (sym is.actor) (can k there.0 there.1));
+          can = subst (λ (n : ℕ). CanDo n lines x.actor) (sym is.by)
+              (subst (CanDo (suc k) lines) (sym is.actor) (can k there.0 there.1));
           none = is.none;
         }
 
     module _ (after : List (Acting P)) (count : length after ≡ length all)
         (acts : (k : ℕ) (d : Acting P) → k < length all
-        → ActsOut (λ p. seen_by (pass_of p)) (λ p q. IsSame (pass_of p) (pass_of q)) now lines (get_or all k d) (get_or after k d)) where
+        → ActsOut (λ p. seen_by (pass_of p)) (λ p q. IsSame (pass_of p) (pass_of q)) now lines (get_or all k d)
+        (get_or after k d)) where
       out_at : (k : ℕ) (a : ActorState) (x y : Acting P) → IsSet pass_of board z many k a x
-          → ActsOut (λ p. seen_by (pass_of p)) (λ p q. IsSame (pass_of p) (pass_of q)) now lines x y → IsOut pass_of board z many now lines k a y
+          → ActsOut (λ p. seen_by (pass_of p)) (λ p q. IsSame (pass_of p) (pass_of q)) now lines x y
+          → IsOut pass_of board z many now lines k a y
       out_at k a x y set_is out = record {
         pass = pass_stays z many (suc k) (pass_of x.port) (pass_of y.port) out.keeps.pass set_is.own.pass;
         acted =
-            subst (λ (n : ℕ). HasActedOut now lines n a (whole_view board) y.actor (seen_by (pass_of y.port)) y.part.items y.starved) set_is.by
-            (subst (λ (b : ActorState). HasActedOut now lines x.by b (whole_view board) y.actor (seen_by (pass_of y.port)) y.part.items y.starved) set_is.actor
-            (subst (λ (v : PortView). HasActedOut now lines x.by x.actor v y.actor (seen_by (pass_of y.port)) y.part.items y.starved) set_is.own.seen
+            subst (λ (n : ℕ). HasActedOut now lines n a (whole_view board) y.actor
+            (seen_by (pass_of y.port)) y.part.items y.starved) set_is.by
+            (subst (λ (b : ActorState). HasActedOut now lines x.by b (whole_view board) y.actor
+            (seen_by (pass_of y.port)) y.part.items y.starved) set_is.actor
+            (subst (λ (v : PortView). HasActedOut now lines x.by x.actor v y.actor
+            (seen_by (pass_of y.port)) y.part.items y.starved) set_is.own.seen
             out.acted));
       }
 
@@ -84,14 +95,18 @@ module _ {V S D P : Type 0} (pass_of : P → Pass V Item (Origin S)) (board : Vi
             let within : k < length all = omega (arith, slice_get_within olds k a is, set.length_is) in
             let x = get_or all k y in
             let y_is : get_or after k y ≡ y =
-            one_of (slice_get after k) (get_or after k y) y (slice_get-get_or after k y (omega (arith, within, count))) there in
+            one_of (slice_get after k) (get_or after k y) y (slice_get-get_or after k y (omega (arith, within, count)))
+            there in
             out_at k a x y (set.at k a x is (slice_get-get_or all k y within))
-            (subst (ActsOut (λ p. seen_by (pass_of p)) (λ p q. IsSame (pass_of p) (pass_of q)) now lines x) y_is (acts k y within));
+            (subst (ActsOut (λ p. seen_by (pass_of p)) (λ p q. IsSame (pass_of p) (pass_of q)) now lines x) y_is
+            (acts k y within));
       }
 
   module _ (after : List (Acting P)) (out : AtEach (IsOut pass_of board z many now lines) olds after)
-      (first : Pass V Item (Origin S)) (news : List ActorState) (news_are : news ≡ map (λ (x : Acting P). x.actor) after)
-      (passes : List (Pass V Item (Origin S))) (own : IsPass z many 0 first) (passes_are : passes ≡ first ∷ map (λ (x : Acting P). pass_of x.port) after) where
+      (first : Pass V Item (Origin S)) (news : List ActorState)
+      (news_are : news ≡ map (λ (x : Acting P). x.actor) after)
+      (passes : List (Pass V Item (Origin S))) (own : IsPass z many 0 first)
+      (passes_are : passes ≡ first ∷ map (λ (x : Acting P). pass_of x.port) after) where
     inside : (k : ℕ) (a : ActorState) → slice_get olds k ≡ Some a → k < length after
     inside k a is = omega (arith, slice_get_within olds k a is, out.length_is)
 
@@ -101,17 +116,22 @@ module _ {V S D P : Type 0} (pass_of : P → Pass V Item (Origin S)) (board : Vi
     at_it : (k : ℕ) (a : ActorState) (is : slice_get olds k ≡ Some a) → slice_get after k ≡ Some (acting_at k a is)
     at_it k a is = (stands after k (inside k a is)).1
 
-    out_is : (k : ℕ) (a : ActorState) (is : slice_get olds k ≡ Some a) → IsOut pass_of board z many now lines k a (acting_at k a is)
+    out_is : (k : ℕ) (a : ActorState) (is : slice_get olds k ≡ Some a)
+        → IsOut pass_of board z many now lines k a (acting_at k a is)
     out_is k a is = out.at k a (acting_at k a is) is (at_it k a is)
 
-    new_is : (k : ℕ) (a a' : ActorState) (is : slice_get olds k ≡ Some a) → slice_get news k ≡ Some a' → (acting_at k a is).actor ≡ a'
+    new_is : (k : ℕ) (a a' : ActorState) (is : slice_get olds k ≡ Some a) → slice_get news k ≡ Some a'
+        → (acting_at k a is).actor ≡ a'
     new_is k a a' is new =
-        image_at after (λ (x : Acting P). x.actor) k (acting_at k a is) a' (at_it k a is) (sym (ap (λ l. slice_get l k) news_are) ∙ new)
+        image_at after (λ (x : Acting P). x.actor) k (acting_at k a is) a' (at_it k a is)
+        (sym (ap (λ l. slice_get l k) news_are) ∙ new)
 
-    pass_is : (k : ℕ) (a : ActorState) (p : Pass V Item (Origin S)) (is : slice_get olds k ≡ Some a) → slice_get passes (suc k) ≡ Some p
+    pass_is : (k : ℕ) (a : ActorState) (p : Pass V Item (Origin S)) (is : slice_get olds k ≡ Some a)
+        → slice_get passes (suc k) ≡ Some p
         → pass_of (acting_at k a is).port ≡ p
     pass_is k a p is has =
-        image_at after (λ (x : Acting P). pass_of x.port) k (acting_at k a is) p (at_it k a is) (sym (ap (λ l. slice_get l (suc k)) passes_are) ∙ has)
+        image_at after (λ (x : Acting P). pass_of x.port) k (acting_at k a is) p (at_it k a is)
+        (sym (ap (λ l. slice_get l (suc k)) passes_are) ∙ has)
 
     all_same : AreSameActors olds news
     all_same = record {
@@ -128,12 +148,16 @@ module _ {V S D P : Type 0} (pass_of : P → Pass V Item (Origin S)) (board : Vi
       ran = λ k a a' answers p is new part has.
           let x = acting_at k a is in
           let part_is : x.part.items ≡ answers =
-          image_at after (λ (y : Acting P). y.part.items) k x answers (at_it k a is) (sym (ap (λ l. slice_get l k) parts_are) ∙ part) in
+          image_at after (λ (y : Acting P). y.part.items) k x answers (at_it k a is)
+          (sym (ap (λ l. slice_get l k) parts_are) ∙ part) in
           let fed_is : x.starved ≡ false = none_has (λ (y : Acting P). y.starved) after k x fed (at_it k a is) in
-          subst (λ b. Takes (suc k) now (turns_in (suc k) lines) (actor_standing a (whole_view board) []) (actor_standing b (seen_by p) answers)) (new_is k a a' is new)
-          (subst (λ (q : Pass V Item (Origin S)). Takes (suc k) now (turns_in (suc k) lines) (actor_standing a (whole_view board) []) (actor_standing x.actor (seen_by q) answers))
+          subst (λ b. Takes (suc k) now (turns_in (suc k) lines) (actor_standing a (whole_view board) [])
+          (actor_standing b (seen_by p) answers)) (new_is k a a' is new)
+          (subst (λ (q : Pass V Item (Origin S)). Takes (suc k) now (turns_in (suc k) lines)
+          (actor_standing a (whole_view board) []) (actor_standing x.actor (seen_by q) answers))
           (pass_is k a p is has)
-          (subst (λ l. Takes (suc k) now (turns_in (suc k) lines) (actor_standing a (whole_view board) []) (actor_standing x.actor (seen_by (pass_of x.port)) l)) part_is
+          (subst (λ l. Takes (suc k) now (turns_in (suc k) lines) (actor_standing a (whole_view board) [])
+          (actor_standing x.actor (seen_by (pass_of x.port)) l)) part_is
           ((out_is k a is).acted.whole fed_is)));
     }
 
@@ -144,10 +168,13 @@ module _ {V S D P : Type 0} (pass_of : P → Pass V Item (Origin S)) (board : Vi
       same = all_same;
       cut = λ k a a' p is new has.
           let x = acting_at k a is in
-          subst (λ b. IsCutShort (suc k) now (turns_in (suc k) lines) a (whole_view board) b (seen_by p)) (new_is k a a' is new)
-          (subst (λ (q : Pass V Item (Origin S)). IsCutShort (suc k) now (turns_in (suc k) lines) a (whole_view board) x.actor (seen_by q))
+          subst (λ b. IsCutShort (suc k) now (turns_in (suc k) lines) a (whole_view board) b (seen_by p))
+          (new_is k a a' is new)
+          (subst (λ (q : Pass V Item (Origin S)). IsCutShort (suc k) now (turns_in (suc k) lines) a
+          (whole_view board) x.actor (seen_by q))
           (pass_is k a p is has)
-          (acted_cut now lines (suc k) a x.actor (whole_view board) (seen_by (pass_of x.port)) x.part.items x.starved (out_is k a is).acted));
+          (acted_cut now lines (suc k) a x.actor (whole_view board) (seen_by (pass_of x.port)) x.part.items x.starved
+          (out_is k a is).acted));
     }
 
     -- the round's pass is as it was
@@ -158,13 +185,19 @@ module _ {V S D P : Type 0} (pass_of : P → Pass V Item (Origin S)) (board : Vi
     count : length passes ≡ suc (length olds)
     count = ap length passes_are ∙ ap suc (length-map after (λ (x : Acting P). pass_of x.port) ∙ out.length_is)
 
-    at_place : (k : ℕ) (p : Pass V Item (Origin S)) → slice_get (first ∷ map (λ (x : Acting P). pass_of x.port) after) k ≡ Some p → IsPass z many k p
+    at_place : (k : ℕ) (p : Pass V Item (Origin S)) → slice_get (first ∷ map (λ (x : Acting P). pass_of x.port) after) k
+        ≡ Some p → IsPass z many k p
     at_place zero p is = subst (IsPass z many zero) (one_of (Some first) first p refl is) own
     at_place (suc k) p is =
         let within : k < length after =
-        omega (arith, slice_get_within (map (λ (x : Acting P). pass_of x.port) after) k p is, length-map after (λ (x : Acting P). pass_of x.port)) in
+        omega (
+          arith,
+          slice_get_within (map (λ (x : Acting P). pass_of x.port) after) k p is,
+          length-map after (λ (x : Acting P). pass_of x.port),
+        ) in
         let x = stands after k within in let a = stands olds k (omega (arith, within, out.length_is)) in
-        subst (IsPass z many (suc k)) (image_at after (λ (y : Acting P). pass_of y.port) k x.0 p x.1 is) (out.at k a.0 x.0 a.1 x.1).pass
+        subst (IsPass z many (suc k)) (image_at after (λ (y : Acting P). pass_of y.port) k x.0 p x.1 is)
+        (out.at k a.0 x.0 a.1 x.1).pass
 
     -- all passes are back
     pub all_back : many ≡ suc (length olds) → AreBack z (length olds) passes
@@ -203,12 +236,14 @@ module _ {V S D : Type 0} (board : View D) (z : TableId) (actors : ℕ) (passes 
     news = olds;
     same = same_as olds olds refl;
     cut = λ k a a' p is new has.
-        subst (λ b. IsCutShort (suc k) now (turns_in (suc k) lines) a (whole_view board) b (seen_by p)) (one_of (slice_get olds k) a a' is new)
+        subst (λ b. IsCutShort (suc k) now (turns_in (suc k) lines) a (whole_view board) b (seen_by p))
+        (one_of (slice_get olds k) a a' is new)
         (subst (λ w. IsCutShort (suc k) now (turns_in (suc k) lines) a (whole_view board) a w)
         (sym (handed.2 (suc k) p (as_elem passes (suc k) p has))) (nothing (suc k) now lines a));
   }
     where
-      nothing : (by : ℕ) (now : Moment) (lines : List Line) (a : ActorState) → IsCutShort by now (turns_in by lines) a (whole_view board) a (whole_view board)
+      nothing : (by : ℕ) (now : Moment) (lines : List Line) (a : ActorState)
+          → IsCutShort by now (turns_in by lines) a (whole_view board) a (whole_view board)
       nothing by now lines a = record {
         done = [];
         rest = turns_in by lines;

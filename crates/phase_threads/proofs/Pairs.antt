@@ -34,7 +34,8 @@ module _ {A : Type 0} where
   stands (y ∷ ys) (suc k) within = stands ys k (omega (arith, within))
 
   -- the next one and those behind it
-  pub next_is : (xs : List A) (i : ℕ) (x : A) (rest : List A) → drop i xs ≡ x ∷ rest → (slice_get xs i ≡ Some x) × (drop (i + 1) xs ≡ rest)
+  pub next_is : (xs : List A) (i : ℕ) (x : A) (rest : List A) → drop i xs ≡ x ∷ rest
+      → (slice_get xs i ≡ Some x) × (drop (i + 1) xs ≡ rest)
   next_is xs i x rest is = (here xs i is, ap (λ n. drop n xs) one_up ∙ behind xs i is)
     where
       one_up : i + 1 ≡ suc i
@@ -53,7 +54,8 @@ module _ {A : Type 0} where
       behind (y ∷ ys) (suc n) e = behind ys n e
 
   -- it stands among those before, or is the last
-  pub at_end : (xs : List A) (y : A) (k : ℕ) (x : A) → slice_get (xs ++ y ∷ []) k ≡ Some x → (slice_get xs k ≡ Some x) ⊎ ((k ≡ length xs) × (y ≡ x))
+  pub at_end : (xs : List A) (y : A) (k : ℕ) (x : A) → slice_get (xs ++ y ∷ []) k ≡ Some x
+      → (slice_get xs k ≡ Some x) ⊎ ((k ≡ length xs) × (y ≡ x))
   at_end [] y zero x is = inr (refl, one_of (Some y) y x refl is)
   at_end [] y (suc k) x is = absurd (omega (arith, slice_get_within none k x is))
     where
@@ -62,22 +64,26 @@ module _ {A : Type 0} where
   at_end (z ∷ zs) y zero x is = inl is
   at_end (z ∷ zs) y (suc k) x is = further (at_end zs y k x is)
     where
-      further : (slice_get zs k ≡ Some x) ⊎ ((k ≡ length zs) × (y ≡ x)) → (slice_get zs k ≡ Some x) ⊎ ((suc k ≡ suc (length zs)) × (y ≡ x))
+      further : (slice_get zs k ≡ Some x) ⊎ ((k ≡ length zs) × (y ≡ x))
+          → (slice_get zs k ≡ Some x) ⊎ ((suc k ≡ suc (length zs)) × (y ≡ x))
       further (inl e) = inl e
       further (inr (e, same)) = inr (ap suc e, same)
 
   -- where none has it, the one at a place hasn't
-  pub none_has : (has : A → Bool) (xs : List A) (k : ℕ) (x : A) → list_any has xs ≡ false → slice_get xs k ≡ Some x → has x ≡ false
+  pub none_has : (has : A → Bool) (xs : List A) (k : ℕ) (x : A) → list_any has xs ≡ false → slice_get xs k ≡ Some x
+      → has x ≡ false
   none_has has [] k x none is = absurd (omega (arith, slice_get_within empty k x is))
     where
       empty : List A
       empty = []
-  none_has has (y ∷ ys) zero x none is = ap has (sym (one_of (Some y) y x refl is)) ∙ (or_false (has y) (list_any has ys) none).0
+  none_has has (y ∷ ys) zero x none is = ap has (sym (one_of (Some y) y x refl is)) ∙
+      (or_false (has y) (list_any has ys) none).0
   none_has has (y ∷ ys) (suc k) x none is = none_has has ys k x (or_false (has y) (list_any has ys) none).1 is
 
 module _ {A B : Type 0} where
   -- what stands at a place of a list of images is the image of what stands there
-  pub image_at : (xs : List A) (f : A → B) (k : ℕ) (x : A) (y : B) → slice_get xs k ≡ Some x → slice_get (map f xs) k ≡ Some y → f x ≡ y
+  pub image_at : (xs : List A) (f : A → B) (k : ℕ) (x : A) (y : B) → slice_get xs k ≡ Some x
+      → slice_get (map f xs) k ≡ Some y → f x ≡ y
   image_at [] f k x y is is' = absurd (omega (arith, slice_get_within none k x is))
     where
       none : List A
@@ -86,17 +92,20 @@ module _ {A B : Type 0} where
   image_at (z ∷ zs) f (suc k) x y is is' = image_at zs f k x y is is'
 
   -- what stands at a place has its image there
-  pub image_of : (xs : List A) (f : A → B) (k : ℕ) (x : A) → slice_get xs k ≡ Some x → slice_get (map f xs) k ≡ Some (f x)
+  pub image_of : (xs : List A) (f : A → B) (k : ℕ) (x : A) → slice_get xs k ≡ Some x
+      → slice_get (map f xs) k ≡ Some (f x)
   image_of [] f k x is = cc (is)
   image_of (y ∷ ys) f zero x is = ap (λ z. Some (f z)) (one_of (Some y) y x refl is)
   image_of (y ∷ ys) f (suc k) x is = image_of ys f k x is
 
   -- one more of both
-  pub each_more : (R : ℕ → A → B → Type 0) (xs : List A) (ys : List B) (i : ℕ) (d : A) (y : B) → i < length xs → AtEach R (take i xs) ys
+  pub each_more : (R : ℕ → A → B → Type 0) (xs : List A) (ys : List B) (i : ℕ) (d : A) (y : B) → i < length xs
+      → AtEach R (take i xs) ys
       → R i (get_or xs i d) y → AtEach R (take (i + 1) xs) (ys ++ y ∷ [])
   each_more R xs ys i d y within before is =
       subst (λ l. AtEach R l (ys ++ y ∷ [])) (sym (take_more xs i d within)) (record {
-        length_is = length-append ys (y ∷ []) ∙ ap (λ n. n + 1) before.length_is ∙ sym (length-append (take i xs) (get_or xs i d ∷ []));
+        length_is = length-append ys (y ∷ []) ∙ ap (λ n. n + 1) before.length_is ∙ sym
+            (length-append (take i xs) (get_or xs i d ∷ []));
         at = λ k a b here there. at_place k a b (at_end (take i xs) (get_or xs i d) k a here) (at_end ys y k b there);
       })
     where
@@ -108,20 +117,25 @@ module _ {A B : Type 0} where
           length_of_take (z ∷ zs) zero lt = refl
           length_of_take (z ∷ zs) (suc n) lt = ap suc (length_of_take zs n (omega (arith, lt)))
 
-      at_place : (k : ℕ) (a : A) (b : B) → (slice_get (take i xs) k ≡ Some a) ⊎ ((k ≡ length (take i xs)) × (get_or xs i d ≡ a))
+      at_place : (k : ℕ) (a : A) (b : B) → (slice_get (take i xs) k ≡ Some a)
+          ⊎ ((k ≡ length (take i xs)) × (get_or xs i d ≡ a))
           → (slice_get ys k ≡ Some b) ⊎ ((k ≡ length ys) × (y ≡ b)) → R k a b
       at_place k a b (inl here) (inl there) = before.at k a b here there
-      at_place k a b (inl here) (inr (end, last)) = absurd (omega (arith, slice_get_within (take i xs) k a here, end, before.length_is))
-      at_place k a b (inr (end, last)) (inl there) = absurd (omega (arith, slice_get_within ys k b there, end, before.length_is))
+      at_place k a b (inl here) (inr (end, last)) = absurd
+          (omega (arith, slice_get_within (take i xs) k a here, end, before.length_is))
+      at_place k a b (inr (end, last)) (inl there) = absurd
+          (omega (arith, slice_get_within ys k b there, end, before.length_is))
       at_place k a b (inr (end, last)) (inr (end', last')) =
           subst (λ n. R n a b) (sym (end ∙ count)) (subst (λ x. R i x b) last (subst (R i (get_or xs i d)) last' is))
 
   -- the lists as a whole
-  pub each_all : (R : ℕ → A → B → Type 0) (xs : List A) (ys : List B) (i : ℕ) → take i xs ≡ xs → AtEach R (take i xs) ys → AtEach R xs ys
+  pub each_all : (R : ℕ → A → B → Type 0) (xs : List A) (ys : List B) (i : ℕ) → take i xs ≡ xs → AtEach R (take i xs) ys
+      → AtEach R xs ys
   each_all R xs ys i whole each = subst (λ l. AtEach R l ys) whole each
 
   -- the images of one more
-  pub images_more : (xs : List A) (f : A → B) (i : ℕ) (x : A) → slice_get xs i ≡ Some x → map f (take (i + 1) xs) ≡ map f (take i xs) ++ f x ∷ []
+  pub images_more : (xs : List A) (f : A → B) (i : ℕ) (x : A) → slice_get xs i ≡ Some x
+      → map f (take (i + 1) xs) ≡ map f (take i xs) ++ f x ∷ []
   images_more xs f i x is = subst (λ n. map f (take n xs) ≡ map f (take i xs) ++ f x ∷ []) one_up (up xs i is)
     where
       one_up : suc i ≡ i + 1
@@ -152,7 +166,8 @@ module _ {A : Type 0} where
   none = []
 
   -- those behind it
-  pub behind_set : (xs ys : List A) (i : ℕ) (x : A) → drop i xs ≡ drop i ys → drop (i + 1) (set xs i x) ≡ drop (i + 1) ys
+  pub behind_set : (xs ys : List A) (i : ℕ) (x : A) → drop i xs ≡ drop i ys
+      → drop (i + 1) (set xs i x) ≡ drop (i + 1) ys
   unfolding none
   behind_set xs ys i x same = subst (λ n. drop n (set xs i x) ≡ drop n ys) one_up (kept xs i ∙ later xs ys i same)
     where
@@ -178,24 +193,29 @@ module _ {A : Type 0} where
       later (y ∷ ys) (z ∷ zs) (suc n) e = later ys zs n e
 
   -- the next one is as it was
-  pub next_same : (xs ys : List A) (i : ℕ) (d : A) → i < length xs → i < length ys → drop i xs ≡ drop i ys → get_or xs i d ≡ get_or ys i d
+  pub next_same : (xs ys : List A) (i : ℕ) (d : A) → i < length xs → i < length ys → drop i xs ≡ drop i ys
+      → get_or xs i d ≡ get_or ys i d
   next_same [] ys i d lt lt' e = absurd (omega (arith, lt))
   next_same (x ∷ xs) [] i d lt lt' e = absurd (omega (arith, lt'))
   next_same (x ∷ xs) (y ∷ ys) zero d lt lt' e = cc (e)
   next_same (x ∷ xs) (y ∷ ys) (suc i) d lt lt' e = next_same xs ys i d (omega (arith, lt)) (omega (arith, lt')) e
 
   -- what a list is after all of it was lent
-  pub lent_whole : (n : ℕ) (new old : List A) → length new ≡ length old → n ≡ length old → take n (new ++ drop (length new) old) ≡ new
+  pub lent_whole : (n : ℕ) (new old : List A) → length new ≡ length old → n ≡ length old
+      → take n (new ++ drop (length new) old) ≡ new
   lent_whole n new old same is =
-      ap (λ xs. take n (new ++ xs)) (drop_all (length new) old (omega (arith, same))) ∙ ap (λ xs. take n xs) (append-nil new)
+      ap (λ xs. take n (new ++ xs)) (drop_all (length new) old (omega (arith, same))) ∙ ap (λ xs. take n xs)
+      (append-nil new)
       ∙ take_all n new (omega (arith, same, is))
 
   -- the first one and the others
-  pub first_and_rest : (l rest : List A) (a : A) → 0 < length l → a ≡ get_or l 0 a → rest ≡ take 0 l ++ drop 1 l → l ≡ a ∷ rest
+  pub first_and_rest : (l rest : List A) (a : A) → 0 < length l → a ≡ get_or l 0 a → rest ≡ take 0 l ++ drop 1 l
+      → l ≡ a ∷ rest
   first_and_rest [] rest a filled is same = absurd (omega (arith, filled))
   first_and_rest (x ∷ xs) rest a filled is same = cc (is, same)
 
   -- one that is put into an empty list, and others behind it
-  pub first_then : (room pushed gathered rest : List A) (a : A) → room ≡ [] → pushed ≡ room ++ a ∷ [] → gathered ≡ pushed ++ rest → gathered ≡ a ∷ rest
+  pub first_then : (room pushed gathered rest : List A) (a : A) → room ≡ [] → pushed ≡ room ++ a ∷ []
+      → gathered ≡ pushed ++ rest → gathered ≡ a ∷ rest
   first_then room pushed gathered rest a empty push gather =
       gather ∙ ap (λ l. l ++ rest) (push ∙ ap (λ l. l ++ a ∷ []) empty)

@@ -25,14 +25,16 @@ among_all by items i inside =
     All-contains (Contains items) (by_number by items) i
     (All-filter (λ (x : Item). by_of x == by) (Contains items) items (All-contains_itself items)) inside
 
-module _ {V S D P : Type 0} (pass_of : P → Pass V Item (Origin S)) (board : View D) (now : Moment) (line : RoundLine) (way : P) (reps : List CellRep)
+module _ {V S D P : Type 0} (pass_of : P → Pass V Item (Origin S)) (board : View D) (now : Moment) (line : RoundLine)
+    (way : P) (reps : List CellRep)
     (x : Held P) (seen : seen_by (pass_of way) ≡ whole_view board)
     (held : IsHeld (λ p. seen_by (pass_of p)) (λ p q. IsSame (pass_of p) (pass_of q)) now line way reps x)
     (passes rest : List (Pass V Item (Origin S))) (passes_are : passes ≡ pass_of x.port ∷ rest) where
   is_first : (p : Pass V Item (Origin S)) → slice_get passes 0 ≡ Some p → pass_of x.port ≡ p
   is_first p is = one_of (Some (pass_of x.port)) (pass_of x.port) p refl (sym (ap (λ l. slice_get l 0) passes_are) ∙ is)
 
-  its_items : (p : Pass V Item (Origin S)) → slice_get passes 0 ≡ Some p → HasItems 0 now reps (whole_view board) (seen_by p)
+  its_items : (p : Pass V Item (Origin S)) → slice_get passes 0 ≡ Some p
+      → HasItems 0 now reps (whole_view board) (seen_by p)
   its_items p is =
       subst (λ (q : Pass V Item (Origin S)). HasItems 0 now reps (whole_view board) (seen_by q)) (is_first p is)
       (subst (λ (v : PortView). HasItems 0 now reps v (seen_by (pass_of x.port))) seen held.items)
@@ -43,9 +45,11 @@ module _ {V S D P : Type 0} (pass_of : P → Pass V Item (Origin S)) (board : Vi
     same = held.same;
     items = its_items;
     reported = λ p is.
-        subst (λ (q : Pass V Item (Origin S)). ReportsRound now line reps x.cells.items (whole_view board) (seen_by q) report) (is_first p is)
+        subst (λ (q : Pass V Item (Origin S)). ReportsRound now line reps x.cells.items (whole_view board)
+        (seen_by q) report) (is_first p is)
         (subst (λ (v : PortView). ReportsRound now line reps x.cells.items v (seen_by (pass_of x.port)) report) seen
-        (subst (λ end. IfOk end (ReportsRound now line reps x.cells.items (seen_by (pass_of way)) (seen_by (pass_of x.port)))) ended held.reported));
+        (subst (λ end. IfOk end (ReportsRound now line reps x.cells.items (seen_by (pass_of way))
+        (seen_by (pass_of x.port)))) ended held.reported));
   }
 
   -- it was held up to some item

@@ -22,7 +22,8 @@ state_after_all-append rows (x ∷ xs) c = state_after_all-append (state_after r
 verdicts_of-append : (rows : Rows) (xs : List Command) (c : Command)
     → verdicts_of rows (xs ++ c ∷ []) ≡ verdicts_of rows xs ++ verdict_of (state_after_all rows xs) c ∷ []
 verdicts_of-append rows [] c = refl
-verdicts_of-append rows (x ∷ xs) c = ap (λ (vs : List Verdict). verdict_of rows x ∷ vs) (verdicts_of-append (state_after rows x) xs c)
+verdicts_of-append rows (x ∷ xs) c = ap (λ (vs : List Verdict). verdict_of rows x ∷ vs)
+    (verdicts_of-append (state_after rows x) xs c)
 
 -- one command more
 pub one_command_more : (start rows : Rows) (cs : List Command) (i : ℕ) (c : Command) → i < length cs → c ≡ get_or cs i c

@@ -12,12 +12,14 @@ use Rattle.std.specs.declared.cmp.Ordering.TheVariants.{Less, Equal, Greater}
 use Rattle.row_tables.specs.Table.{put_row, without_row}
 
 -- one row more of those before a place
-pub one_more : {X : Type 0} (xs : List X) (i : ℕ) (x : X) → i < length xs → x ≡ get_or xs i x → take (i + 1) xs ≡ take i xs ++ x ∷ []
+pub one_more : {X : Type 0} (xs : List X) (i : ℕ) (x : X) → i < length xs → x ≡ get_or xs i x
+    → take (i + 1) xs ≡ take i xs ++ x ∷ []
 one_more xs i x lt is = take_more xs i x lt ∙ ap (λ y. take i xs ++ y ∷ []) (sym is)
 
 module _ {K X : Type 0} (R : K → K → Ordering) (key : X → K) where
   front_or_not : (b c : Bool) (x y : X) (xs : List X)
-      → cond b (cond c xs (xs ++ x ∷ [])) (y ∷ cond c xs (xs ++ x ∷ [])) ≡ cond c (cond b xs (y ∷ xs)) (cond b xs (y ∷ xs) ++ x ∷ [])
+      → cond b (cond c xs (xs ++ x ∷ [])) (y ∷ cond c xs (xs ++ x ∷ []))
+      ≡ cond c (cond b xs (y ∷ xs)) (cond b xs (y ∷ xs) ++ x ∷ [])
   front_or_not true true x y xs = refl
   front_or_not true false x y xs = refl
   front_or_not false true x y xs = refl
@@ -25,7 +27,8 @@ module _ {K X : Type 0} (R : K → K → Ordering) (key : X → K) where
 
   -- a row more at the end is left unless it stands at the key
   pub without_row-append : (k : K) (xs : List X) (x : X)
-      → without_row R key k (xs ++ x ∷ []) ≡ cond (eq_by_cmp R k (key x)) (without_row R key k xs) (without_row R key k xs ++ x ∷ [])
+      → without_row R key k (xs ++ x ∷ []) ≡ cond (eq_by_cmp R k (key x)) (without_row R key k xs)
+      (without_row R key k xs ++ x ∷ [])
   without_row-append k [] x = refl
   without_row-append k (y ∷ ys) x =
       ap (λ zs. cond (eq_by_cmp R k (key y)) zs (y ∷ zs)) (without_row-append k ys x)
@@ -51,9 +54,11 @@ chosen_by m n le true e = refl
 chosen_by m n le false e = grind (arith, nat_tests)
 
 -- a search that may find nothing, and the length where it does
-pub unwrap_or-position : {X : Type 0} (p : X → Bool) (xs : List X) → unwrap_or (position p xs) (length xs) ≡ position_or_len p xs
+pub unwrap_or-position : {X : Type 0} (p : X → Bool) (xs : List X)
+    → unwrap_or (position p xs) (length xs) ≡ position_or_len p xs
 unwrap_or-position p xs =
-    chosen_by (position_or_len p xs) (length xs) (prefix_len-le-length (λ x. not (p x)) xs) (nat_lt (position_or_len p xs) (length xs)) refl
+    chosen_by (position_or_len p xs) (length xs) (prefix_len-le-length (λ x. not (p x)) xs)
+    (nat_lt (position_or_len p xs) (length xs)) refl
 
 pub position_or_len-within : {X : Type 0} (p : X → Bool) (xs : List X) → position_or_len p xs ≤ length xs
 position_or_len-within p xs = prefix_len-le-length (λ x. not (p x)) xs
@@ -63,7 +68,8 @@ module _ {K X : Type 0} (R : K → K → Ordering) (key : X → K) (r : X) where
   at_place : ℕ → List X → List X
   at_place n xs = take n xs ++ r ∷ (without_row R key (key r) (take 1 (drop n xs)) ++ drop 1 (drop n xs))
 
-  at_first : (x : X) (xs : List X) (b : Bool) → eq_by_cmp R (key r) (key x) ≡ b → at_place 0 (x ∷ xs) ≡ r ∷ cond b xs (x ∷ xs)
+  at_first : (x : X) (xs : List X) (b : Bool) → eq_by_cmp R (key r) (key x) ≡ b
+      → at_place 0 (x ∷ xs) ≡ r ∷ cond b xs (x ∷ xs)
   unfolding at_place
   at_first x xs true e = ap (λ c. r ∷ (cond c [] (x ∷ []) ++ xs)) e
   at_first x xs false e = ap (λ c. r ∷ (cond c [] (x ∷ []) ++ xs)) e
@@ -78,7 +84,8 @@ module _ {K X : Type 0} (R : K → K → Ordering) (key : X → K) (r : X) where
   put_step x xs Equal n is ih = sym (at_first x xs true (ap is_eq is))
   put_step x xs Greater n is ih = ap (λ ys. x ∷ ys) ih ∙ sym (at_later x xs n)
 
-  put_row-at_place : (xs : List X) → put_row R key r xs ≡ at_place (position_or_len (λ x. is_le (R (key r) (key x))) xs) xs
+  put_row-at_place : (xs : List X) → put_row R key r xs ≡ at_place
+      (position_or_len (λ x. is_le (R (key r) (key x))) xs) xs
   unfolding at_place
   put_row-at_place [] = refl
   put_row-at_place (x ∷ xs) =
@@ -92,6 +99,7 @@ module _ {K X : Type 0} (R : K → K → Ordering) (key : X → K) (r : X) where
   unfolding at_place
   put_row-pieces xs below rest above all k n k_is n_is below_is rest_is above_is all_is =
       all_is ∙ append_assoc below (r ∷ []) above
-      ∙ (λ i. below_is i ++ r ∷ (above_is ∙ (λ j. without_row R key (k_is j) (take 1 (rest_is j)) ++ drop 1 (rest_is j))) i)
+      ∙ (λ i. below_is i ++ r ∷ (above_is ∙ (λ j. without_row R key (k_is j) (take 1 (rest_is j))
+      ++ drop 1 (rest_is j))) i)
       ∙ ap (λ m. at_place m xs) (n_is ∙ ap (λ q. position_or_len (λ x. is_le (R q (key x))) xs) k_is)
       ∙ sym (put_row-at_place xs)

@@ -22,15 +22,18 @@ module _ {D : Type 0} (told : D → Option Past) (faults moment : D → ℕ) (wo
 
   module _ (script : Script) (e : Ended) (v w : Ports) where
     -- it was played on the board that was opened
-    pub played_ends : (rows : Rows) (m : Ports) → Opens rows v m → (how : Ending) → PlaysOn told faults moment wording script rows how e m w
+    pub played_ends : (rows : Rows) (m : Ports) → Opens rows v m → (how : Ending)
+        → PlaysOn told faults moment wording script rows how e m w
         → ScriptEnds told faults moment wording script how e v w
     played_ends rows m opens ending.Done plays = record { rows = rows; between = m; opens = opens; plays = plays }
     played_ends rows m opens ending.Doubt plays = record { rows = rows; between = m; opens = opens; plays = plays }
     played_ends rows m opens ending.Unwritten plays = record { rows = rows; between = m; opens = opens; plays = plays }
-    played_ends rows m opens ending.OutOfMemory plays = inl (record { rows = rows; between = m; opens = opens; plays = plays })
+    played_ends rows m opens ending.OutOfMemory plays = inl
+        (record { rows = rows; between = m; opens = opens; plays = plays })
     played_ends rows m opens how plays = absurd plays.plays
 
-    idle_ends : (how : Ending) → IsEmpty e → EndsUnopened how v w → ScriptEnds told faults moment wording script how e v w
+    idle_ends : (how : Ending) → IsEmpty e → EndsUnopened how v w
+        → ScriptEnds told faults moment wording script how e v w
     idle_ends ending.Done empty ends = absurd ends
     idle_ends ending.Doubt empty ends = absurd ends
     idle_ends ending.Unwritten empty ends = absurd ends
@@ -38,12 +41,14 @@ module _ {D : Type 0} (told : D → Option Past) (faults moment : D → ℕ) (wo
     idle_ends how empty ends = (empty, ends)
 
     -- no board was opened
-    pub unopened_ends : (how : Ending) → e.ending ≡ how → IsEmpty e → EndsUnopened how v w → ScriptEnds told faults moment wording script e.ending e v w
+    pub unopened_ends : (how : Ending) → e.ending ≡ how → IsEmpty e → EndsUnopened how v w
+        → ScriptEnds told faults moment wording script e.ending e v w
     unopened_ends how is empty ends =
         subst (λ (x : Ending). ScriptEnds told faults moment wording script x e v w) (sym is) (idle_ends how empty ends)
 
     -- it looked at the disk
-    pub not_before : (how : Ending) → ScriptEnds told faults moment wording script how e v w → is_before_board (status_of how) ≡ true → ⊥
+    pub not_before : (how : Ending) → ScriptEnds told faults moment wording script how e v w
+        → is_before_board (status_of how) ≡ true → ⊥
     not_before (ending.Script why) ends before = absurd ends.1
     not_before ending.Read ends before = absurd ends.1
     not_before ending.TooLong ends before = absurd ends.1
@@ -57,7 +62,8 @@ module _ {D : Type 0} (told : D → Option Past) (faults moment : D → ℕ) (wo
   -- ---- a run
 
   module _ (e : Ended) (left left' : Option (List ℕ)) (v w : Ports) where
-    pub script_runs : (how : Ending) → RunsScript told faults moment wording how e left left' v w → RunEnds told faults moment wording how e left left' v w
+    pub script_runs : (how : Ending) → RunsScript told faults moment wording how e left left' v w
+        → RunEnds told faults moment wording how e left left' v w
     script_runs (ending.Script why) runs = absurd runs.ends.1
     script_runs ending.Read runs = absurd runs.ends.1
     script_runs ending.TooLong runs = absurd runs.ends.1
@@ -68,24 +74,33 @@ module _ {D : Type 0} (told : D → Option Past) (faults moment : D → ℕ) (wo
       unseen : (how : Ending) → IsEmpty e → Prints whole (line_of how) v w → EndsUnseen how e v w
       unseen how empty prints = (empty, record { told = same; faults = stands; whole = whole; prints = prints })
 
-      wants : IsEmpty e → Prints whole (line_of ending.OutOfMemory) v w → LostAtMost left left' limit → RunEnds told faults moment wording ending.OutOfMemory e left left' v w
+      wants : IsEmpty e → Prints whole (line_of ending.OutOfMemory) v w → LostAtMost left left' limit
+          → RunEnds told faults moment wording ending.OutOfMemory e left left' v w
       wants empty prints lost = inr ((empty, rests_unseen v w same stands whole ending.OutOfMemory prints), lost)
 
       lost_of : (fault : ScriptFault) → ReadsWhole script_of (Err fault) left left' → LostAtMost left left' limit
       lost_of fault reads = (reads.bytes, reads.few, reads.consumes)
 
-      as_ends : (how other : Ending) → other ≡ how → RunEnds told faults moment wording how e left left' v w → RunEnds told faults moment wording other e left left' v w
-      as_ends how other is ends = subst (λ (x : Ending). RunEnds told faults moment wording x e left left' v w) (sym is) ends
+      as_ends : (how other : Ending) → other ≡ how → RunEnds told faults moment wording how e left left' v w
+          → RunEnds told faults moment wording other e left left' v w
+      as_ends how other is ends = subst (λ (x : Ending). RunEnds told faults moment wording x e left left' v w)
+          (sym is) ends
 
       as_prints : (how other : Ending) → other ≡ how → Prints whole (line_of other) v w → Prints whole (line_of how) v w
       as_prints how other is prints = subst (λ (x : Ending). Prints whole (line_of x) v w) is prints
 
-      unread_ends : (what how : Ending) → ReadsAs script_of (Err what) left left' → EndsAs what how → IsEmpty e → Prints whole (line_of how) v w
+      unread_ends : (what how : Ending) → ReadsAs script_of (Err what) left left' → EndsAs what how → IsEmpty e
+          → Prints whole (line_of how) v w
           → RunEnds told faults moment wording how e left left' v w
       unread_ends (ending.Script why) how reads (inl is) empty prints =
-          as_ends (ending.Script why) how is (unseen (ending.Script why) empty (as_prints (ending.Script why) how is prints), reads)
+          as_ends (ending.Script why) how is (
+            unseen (ending.Script why) empty
+                (as_prints (ending.Script why) how is prints),
+            reads,
+          )
       unread_ends (ending.Script why) how reads (inr is) empty prints =
-          as_ends ending.OutOfMemory how is (wants empty (as_prints ending.OutOfMemory how is prints) (lost_of why reads))
+          as_ends ending.OutOfMemory how is (wants empty (as_prints ending.OutOfMemory how is prints)
+          (lost_of why reads))
       unread_ends ending.Read how reads is empty prints =
           as_ends ending.Read how is (unseen ending.Read empty (as_prints ending.Read how is prints), reads)
       unread_ends ending.TooLong how reads is empty prints =
@@ -95,6 +110,8 @@ module _ {D : Type 0} (told : D → Option Past) (faults moment : D → ℕ) (wo
       unread_ends what how never is empty prints = absurd never
 
       -- the source gave no scenario
-      pub unread : (what how : Ending) → e.ending ≡ how → ReadsAs script_of (Err what) left left' → EndsAs what how → IsEmpty e → Prints whole (line_of how) v w
+      pub unread : (what how : Ending) → e.ending ≡ how → ReadsAs script_of (Err what) left left' → EndsAs what how
+          → IsEmpty e → Prints whole (line_of how) v w
           → RunEnds told faults moment wording e.ending e left left' v w
-      unread what how is reads ends empty prints = as_ends how e.ending is (unread_ends what how reads ends empty prints)
+      unread what how is reads ends empty prints = as_ends how e.ending is
+          (unread_ends what how reads ends empty prints)

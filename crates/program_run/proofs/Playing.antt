@@ -28,7 +28,8 @@ pub record Gives {D : Type 0} (told : D → Option Past) (faults : D → ℕ) (l
   pub kept : ForSome (told left.disk) (Kept left.base left.log left.marks left.since)
   pub doubts : RoseForEach (doubts_in left.log) left.faults (faults left.disk)
 
-module _ {D : Type 0} (told : D → Option Past) (faults moment : D → ℕ) (wording : Wording) (script : Script) (board left : View D) (how : Ending) (e : Ended) (v w : Ports) where
+module _ {D : Type 0} (told : D → Option Past) (faults moment : D → ℕ) (wording : Wording) (script : Script)
+    (board left : View D) (how : Ending) (e : Ended) (v w : Ports) where
   module _ (since : board.since ≡ moment board.disk) (count : board.faults ≡ faults board.disk)
       (opened : IsOn told faults moment board v) (closed : IsOn told faults moment left w)
       (log : e.log.items ≡ left.log) (marks : e.marks.items ≡ left.marks) (gives : Gives told faults left)
@@ -46,7 +47,8 @@ module _ {D : Type 0} (told : D → Option Past) (faults moment : D → ℕ) (wo
 
     doubts : RoseForEach (doubts_in e.log.items) v.disk_faults w.disk_faults
     doubts =
-        subst (λ (n : ℕ). RoseForEach (doubts_in e.log.items) n w.disk_faults) (goes.faults ∙ count ∙ sym opened.faults_are)
+        subst (λ (n : ℕ). RoseForEach (doubts_in e.log.items) n w.disk_faults)
+        (goes.faults ∙ count ∙ sym opened.faults_are)
         (subst (λ (n : ℕ). RoseForEach (doubts_in e.log.items) left.faults n) (sym closed.faults_are)
         (subst (λ (x : List Item). RoseForEach (doubts_in x) left.faults (faults left.disk)) (sym log) gives.doubts))
 
@@ -66,9 +68,11 @@ module _ {D : Type 0} (told : D → Option Past) (faults moment : D → ℕ) (wo
         subst (λ (l : List Item). Goes v.told w.told (WritesOn board.base l)) same
         (subst (λ (t : Option Past). Goes t w.told (WritesOn board.base fresh)) (sym opened.told_is)
         (subst (λ (t : Option Past). Goes (told board.disk) t (WritesOn board.base fresh)) (sym closed.told_is)
-        (subst (λ (x : Rows). Goes (told board.disk) (told left.disk) (WritesOn x fresh)) begins (goes.writes begin.calm (ap doubts_in same ∙ none)).1)))
+        (subst (λ (x : Rows). Goes (told board.disk) (told left.disk) (WritesOn x fresh)) begins
+        (goes.writes begin.calm (ap doubts_in same ∙ none)).1)))
 
-    on : IsFresh board → Plays told wording script how e.answers.items e.reports.items board left v.held w.held v.write_faults w.write_faults
+    on : IsFresh board → Plays told wording script how e.answers.items e.reports.items board left v.held w.held
+        v.write_faults w.write_faults
         → PlaysOn told faults moment wording script board.base how e v w
     on begin plays = record {
       board = board;
@@ -93,8 +97,10 @@ module _ {D : Type 0} (told : D → Option Past) (faults moment : D → ℕ) (wo
   pub plays_on : IsFresh board → board.since ≡ moment board.disk → board.faults ≡ faults board.disk
       → IsOn told faults moment board v → IsOn told faults moment left w
       → e.log.items ≡ left.log → e.marks.items ≡ left.marks → Gives told faults left
-      → Plays told wording script how e.answers.items e.reports.items board left v.held w.held v.write_faults w.write_faults
+      → Plays told wording script how e.answers.items e.reports.items board left v.held w.held v.write_faults
+      w.write_faults
       → PlaysOn told faults moment wording script board.base how e v w
   plays_on begin since count opened closed log marks gives plays =
-      let (fresh, goes) = plays_goes told wording script e.answers.items e.reports.items board left v.held w.held v.write_faults w.write_faults how plays in
+      let (fresh, goes) = plays_goes told wording script e.answers.items e.reports.items board left v.held w.held
+      v.write_faults w.write_faults how plays in
       on since count opened closed log marks gives fresh goes begin plays

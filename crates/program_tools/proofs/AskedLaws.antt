@@ -35,29 +35,35 @@ module _ (log : LockLog) (marks : List ℕ) (left left' : Option (List ℕ)) (v 
   usage_to how None is h = still.usage_to v w how None is h
 
   -- no word that asks nothing of the source ends with a status of its reading
-  not_of_still : (how : Ending) (what : Option Asked) (n : ℕ) → (n ≡ 1 → ⊥) → is_before_board n ≡ true → status_of how ≡ n → StillEnds how what v w → ⊥
+  not_of_still : (how : Ending) (what : Option Asked) (n : ℕ) → (n ≡ 1 → ⊥) → is_before_board n ≡ true
+      → status_of how ≡ n → StillEnds how what v w → ⊥
   not_of_still how what n other before is h =
       other (sym is ∙ still.not_of_source v w how what (ap is_before_board is ∙ before) h)
 
   pub script_from : (how : Ending) (what : Option Asked) → status_of how ≡ 2 → Ends how what
-      → (why : ScriptFault) × ReadsFault what why left left' × (whole : Bool) × PrintsTo whole (script_line why) v.held w.held v.write_faults w.write_faults
+      → (why : ScriptFault) × ReadsFault what why left left' × (whole : Bool)
+      × PrintsTo whole (script_line why) v.held w.held v.write_faults w.write_faults
   script_from how (Some asked.Locks) n h = locks.script_from log marks left left' v w how n h
   script_from how what n h = absurd (not_of_still how what 2 (λ never. omega (arith, never)) refl n h)
 
-  pub too_long_from : (how : Ending) (what : Option Asked) → status_of how ≡ 8 → Ends how what → Lost left left' (limit + 1)
+  pub too_long_from : (how : Ending) (what : Option Asked) → status_of how ≡ 8 → Ends how what
+      → Lost left left' (limit + 1)
   too_long_from how (Some asked.Locks) n h = locks.too_long_from log marks left left' v w how n h
   too_long_from how what n h = absurd (not_of_still how what 8 (λ never. omega (arith, never)) refl n h)
 
-  pub unwritten_from : (how : Ending) (what : Option Asked) → status_of how ≡ 4 → Ends how what → Rose v.write_faults w.write_faults
+  pub unwritten_from : (how : Ending) (what : Option Asked) → status_of how ≡ 4 → Ends how what
+      → Rose v.write_faults w.write_faults
   unwritten_from how (Some asked.Locks) n h = locks.unwritten_from log marks left left' v w how n h
   unwritten_from how what n h = still.unwritten_from v w how what n h
 
-  pub unstored_from : (how : Ending) (what : Option Asked) → status_of how ≡ 5 → Ends how what → Rose v.disk_faults w.disk_faults
+  pub unstored_from : (how : Ending) (what : Option Asked) → status_of how ≡ 5 → Ends how what
+      → Rose v.disk_faults w.disk_faults
   unstored_from how (Some asked.Locks) n h = locks.unstored_from log marks left left' v w how n h
   unstored_from how what n h = still.unstored_from v w how what n h
 
   pub refused_from : (how : Ending) (what : Option Asked) → status_of how ≡ 6 → Ends how what
-      → (why : LoadFault) × (w.disk_faults ≡ v.disk_faults) × ((image : Image) → Shows v.told image → IsTold w.told → IsRefusedFor what why image)
+      → (why : LoadFault) × (w.disk_faults ≡ v.disk_faults)
+      × ((image : Image) → Shows v.told image → IsTold w.told → IsRefusedFor what why image)
   refused_from how (Some asked.Locks) n h = locks.refused_from log marks left left' v w how n h
   refused_from how what n h = still.refused_from v w how what n h
 
@@ -70,24 +76,33 @@ module _ (log : LockLog) (marks : List ℕ) (left left' : Option (List ℕ)) (v 
   later_from how (Some asked.Locks) h = locks.later_from log marks left left' v w how h
   later_from how what h = still.later_from v w how what h
 
-  pub complete_from : (how : Ending) (what : Option Asked) (faults faults' : ℕ) → Ends how what → MeetsStill what left v.told → ReadsWell what faults faults'
-      → (status_of how ≡ 3 → Rose faults faults') → IsTold w.told → (Rose v.write_faults w.write_faults → ⊥) → (Rose v.disk_faults w.disk_faults → ⊥)
+  pub complete_from : (how : Ending) (what : Option Asked) (faults faults' : ℕ) → Ends how what
+      → MeetsStill what left v.told → ReadsWell what faults faults'
+      → (status_of how ≡ 3 → Rose faults faults') → IsTold w.told → (Rose v.write_faults w.write_faults → ⊥)
+      → (Rose v.disk_faults w.disk_faults → ⊥)
       → (status_of how ≡ 0) ⊎ (status_of how ≡ 7)
   complete_from how (Some asked.Locks) faults faults' h m well read told sink disk =
       locks.complete_from log marks left left' v w how h m told (λ n. well (read n)) sink disk
-  complete_from how what faults faults' h m well read told sink disk = still.complete_from v w how what left h m told sink disk
+  complete_from how what faults faults' h m well read told sink disk =
+      still.complete_from v w how what left h m told sink disk
 
-  pub stopped_from : (how : Ending) (what : Option Asked) (wanted faults faults' : ℕ) → Ends how what → MeetsObstacle what wanted left v.told → ReadsWell what faults faults'
-      → (status_of how ≡ 3 → Rose faults faults') → IsTold w.told → (Rose v.disk_faults w.disk_faults → ⊥) → IsStopped what wanted (status_of how)
+  pub stopped_from : (how : Ending) (what : Option Asked) (wanted faults faults' : ℕ) → Ends how what
+      → MeetsObstacle what wanted left v.told → ReadsWell what faults faults'
+      → (status_of how ≡ 3 → Rose faults faults') → IsTold w.told → (Rose v.disk_faults w.disk_faults → ⊥)
+      → IsStopped what wanted (status_of how)
   stopped_from how (Some asked.Locks) wanted faults faults' h m well read told disk =
       locks.stopped_from log marks left left' v w wanted m told disk how (λ n. well (read n)) h
-  stopped_from how what wanted faults faults' h m well read told disk = still.stopped_from v w how what wanted left h m told disk
+  stopped_from how what wanted faults faults' h m well read told disk =
+      still.stopped_from v w how what wanted left h m told disk
 
   -- the same, of the number that is handed back
-  pub stopped_at : (n : ℕ) (how : Ending) (what : Option Asked) (wanted faults faults' : ℕ) → n ≡ status_of how → Ends how what → MeetsObstacle what wanted left v.told
-      → ReadsWell what faults faults' → (status_of how ≡ 3 → Rose faults faults') → IsTold w.told → (Rose v.disk_faults w.disk_faults → ⊥) → IsStopped what wanted n
+  pub stopped_at : (n : ℕ) (how : Ending) (what : Option Asked) (wanted faults faults' : ℕ) → n ≡ status_of how
+      → Ends how what → MeetsObstacle what wanted left v.told
+      → ReadsWell what faults faults' → (status_of how ≡ 3 → Rose faults faults') → IsTold w.told
+      → (Rose v.disk_faults w.disk_faults → ⊥) → IsStopped what wanted n
   stopped_at n how what wanted faults faults' is h m well read told disk =
-      subst (λ (k : ℕ). IsStopped what wanted k) (sym is) (stopped_from how what wanted faults faults' h m well read told disk)
+      subst (λ (k : ℕ). IsStopped what wanted k) (sym is) (stopped_from how what wanted faults faults' h m well read
+      told disk)
 
   -- what is said of one reading of the words is said of an equal one
   pub asked_as : (how : Ending) (a b : Option Asked) → a ≡ b → Ends how a → Ends how b

@@ -47,7 +47,8 @@ module _ (v w : Ports) where
   check_opens how n h = cc
 
   -- a word of the grammar looks at the disk
-  pub opens_from : (how : Ending) (what : Option Asked) → is_before_board (status_of how) ≡ true → StillEnds how what v w → what ≡ None
+  pub opens_from : (how : Ending) (what : Option Asked) → is_before_board (status_of how) ≡ true
+      → StillEnds how what v w → what ≡ None
   opens_from how None n h = refl
   opens_from how (Some asked.Run) n h = absurd h
   opens_from how (Some asked.Routes) n h = absurd h
@@ -74,10 +75,12 @@ module _ (v w : Ports) where
   usage_to how None is h = of_none how h
 
   -- a status from before the opening is that of words outside the grammar, so nothing was taken from the source
-  pub not_of_source : (how : Ending) (what : Option Asked) → is_before_board (status_of how) ≡ true → StillEnds how what v w → status_of how ≡ 1
+  pub not_of_source : (how : Ending) (what : Option Asked) → is_before_board (status_of how) ≡ true
+      → StillEnds how what v w → status_of how ≡ 1
   not_of_source how what n h = usage_to how what (opens_from how what n h) h
 
-  pub unwritten_from : (how : Ending) (what : Option Asked) → status_of how ≡ 4 → StillEnds how what v w → Rose v.write_faults w.write_faults
+  pub unwritten_from : (how : Ending) (what : Option Asked) → status_of how ≡ 4 → StillEnds how what v w
+      → Rose v.write_faults w.write_faults
   unwritten_from ending.Unwritten (Some asked.Records) n (rows, s) = s.prints.cause.rose refl
   unwritten_from ending.Unwritten (Some asked.Check) n (check, s) = s.prints.cause.rose refl
   unwritten_from ending.Unwritten (Some asked.Prepare) n h = absurd h
@@ -87,7 +90,8 @@ module _ (v w : Ports) where
   unwritten_from ending.Unwritten None n h = absurd h
   unwritten_from how what n h = absurd (omega (arith, n))
 
-  pub unstored_from : (how : Ending) (what : Option Asked) → status_of how ≡ 5 → StillEnds how what v w → Rose v.disk_faults w.disk_faults
+  pub unstored_from : (how : Ending) (what : Option Asked) → status_of how ≡ 5 → StillEnds how what v w
+      → Rose v.disk_faults w.disk_faults
   unstored_from ending.Unopened (Some asked.Records) n h = h.cause.rose refl
   unstored_from ending.Unopened (Some asked.Check) n h = h.cause.rose refl
   unstored_from ending.Unopened (Some asked.Prepare) n h = h.cause.rose refl
@@ -105,16 +109,21 @@ module _ (v w : Ports) where
   unstored_from how what n h = absurd (omega (arith, n))
 
   pub refused_from : (how : Ending) (what : Option Asked) → status_of how ≡ 6 → StillEnds how what v w
-      → (why : LoadFault) × (w.disk_faults ≡ v.disk_faults) × ((image : Image) → Shows v.told image → IsTold w.told → IsRefused why image)
-  refused_from (ending.NotABoard area) (Some asked.Records) n h = (fault.NotABoard area, h.early.cause.stood refl, h.refused)
-  refused_from (ending.NotABoard area) (Some asked.Check) n h = (fault.NotABoard area, h.early.cause.stood refl, h.refused)
+      → (why : LoadFault) × (w.disk_faults ≡ v.disk_faults)
+      × ((image : Image) → Shows v.told image → IsTold w.told → IsRefused why image)
+  refused_from (ending.NotABoard area) (Some asked.Records) n h =
+      (fault.NotABoard area, h.early.cause.stood refl, h.refused)
+  refused_from (ending.NotABoard area) (Some asked.Check) n h =
+      (fault.NotABoard area, h.early.cause.stood refl, h.refused)
   refused_from (ending.NotABoard area) (Some asked.Prepare) n h = absurd h
   refused_from (ending.NotABoard area) (Some asked.Run) n h = absurd h
   refused_from (ending.NotABoard area) (Some asked.Routes) n h = absurd h
   refused_from (ending.NotABoard area) (Some asked.Locks) n h = absurd h
   refused_from (ending.NotABoard area) None n h = absurd h
-  refused_from (ending.Damaged area at) (Some asked.Records) n h = (fault.Damaged area at, h.early.cause.stood refl, h.refused)
-  refused_from (ending.Damaged area at) (Some asked.Check) n h = (fault.Damaged area at, h.early.cause.stood refl, h.refused)
+  refused_from (ending.Damaged area at) (Some asked.Records) n h =
+      (fault.Damaged area at, h.early.cause.stood refl, h.refused)
+  refused_from (ending.Damaged area at) (Some asked.Check) n h =
+      (fault.Damaged area at, h.early.cause.stood refl, h.refused)
   refused_from (ending.Damaged area at) (Some asked.Prepare) n h = absurd h
   refused_from (ending.Damaged area at) (Some asked.Run) n h = absurd h
   refused_from (ending.Damaged area at) (Some asked.Routes) n h = absurd h
@@ -124,8 +133,12 @@ module _ (v w : Ports) where
 
   pub exists_from : (how : Ending) (what : Option Asked) → status_of how ≡ 9 → StillEnds how what v w
       → (what ≡ Some asked.Prepare) × (w.disk_faults ≡ v.disk_faults) × Goes v.told w.told FindsBytes
-  exists_from ending.Exists (Some asked.Prepare) n h =
-      (refl, h.cause.stood refl, goes_weaker v.told w.told (PreparesBy (Err NotEmpty)) FindsBytes (λ p q i j finds. finds) h.does)
+  exists_from ending.Exists (Some asked.Prepare) n h = (
+    refl,
+    h.cause.stood refl,
+    goes_weaker v.told w.told (PreparesBy (Err NotEmpty)) FindsBytes
+        (λ p q i j finds. finds) h.does,
+  )
   exists_from ending.Exists (Some asked.Records) n h = absurd h
   exists_from ending.Exists (Some asked.Check) n h = absurd h
   exists_from ending.Exists (Some asked.Run) n h = absurd h
@@ -138,7 +151,8 @@ module _ (v w : Ports) where
   untouched_none ending.Usage h = (h.told, h.faults)
   untouched_none how h = absurd h
 
-  pub untouched_from : (how : Ending) (what : Option Asked) → is_before_board (status_of how) ≡ true → StillEnds how what v w
+  pub untouched_from : (how : Ending) (what : Option Asked) → is_before_board (status_of how) ≡ true
+      → StillEnds how what v w
       → (w.told ≡ v.told) × (w.disk_faults ≡ v.disk_faults)
   untouched_from how None n h = untouched_none how h
   untouched_from how (Some x) n h = cc (opens_from how (Some x) n h)
@@ -192,10 +206,12 @@ module _ (v w : Ports) where
     | inr some ↦ some (shows B)
   ]
 
-  board_met : MeetsBoard v.told → IsTold w.told → (why : LoadFault) → ((image : Image) → Shows v.told image → IsTold w.told → IsRefused why image) → ⊥
+  board_met : MeetsBoard v.told → IsTold w.told → (why : LoadFault)
+      → ((image : Image) → Shows v.told image → IsTold w.told → IsRefused why image) → ⊥
   board_met m told why refused = not_refused m.rows why m.image m.board (refused m.image m.shows told)
 
-  refusal_met : (how : Ending) (what : Option Asked) (left : Option (List ℕ)) → status_of how ≡ 6 → StillEnds how what v w → MeetsStill what left v.told → IsTold w.told → ⊥
+  refusal_met : (how : Ending) (what : Option Asked) (left : Option (List ℕ)) → status_of how ≡ 6
+      → StillEnds how what v w → MeetsStill what left v.told → IsTold w.told → ⊥
   refusal_met how None left n h m told = m
   refusal_met how (Some asked.Run) left n h m told = m
   refusal_met how (Some asked.Routes) left n h m told = m
@@ -206,11 +222,15 @@ module _ (v w : Ports) where
       no_refusal (ending.NotABoard area) n h = h
       no_refusal (ending.Damaged area at) n h = h
       no_refusal x n h = absurd (omega (arith, n))
-  refusal_met how (Some asked.Records) left n h m told = let (why, stood, refused) = refused_from how (Some asked.Records) n h in board_met m told why refused
-  refusal_met how (Some asked.Check) left n h m told = let (why, stood, refused) = refused_from how (Some asked.Check) n h in board_met m told why refused
+  refusal_met how (Some asked.Records) left n h m told = let (why, stood, refused) =
+      refused_from how (Some asked.Records) n h in board_met m told why refused
+  refusal_met how (Some asked.Check) left n h m told = let (why, stood, refused) =
+      refused_from how (Some asked.Check) n h in board_met m told why refused
 
-  bytes_met : (what : Option Asked) (left : Option (List ℕ)) → StillEnds ending.Exists what v w → MeetsStill what left v.told → IsTold w.told → ⊥
-  bytes_met (Some asked.Prepare) left h m told = let (is, stood, finds) = exists_from ending.Exists (Some asked.Prepare) refl h in none_found v.told w.told finds m told
+  bytes_met : (what : Option Asked) (left : Option (List ℕ)) → StillEnds ending.Exists what v w
+      → MeetsStill what left v.told → IsTold w.told → ⊥
+  bytes_met (Some asked.Prepare) left h m told = let (is, stood, finds) =
+      exists_from ending.Exists (Some asked.Prepare) refl h in none_found v.told w.told finds m told
   bytes_met (Some asked.Records) left h m told = h
   bytes_met (Some asked.Check) left h m told = h
   bytes_met (Some asked.Run) left h m told = h
@@ -218,22 +238,29 @@ module _ (v w : Ports) where
   bytes_met (Some asked.Locks) left h m told = h
   bytes_met None left h m told = h
 
-  grammar_met : (how : Ending) (what : Option Asked) (left : Option (List ℕ)) → is_before_board (status_of how) ≡ true → StillEnds how what v w → MeetsStill what left v.told → ⊥
+  grammar_met : (how : Ending) (what : Option Asked) (left : Option (List ℕ)) → is_before_board (status_of how) ≡ true
+      → StillEnds how what v w → MeetsStill what left v.told → ⊥
   grammar_met how None left n h m = m
   grammar_met how (Some x) left n h m = cc (opens_from how (Some x) n h)
 
-  pub complete_from : (how : Ending) (what : Option Asked) (left : Option (List ℕ)) → StillEnds how what v w → MeetsStill what left v.told → IsTold w.told
-      → (Rose v.write_faults w.write_faults → ⊥) → (Rose v.disk_faults w.disk_faults → ⊥) → (status_of how ≡ 0) ⊎ (status_of how ≡ 7)
+  pub complete_from : (how : Ending) (what : Option Asked) (left : Option (List ℕ)) → StillEnds how what v w
+      → MeetsStill what left v.told → IsTold w.told
+      → (Rose v.write_faults w.write_faults → ⊥) → (Rose v.disk_faults w.disk_faults → ⊥)
+      → (status_of how ≡ 0) ⊎ (status_of how ≡ 7)
   complete_from ending.Done what left h m told sink disk = inl refl
   complete_from ending.OutOfMemory what left h m told sink disk = inr refl
-  complete_from ending.Unwritten what left h m told sink disk = absurd (sink (unwritten_from ending.Unwritten what refl h))
+  complete_from ending.Unwritten what left h m told sink disk =
+      absurd (sink (unwritten_from ending.Unwritten what refl h))
   complete_from ending.Unopened what left h m told sink disk = absurd (disk (unstored_from ending.Unopened what refl h))
   complete_from ending.Doubt what left h m told sink disk = absurd (disk (unstored_from ending.Doubt what refl h))
-  complete_from (ending.NotABoard area) what left h m told sink disk = absurd (refusal_met (ending.NotABoard area) what left refl h m told)
-  complete_from (ending.Damaged area at) what left h m told sink disk = absurd (refusal_met (ending.Damaged area at) what left refl h m told)
+  complete_from (ending.NotABoard area) what left h m told sink disk =
+      absurd (refusal_met (ending.NotABoard area) what left refl h m told)
+  complete_from (ending.Damaged area at) what left h m told sink disk =
+      absurd (refusal_met (ending.Damaged area at) what left refl h m told)
   complete_from ending.Exists what left h m told sink disk = absurd (bytes_met what left h m told)
   complete_from ending.Usage what left h m told sink disk = absurd (grammar_met ending.Usage what left refl h m)
-  complete_from (ending.Script why) what left h m told sink disk = absurd (grammar_met (ending.Script why) what left refl h m)
+  complete_from (ending.Script why) what left h m told sink disk =
+      absurd (grammar_met (ending.Script why) what left refl h m)
   complete_from ending.Read what left h m told sink disk = absurd (grammar_met ending.Read what left refl h m)
   complete_from ending.TooLong what left h m told sink disk = absurd (grammar_met ending.TooLong what left refl h m)
 
@@ -248,7 +275,8 @@ module _ (v w : Ports) where
     | inr some ↦ some (sym (m.shows B) ∙ goes.b_was)
   ]
 
-  prepare_stopped : (how : Ending) → PrepareEnds how v w → MeetsBytes v.told → IsTold w.told → (Rose v.disk_faults w.disk_faults → ⊥) → status_of how ≡ 9
+  prepare_stopped : (how : Ending) → PrepareEnds how v w → MeetsBytes v.told → IsTold w.told
+      → (Rose v.disk_faults w.disk_faults → ⊥) → status_of how ≡ 9
   prepare_stopped ending.Exists h m told disk = refl
   prepare_stopped ending.Done h m told disk = absurd (none_prepared v.told w.told h.does m told)
   prepare_stopped ending.Unopened h m told disk = absurd (disk (h.cause.rose refl))
@@ -257,33 +285,42 @@ module _ (v w : Ports) where
   no_board_met : (m : MeetsNoBoard v.told) → (rows : Rows) → IsBoard rows m.image → ⊥
   no_board_met m rows board = not_refused rows m.why m.image board m.refused
 
-  unopened_stopped : (how : Ending) → EndsUnopened how v w → (Rose v.disk_faults w.disk_faults → ⊥) → (status_of how ≡ 6) ⊎ (status_of how ≡ 7)
+  unopened_stopped : (how : Ending) → EndsUnopened how v w → (Rose v.disk_faults w.disk_faults → ⊥)
+      → (status_of how ≡ 6) ⊎ (status_of how ≡ 7)
   unopened_stopped (ending.NotABoard area) h disk = inl refl
   unopened_stopped (ending.Damaged area at) h disk = inl refl
   unopened_stopped ending.OutOfMemory h disk = inr refl
   unopened_stopped ending.Unopened h disk = absurd (disk (h.cause.rose refl))
   unopened_stopped how h disk = absurd h
 
-  records_stopped : (how : Ending) → RecordsEnds how v w → MeetsNoBoard v.told → IsTold w.told → (Rose v.disk_faults w.disk_faults → ⊥) → (status_of how ≡ 6) ⊎ (status_of how ≡ 7)
+  records_stopped : (how : Ending) → RecordsEnds how v w → MeetsNoBoard v.told → IsTold w.told
+      → (Rose v.disk_faults w.disk_faults → ⊥) → (status_of how ≡ 6) ⊎ (status_of how ≡ 7)
   records_stopped ending.Done (rows, s) m told disk = absurd (no_board_met m rows (s.found m.image m.shows told))
   records_stopped ending.Unwritten (rows, s) m told disk = absurd (no_board_met m rows (s.found m.image m.shows told))
   records_stopped how h m told disk = unopened_stopped how h disk
 
-  check_stopped : (how : Ending) → CheckEnds how v w → MeetsNoBoard v.told → IsTold w.told → (Rose v.disk_faults w.disk_faults → ⊥) → (status_of how ≡ 6) ⊎ (status_of how ≡ 7)
-  check_stopped ending.Done (check, s) m told disk = let c = s.found m.image m.shows told in absurd (no_board_met m c.rows c.board)
-  check_stopped ending.Unwritten (check, s) m told disk = let c = s.found m.image m.shows told in absurd (no_board_met m c.rows c.board)
+  check_stopped : (how : Ending) → CheckEnds how v w → MeetsNoBoard v.told → IsTold w.told
+      → (Rose v.disk_faults w.disk_faults → ⊥) → (status_of how ≡ 6) ⊎ (status_of how ≡ 7)
+  check_stopped ending.Done (check, s) m told disk = let c = s.found m.image m.shows told in
+      absurd (no_board_met m c.rows c.board)
+  check_stopped ending.Unwritten (check, s) m told disk = let c = s.found m.image m.shows told in
+      absurd (no_board_met m c.rows c.board)
   check_stopped how h m told disk = unopened_stopped how h disk
 
   -- a status that a word is to have, told by the number that what stops it names
-  with_number : (how : Ending) (n wanted : ℕ) → wanted ≡ n → (status_of how ≡ n) ⊎ (status_of how ≡ 7) → (status_of how ≡ wanted) ⊎ (status_of how ≡ 7)
+  with_number : (how : Ending) (n wanted : ℕ) → wanted ≡ n → (status_of how ≡ n) ⊎ (status_of how ≡ 7)
+      → (status_of how ≡ wanted) ⊎ (status_of how ≡ 7)
   with_number how n wanted is ends = subst (λ (k : ℕ). (status_of how ≡ k) ⊎ (status_of how ≡ 7)) (sym is) ends
 
-  pub stopped_from : (how : Ending) (what : Option Asked) (wanted : ℕ) (left : Option (List ℕ)) → StillEnds how what v w → MeetsObstacle what wanted left v.told → IsTold w.told
+  pub stopped_from : (how : Ending) (what : Option Asked) (wanted : ℕ) (left : Option (List ℕ)) → StillEnds how what v w
+      → MeetsObstacle what wanted left v.told → IsTold w.told
       → (Rose v.disk_faults w.disk_faults → ⊥) → IsStopped what wanted (status_of how)
   stopped_from how (Some asked.Run) wanted left h m told disk = absurd m
   stopped_from how (Some asked.Routes) wanted left h m told disk = absurd m
   stopped_from how (Some asked.Locks) wanted left h m told disk = absurd h
   stopped_from how (Some asked.Prepare) wanted left h (is, m) told disk = prepare_stopped how h m told disk ∙ sym is
-  stopped_from how (Some asked.Records) wanted left h (is, m) told disk = with_number how 6 wanted is (records_stopped how h m told disk)
-  stopped_from how (Some asked.Check) wanted left h (is, m) told disk = with_number how 6 wanted is (check_stopped how h m told disk)
+  stopped_from how (Some asked.Records) wanted left h (is, m) told disk =
+      with_number how 6 wanted is (records_stopped how h m told disk)
+  stopped_from how (Some asked.Check) wanted left h (is, m) told disk =
+      with_number how 6 wanted is (check_stopped how h m told disk)
   stopped_from how None wanted left h m told disk = absurd m

@@ -40,8 +40,11 @@ other_way xs ys differs = elim (cases_Bool (bytes_eq ys xs)) [
 ]
 
 -- a word is one of the six, or equals none of them
-by_word : (P : List ℕ → Type 0) → P (codes "run") → P (codes "routes") → P (codes "locks") → P (codes "prepare") → P (codes "records") → P (codes "check")
-    → ((w : List ℕ) → bytes_eq w (codes "run") ≡ false → bytes_eq w (codes "routes") ≡ false → bytes_eq w (codes "locks") ≡ false → bytes_eq w (codes "prepare") ≡ false → bytes_eq w (codes "records") ≡ false
+by_word : (P : List ℕ → Type 0) → P (codes "run") → P (codes "routes") → P (codes "locks") → P (codes "prepare")
+    → P (codes "records") → P (codes "check")
+    → ((w : List ℕ) → bytes_eq w (codes "run") ≡ false → bytes_eq w (codes "routes") ≡ false
+    → bytes_eq w (codes "locks") ≡ false → bytes_eq w (codes "prepare") ≡ false
+    → bytes_eq w (codes "records") ≡ false
     → bytes_eq w (codes "check") ≡ false → P w) → (w : List ℕ) → P w
 by_word P run routes locks prepare records check other w = elim (cases_Bool (bytes_eq w (codes "run"))) [
   | inl same ↦ subst P (sym ((bytes_eq-Decides w (codes "run")).0 same)) run
@@ -63,35 +66,50 @@ by_word P run routes locks prepare records check other w = elim (cases_Bool (byt
   ]
 ]
 
-asks_nothing : (w : List ℕ) → bytes_eq w (codes "run") ≡ false → bytes_eq w (codes "routes") ≡ false → bytes_eq w (codes "locks") ≡ false → bytes_eq w (codes "prepare") ≡ false → bytes_eq w (codes "records") ≡ false
+asks_nothing : (w : List ℕ) → bytes_eq w (codes "run") ≡ false → bytes_eq w (codes "routes") ≡ false
+    → bytes_eq w (codes "locks") ≡ false → bytes_eq w (codes "prepare") ≡ false → bytes_eq w (codes "records") ≡ false
     → bytes_eq w (codes "check") ≡ false → asked_by_word w ≡ None
 asks_nothing w a b c d e f = rw (a, b, c, d, e, f) refl
 
 abbrev level_names : Names
 level_names = names_of (built level)
 
-names_nothing : (w : List ℕ) → bytes_eq w (codes "run") ≡ false → bytes_eq w (codes "routes") ≡ false → bytes_eq w (codes "locks") ≡ false → bytes_eq w (codes "prepare") ≡ false → bytes_eq w (codes "records") ≡ false
+names_nothing : (w : List ℕ) → bytes_eq w (codes "run") ≡ false → bytes_eq w (codes "routes") ≡ false
+    → bytes_eq w (codes "locks") ≡ false → bytes_eq w (codes "prepare") ≡ false → bytes_eq w (codes "records") ≡ false
     → bytes_eq w (codes "check") ≡ false → find (answers_to w) level_names ≡ None
 names_nothing w a b c d e f =
-    rw (other_way w (codes "run") a, other_way w (codes "routes") b, other_way w (codes "locks") c, other_way w (codes "prepare") d, other_way w (codes "records") e, other_way w (codes "check") f) refl
+    rw (
+      other_way w (codes "run") a,
+      other_way w (codes "routes") b,
+      other_way w (codes "locks") c,
+      other_way w (codes "prepare") d,
+      other_way w (codes "records") e,
+      other_way w (codes "check") f,
+    ) refl
 
 -- a word that names no subcommand and is no flag goes to a positional, of which there is none
-stray : (w : List ℕ) → begins_with_hyphen w ≡ false → subcommand_or_other [] None idle 1 w nothing_held ≡ (nothing_held, value)
+stray : (w : List ℕ) → begins_with_hyphen w ≡ false → subcommand_or_other [] None idle 1 w nothing_held
+    ≡ (nothing_held, value)
 stray [] plain = refl
 stray (x ∷ xs) plain = rw plain (rw plain refl)
 
-stops_nowhere : (w : List ℕ) → begins_with_hyphen w ≡ false → find (answers_to w) level_names ≡ None → subcommand_of level (w ∷ []) ≡ None
+stops_nowhere : (w : List ℕ) → begins_with_hyphen w ≡ false → find (answers_to w) level_names ≡ None
+    → subcommand_of level (w ∷ []) ≡ None
 unfolding clap_on_literals
 stops_nowhere w plain none =
     let met : subcommand_or_other [] (subcommand_met level_names idle w) idle 1 w nothing_held ≡ (nothing_held, value) =
-    ap (λ (found : Option (Text × List Text)). subcommand_or_other [] (option_map (λ s. s.0) found) idle 1 w nothing_held) none ∙ stray w plain in
-    ap (λ (met : Held × Step). entered (built level) ((after_step [] w (walk_from nothing_held) met.0 met.1).stopped)) met
+    ap (λ (found : Option (Text × List Text)). subcommand_or_other []
+    (option_map (λ s. s.0) found) idle 1 w nothing_held) none ∙ stray w plain in
+    ap (λ (met : Held × Step). entered (built level) ((after_step [] w (walk_from nothing_held) met.0 met.1).stopped))
+    met
 
 -- the subcommand that clap enters is the one that the word asks for
 pub enters : (w : List ℕ) → begins_with_hyphen w ≡ false → entered_word w ≡ asked_by_word w
 unfolding clap_on_literals
-enters = by_word (λ w. begins_with_hyphen w ≡ false → entered_word w ≡ asked_by_word w) (λ p. refl) (λ p. refl) (λ p. refl) (λ p. refl) (λ p. refl) (λ p. refl)
-    (λ w a b c d e f plain. ap (λ (at : Option _). option_and_then asked_by_word (option_map (λ p. p.0) at)) (stops_nowhere w plain (names_nothing w a b c d e f)) ∙ sym (asks_nothing w a b c d e f))
+enters = by_word (λ w. begins_with_hyphen w ≡ false → entered_word w ≡ asked_by_word w) (λ p. refl) (λ p. refl)
+    (λ p. refl) (λ p. refl) (λ p. refl) (λ p. refl)
+    (λ w a b c d e f plain. ap (λ (at : Option _). option_and_then asked_by_word (option_map (λ p. p.0) at))
+    (stops_nowhere w plain (names_nothing w a b c d e f)) ∙ sym (asks_nothing w a b c d e f))
 
 -- an error that isn't want of memory has one of the kinds
 pub among : (kinds : Kinds) (e : Error) → (kind_of e ≡ OutOfMemory → ⊥) → HasKind kinds e → IsAmong (kind_of e) kinds
@@ -101,10 +119,12 @@ among kinds e not_memory has = ⊎_elim (λ is. absurd (not_memory is)) (λ is. 
 pub refuses : (w : List ℕ) (k : ErrorKind) → IsAmong k (fault_of level (w ∷ [])) → None ≡ asked_by_word w
 unfolding clap_on_literals
 refuses = by_word (λ w. (k : ErrorKind) → IsAmong k (fault_of level (w ∷ [])) → None ≡ asked_by_word w)
-    (λ k among. absurd among) (λ k among. absurd among) (λ k among. absurd among) (λ k among. absurd among) (λ k among. absurd among)
+    (λ k among. absurd among) (λ k among. absurd among) (λ k among. absurd among) (λ k among. absurd among)
+    (λ k among. absurd among)
     (λ k among. absurd among) (λ w a b c d e f k among. sym (asks_nothing w a b c d e f))
 
-name_first : {Z : Type 0} (b : Option (Box SubCommand Z)) → option_map (λ b. (out-SubCommand (box_value b)).name.now) b ≡ option_map (λ p. p.0) (subcommand_rows b)
+name_first : {Z : Type 0} (b : Option (Box SubCommand Z))
+    → option_map (λ b. (out-SubCommand (box_value b)).name.now) b ≡ option_map (λ p. p.0) (subcommand_rows b)
 name_first None = refl
 name_first (Some b) = refl
 

@@ -27,7 +27,8 @@ ok_has {X} {E} P {result} {x} is h = subst (λ (r : Result X E). IfOk r P) is h
 
 -- a count that stands has no cause
 stands : (n m : ℕ) → m ≡ n → HasCause false n m
-stands n m same = subst (λ (k : ℕ). HasCause false n k) (sym same) (record { later = omega arith; stood = λ e. refl; rose = λ never. absurd (cc (never)) })
+stands n m same = subst (λ (k : ℕ). HasCause false n k) (sym same)
+    (record { later = omega arith; stood = λ e. refl; rose = λ never. absurd (cc (never)) })
 
 -- where no board was opened nothing was shown
 pub unopened_records : (v w : Ports) (how : Ending) → EndsUnopened how v w → RecordsEnds how v w
@@ -45,7 +46,8 @@ module _ (rows : Rows) (v m : Ports) (opens : Opens rows v m) (held : Option (Li
   abbrev pub after : Ports
   after = ports_of held faults m.told m.disk_faults m.clock
 
-  from_start : (whole : Bool) (text : List ℕ) → PrintsTo whole text m.held held m.write_faults faults → PrintsTo whole text v.held held v.write_faults faults
+  from_start : (whole : Bool) (text : List ℕ) → PrintsTo whole text m.held held m.write_faults faults
+      → PrintsTo whole text v.held held v.write_faults faults
   from_start whole text prints =
       subst (λ (h : Option (List ℕ)). PrintsTo whole text h held v.write_faults faults) opens.same_sink.0
       (subst (λ (n : ℕ). PrintsTo whole text m.held held n faults) opens.same_sink.1 prints)
@@ -59,7 +61,8 @@ module _ (rows : Rows) (v m : Ports) (opens : Opens rows v m) (held : Option (Li
     prints = from_start whole text prints;
   }
 
-  starved : (whole : Bool) → PrintsTo whole [] m.held held m.write_faults faults → EndsEarly false ending.OutOfMemory v after
+  starved : (whole : Bool) → PrintsTo whole [] m.held held m.write_faults faults
+      → EndsEarly false ending.OutOfMemory v after
   starved whole prints = record {
     rests = goes_weaker v.told m.told Secures KeepsContent (λ p q i j s. s.keeps) opens.secures;
     cause = stands v.disk_faults m.disk_faults opens.no_fault;
@@ -67,27 +70,38 @@ module _ (rows : Rows) (v m : Ports) (opens : Opens rows v m) (held : Option (Li
     prints = from_start whole [] prints;
   }
 
-  pub records_end : {Z : Type 0} (text : Result (Vec ℕ Z) AllocError) (whole : Bool) (how : Ending) → how ≡ ending_after text whole
+  pub records_end : {Z : Type 0} (text : Result (Vec ℕ Z) AllocError) (whole : Bool) (how : Ending)
+      → how ≡ ending_after text whole
       → ((t : Vec ℕ Z) → text ≡ Ok t → t.items ≡ records_text rows)
       → PrintsTo whole (text_in text) m.held held m.write_faults faults → RecordsEnds how v after
   records_end (Ok t) true how is text_is prints =
-      subst (λ (x : Ending). RecordsEnds x v after) (sym is)
-      (rows, shown (IsBoard rows) opens.found (records_text rows) true (subst (λ (l : List ℕ). PrintsTo true l m.held held m.write_faults faults) (text_is t refl) prints))
+      subst (λ (x : Ending). RecordsEnds x v after) (sym is) (
+        rows,
+        shown (IsBoard rows) opens.found (records_text rows) true
+            (subst (λ (l : List ℕ). PrintsTo true l m.held held m.write_faults faults) (text_is t refl) prints),
+      )
   records_end (Ok t) false how is text_is prints =
-      subst (λ (x : Ending). RecordsEnds x v after) (sym is)
-      (rows, shown (IsBoard rows) opens.found (records_text rows) false (subst (λ (l : List ℕ). PrintsTo false l m.held held m.write_faults faults) (text_is t refl) prints))
-  records_end (Err e) whole how is text_is prints = subst (λ (x : Ending). RecordsEnds x v after) (sym is) (starved whole prints)
+      subst (λ (x : Ending). RecordsEnds x v after) (sym is) (
+        rows,
+        shown (IsBoard rows) opens.found (records_text rows) false
+            (subst (λ (l : List ℕ). PrintsTo false l m.held held m.write_faults faults) (text_is t refl) prints),
+      )
+  records_end (Err e) whole how is text_is prints = subst (λ (x : Ending). RecordsEnds x v after) (sym is)
+      (starved whole prints)
 
   -- what is kept where the check tells is what was opened
-  checked : (told : Option Past) (check : Check) → ((image : Image) → Shows told image → IsBoard rows image) → ForSome told (IsKeptIn (check_place check)) → check.next ≡ rows.next
+  checked : (told : Option Past) (check : Check) → ((image : Image) → Shows told image → IsBoard rows image)
+      → ForSome told (IsKeptIn (check_place check)) → check.next ≡ rows.next
       → (image : Image) → Shows told image → IsCheckOf check image
   checked None check found kept next image shows = absurd shows
   checked (Some p) check found kept next image shows =
       let board = found image shows in
       let place = kept p refl in
       let opening : OpensAs image check.area place.version check.generation place.head place.payloads =
-      subst (λ (c : Image). OpensAs c check.area place.version check.generation place.head place.payloads) (λ i area. shows area i) place.opens in
-      let same = opens_once image board.area check.area board.version place.version board.generation check.generation board.head place.head board.payloads place.payloads None None board.end _ board.opening opening in
+      subst (λ (c : Image). OpensAs c check.area place.version check.generation place.head place.payloads)
+      (λ i area. shows area i) place.opens in
+      let same = opens_once image board.area check.area board.version place.version board.generation check.generation
+      board.head place.head board.payloads place.payloads None None board.end _ board.opening opening in
       record {
         rows = rows;
         board = board;
@@ -97,13 +111,22 @@ module _ (rows : Rows) (v m : Ports) (opens : Opens rows v m) (held : Option (Li
         next_is = next;
       }
 
-  pub check_end : {Z : Type 0} (check : Check) (text : Result (Vec ℕ Z) AllocError) (whole : Bool) (how : Ending) → how ≡ ending_after text whole
-      → ((t : Vec ℕ Z) → text ≡ Ok t → t.items ≡ check_line check) → ForSome m.told (IsKeptIn (check_place check)) → check.next ≡ rows.next
+  pub check_end : {Z : Type 0} (check : Check) (text : Result (Vec ℕ Z) AllocError) (whole : Bool) (how : Ending)
+      → how ≡ ending_after text whole
+      → ((t : Vec ℕ Z) → text ≡ Ok t → t.items ≡ check_line check) → ForSome m.told (IsKeptIn (check_place check))
+      → check.next ≡ rows.next
       → PrintsTo whole (text_in text) m.held held m.write_faults faults → CheckEnds how v after
   check_end check (Ok t) true how is text_is kept next prints =
-      subst (λ (x : Ending). CheckEnds x v after) (sym is)
-      (check, shown (IsCheckOf check) (checked m.told check opens.found kept next) (check_line check) true (subst (λ (l : List ℕ). PrintsTo true l m.held held m.write_faults faults) (text_is t refl) prints))
+      subst (λ (x : Ending). CheckEnds x v after) (sym is) (
+        check,
+        shown (IsCheckOf check) (checked m.told check opens.found kept next) (check_line check) true
+            (subst (λ (l : List ℕ). PrintsTo true l m.held held m.write_faults faults) (text_is t refl) prints),
+      )
   check_end check (Ok t) false how is text_is kept next prints =
-      subst (λ (x : Ending). CheckEnds x v after) (sym is)
-      (check, shown (IsCheckOf check) (checked m.told check opens.found kept next) (check_line check) false (subst (λ (l : List ℕ). PrintsTo false l m.held held m.write_faults faults) (text_is t refl) prints))
-  check_end check (Err e) whole how is text_is kept next prints = subst (λ (x : Ending). CheckEnds x v after) (sym is) (starved whole prints)
+      subst (λ (x : Ending). CheckEnds x v after) (sym is) (
+        check,
+        shown (IsCheckOf check) (checked m.told check opens.found kept next) (check_line check) false
+            (subst (λ (l : List ℕ). PrintsTo false l m.held held m.write_faults faults) (text_is t refl) prints),
+      )
+  check_end check (Err e) whole how is text_is kept next prints =
+      subst (λ (x : Ending). CheckEnds x v after) (sym is) (starved whole prints)

@@ -13,5 +13,8 @@ two_files_send R N r = search (sendable, crosses) depth 40
 pub real_calls_send : (R F N : RattleType) → IsSend R → IsSend (real_calls.the_row R F N)
 real_calls_send R F N r =
     let fields : IsSend (Struct (shape (real_calls.the_type R F N))) =
-    struct_send (shape (real_calls.the_type R F N)) (two_files_send R N r, (search (sendable, crosses) depth 20, (search sendable depth 10, tt))) in
+    struct_send (shape (real_calls.the_type R F N)) (
+      two_files_send R N r,
+      (search (sendable, crosses) depth 20, (search sendable depth 10, tt)),
+    ) in
     recorded_send _ _ _ (real_calls.the_type R F N).to_one fields

@@ -36,7 +36,9 @@ once own l =
     + cond (own && same_lacks l (record { memory = false; disk = true; containers = true })) 1 0
     + cond (own && same_lacks l (record { memory = true; disk = true; containers = true })) 1 0
 
-once_one : (own memory disk containers : Bool) → (own && same_lacks (record { memory = memory; disk = disk; containers = containers }) nothing) ≡ false → once own (record { memory = memory; disk = disk; containers = containers }) ≡ 1
+once_one : (own memory disk containers : Bool) → (own && same_lacks
+    (record { memory = memory; disk = disk; containers = containers }) nothing) ≡ false
+    → once own (record { memory = memory; disk = disk; containers = containers }) ≡ 1
 once_one true true true true e = refl
 once_one true true true false e = refl
 once_one true true false true e = refl
@@ -58,7 +60,9 @@ module _ (job : Job) (stands : List Stand) (none : NoneFits job stands) where
   lacks_some : (s : Stand) → Contains stands s → (has_tag job.tag s && same_lacks (lacks job s) nothing) ≡ false
   lacks_some s i = sym (fits_lacking_nothing job s) ∙ none s i
 
-  counted_so : (memory disk containers : Bool) → counted (reasons_of job stands) (record { memory = memory; disk = disk; containers = containers }) ≡ count_by (lacks_just (record { memory = memory; disk = disk; containers = containers }) job) stands
+  counted_so : (memory disk containers : Bool) → counted (reasons_of job stands)
+      (record { memory = memory; disk = disk; containers = containers })
+      ≡ count_by (lacks_just (record { memory = memory; disk = disk; containers = containers }) job) stands
   counted_so true true true = refl
   counted_so true true false = refl
   counted_so true false true = refl
@@ -73,7 +77,8 @@ module _ (job : Job) (stands : List Stand) (none : NoneFits job stands) where
   in_all : counted_in_all (reasons_of job stands) ≡ length stands
   in_all =
       let other : Stand → ℕ = λ s. cond (not (has_tag job.tag s)) 1 0 in
-      let just : Bool → Bool → Bool → Stand → ℕ = λ m d c s. cond (lacks_just (record { memory = m; disk = d; containers = c }) job s) 1 0 in
+      let just : Bool → Bool → Bool → Stand → ℕ = λ m d c s.
+      cond (lacks_just (record { memory = m; disk = d; containers = c }) job s) 1 0 in
       let a : Stand → ℕ = λ s. other s + just true false false s in
       let b : Stand → ℕ = λ s. a s + just false true false s in
       let c : Stand → ℕ = λ s. b s + just false false true s in
@@ -81,15 +86,23 @@ module _ (job : Job) (stands : List Stand) (none : NoneFits job stands) where
       let e : Stand → ℕ = λ s. d s + just true false true s in
       let f : Stand → ℕ = λ s. e s + just false true true s in
       let g : Stand → ℕ = λ s. f s + just true true true s in
-      let pa : sum_by a stands ≡ sum_by other stands + sum_by (just true false false) stands = sum_by-plus other (just true false false) stands in
-      let pb : sum_by b stands ≡ sum_by a stands + sum_by (just false true false) stands = sum_by-plus a (just false true false) stands in
-      let pc : sum_by c stands ≡ sum_by b stands + sum_by (just false false true) stands = sum_by-plus b (just false false true) stands in
-      let pd : sum_by d stands ≡ sum_by c stands + sum_by (just true true false) stands = sum_by-plus c (just true true false) stands in
-      let pe : sum_by e stands ≡ sum_by d stands + sum_by (just true false true) stands = sum_by-plus d (just true false true) stands in
-      let pf : sum_by f stands ≡ sum_by e stands + sum_by (just false true true) stands = sum_by-plus e (just false true true) stands in
-      let pg : sum_by g stands ≡ sum_by f stands + sum_by (just true true true) stands = sum_by-plus f (just true true true) stands in
+      let pa : sum_by a stands ≡ sum_by other stands + sum_by (just true false false) stands =
+      sum_by-plus other (just true false false) stands in
+      let pb : sum_by b stands ≡ sum_by a stands + sum_by (just false true false) stands =
+      sum_by-plus a (just false true false) stands in
+      let pc : sum_by c stands ≡ sum_by b stands + sum_by (just false false true) stands =
+      sum_by-plus b (just false false true) stands in
+      let pd : sum_by d stands ≡ sum_by c stands + sum_by (just true true false) stands =
+      sum_by-plus c (just true true false) stands in
+      let pe : sum_by e stands ≡ sum_by d stands + sum_by (just true false true) stands =
+      sum_by-plus d (just true false true) stands in
+      let pf : sum_by f stands ≡ sum_by e stands + sum_by (just false true true) stands =
+      sum_by-plus e (just false true true) stands in
+      let pg : sum_by g stands ≡ sum_by f stands + sum_by (just true true true) stands =
+      sum_by-plus f (just true true true) stands in
       let whole : sum_by g stands ≡ length stands =
-      sum_by-ones g stands (λ s i. once_one (has_tag job.tag s) (lacks job s).memory (lacks job s).disk (lacks job s).containers (lacks_some s i)) in
+      sum_by-ones g stands (λ s i. once_one (has_tag job.tag s) (lacks job s).memory (lacks job s).disk
+      (lacks job s).containers (lacks_some s i)) in
       omega (arith, pa, pb, pc, pd, pe, pf, pg, whole)
 
   pub counts_each_once : CountsEachOnce job stands (reasons_of job stands)
@@ -97,7 +110,8 @@ module _ (job : Job) (stands : List Stand) (none : NoneFits job stands) where
     other_tag = refl;
     lacking = λ a. counted_so a.memory a.disk a.containers;
     some = λ s i own all.
-        let lacks_none : (has_tag job.tag s && same_lacks (lacks job s) nothing) ≡ true = (λ j. own j && same_lacks (all j) nothing) in
+        let lacks_none : (has_tag job.tag s && same_lacks (lacks job s) nothing) ≡ true =
+        (λ j. own j && same_lacks (all j) nothing) in
         let lacks_one : (has_tag job.tag s && same_lacks (lacks job s) nothing) ≡ false = lacks_some s i in
         cc;
     all = in_all;

@@ -21,9 +21,11 @@ some_left free =
       | (inr some) ↦ lt-ltb 0 free (omega arith) ∙ ap (λ b. beq b false) (sym (ne_eqb free 0 some))
     ]
 
-pub fits_lacking_nothing : (job : Job) (s : Stand) → can_take job s ≡ (has_tag job.tag s && same_lacks (lacks job s) nothing)
+pub fits_lacking_nothing : (job : Job) (s : Stand) → can_take job s
+    ≡ (has_tag job.tag s && same_lacks (lacks job s) nothing)
 fits_lacking_nothing job s = λ i.
-    has_tag job.tag s && (enough job.memory s.free.memory i && (enough job.disk s.free.disk i && some_left s.free.containers i))
+    has_tag job.tag s && (enough job.memory s.free.memory i &&
+    (enough job.disk s.free.disk i && some_left s.free.containers i))
 
 -- what a cell that fits has
 pub record HasRoom (job : Job) (s : Stand) : Type 0 where

@@ -41,7 +41,8 @@ module _ {X : Type 0} where
   sum_by-plus f g [] = refl
   sum_by-plus f g (x ∷ xs) =
       let rest : sum_by (λ x. f x + g x) xs ≡ sum_by f xs + sum_by g xs = sum_by-plus f g xs in
-      let both : sum_by (λ x. f x + g x) (x ∷ xs) ≡ f x + g x + sum_by (λ x. f x + g x) xs = sum_by-cons (λ x. f x + g x) x xs in
+      let both : sum_by (λ x. f x + g x) (x ∷ xs) ≡ f x + g x + sum_by (λ x. f x + g x) xs =
+      sum_by-cons (λ x. f x + g x) x xs in
       let one : sum_by f (x ∷ xs) ≡ f x + sum_by f xs = sum_by-cons f x xs in
       let other : sum_by g (x ∷ xs) ≡ g x + sum_by g xs = sum_by-cons g x xs in
       omega arith
@@ -63,11 +64,13 @@ module _ {X : Type 0} where
       omega arith
 
   -- what stands where a test passes is added up
-  pub sum_by-filter : (f : X → ℕ) (p : X → Bool) (xs : List X) → sum_by f (filter p xs) ≡ sum_by (λ x. cond (p x) (f x) 0) xs
+  pub sum_by-filter : (f : X → ℕ) (p : X → Bool) (xs : List X)
+      → sum_by f (filter p xs) ≡ sum_by (λ x. cond (p x) (f x) 0) xs
   sum_by-filter f p [] = refl
   sum_by-filter f p (x ∷ xs) =
       let rest = sum_by-filter f p xs in
-      elim (p x) as (λ b. sum_by f (cond b (x ∷ filter p xs) (filter p xs)) ≡ cond b (f x) 0 + sum_by (λ x. cond (p x) (f x) 0) xs) [
+      elim (p x) as (λ b. sum_by f (cond b (x ∷ filter p xs) (filter p xs))
+      ≡ cond b (f x) 0 + sum_by (λ x. cond (p x) (f x) 0) xs) [
         | true ↦ sum_by-cons f x (filter p xs) ∙ ap (λ n. f x + n) rest
         | false ↦ rest ∙ nothing_more (sum_by (λ x. cond (p x) (f x) 0) xs)
       ] ∙ sym (sum_by-cons (λ x. cond (p x) (f x) 0) x xs)
@@ -107,7 +110,8 @@ module _ {A B : Type 0} (w : A → ℕ) (test : A → B → Bool) where
   zero_first : (n : ℕ) → n ≡ 0 + n
   zero_first n = omega arith
 
-  one_more : (a : A) (xs : List A) (b : B) → sum_by w (filter (λ x. test x b) (a ∷ xs)) ≡ cond (test a b) (w a) 0 + sum_by w (filter (λ x. test x b) xs)
+  one_more : (a : A) (xs : List A) (b : B) → sum_by w (filter (λ x. test x b) (a ∷ xs))
+      ≡ cond (test a b) (w a) 0 + sum_by w (filter (λ x. test x b) xs)
   one_more a xs b =
       let left = filter (λ x. test x b) xs in
       elim (test a b) as (λ t. sum_by w (cond t (a ∷ left) left) ≡ cond t (w a) 0 + sum_by w left) [
@@ -115,7 +119,8 @@ module _ {A B : Type 0} (w : A → ℕ) (test : A → B → Bool) where
         | false ↦ zero_first (sum_by w left)
       ]
 
-  pub spread : (xs : List A) (bs : List B) → ((a : A) → Contains xs a → (b : B) × Contains bs b × (test a b ≡ true)) → sum_by w xs ≤ sum_by (λ b. sum_by w (filter (λ a. test a b) xs)) bs
+  pub spread : (xs : List A) (bs : List B) → ((a : A) → Contains xs a → (b : B) × Contains bs b × (test a b ≡ true))
+      → sum_by w xs ≤ sum_by (λ b. sum_by w (filter (λ a. test a b) xs)) bs
   spread [] bs h = omega arith
   spread (a ∷ xs) bs h =
       let at = h a (first a xs) in
@@ -127,7 +132,8 @@ module _ {A B : Type 0} (w : A → ℕ) (test : A → B → Bool) where
       subst (λ (y : B). own y ≤ sum_by own bs) at.1.2 (get_or-le-sum_by own bs at.1.0 b at.1.1) in
       let full : own b ≡ w a = ap (λ t. cond t (w a) 0) at.2 in
       let split : sum_by (λ b. sum_by w (filter (λ x. test x b) (a ∷ xs))) bs ≡ sum_by own bs + sum_by others bs =
-      sum_by-same (λ b. sum_by w (filter (λ x. test x b) (a ∷ xs))) (λ b. own b + others b) bs (λ b i. one_more a xs b) ∙ sum_by-plus own others bs in
+      sum_by-same (λ b. sum_by w (filter (λ x. test x b) (a ∷ xs))) (λ b. own b + others b) bs
+      (λ b i. one_more a xs b) ∙ sum_by-plus own others bs in
       let whole : sum_by w (a ∷ xs) ≡ w a + sum_by w xs = sum_by-cons w a xs in
       omega (arith, rest, here, full, split, whole)
 
@@ -136,11 +142,13 @@ abbrev pub Apart : {X : Type 0} → List X → Type 0
 Apart [] = Unit {0}
 Apart (x ∷ xs) = All (λ y. x ≢ y) xs × Apart xs
 
-pub other_key : {X Y : Type 0} (f : X → Y) (x : X) (xs : List X) (y : X) → All (λ z. f x ≢ z) (map f xs) → Contains xs y → f x ≢ f y
+pub other_key : {X Y : Type 0} (f : X → Y) (x : X) (xs : List X) (y : X) → All (λ z. f x ≢ z) (map f xs) → Contains xs y
+    → f x ≢ f y
 other_key f x xs y h i = All-contains (λ z. f x ≢ z) (map f xs) (f y) h (Contains-map f xs y i)
 
 -- of two elements with one key there is one alone
-pub same_element : {X Y : Type 0} (f : X → Y) (xs : List X) (a b : X) → Apart (map f xs) → Contains xs a → Contains xs b → f a ≡ f b → a ≡ b
+pub same_element : {X Y : Type 0} (f : X → Y) (xs : List X) (a b : X) → Apart (map f xs) → Contains xs a → Contains xs b
+    → f a ≡ f b → a ≡ b
 same_element f [] a b h (k, lt, at) j e = absurd (omega arith)
 same_element f (x ∷ xs) a b h i j e =
     elim (contains_cases x xs a i) [

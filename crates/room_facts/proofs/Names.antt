@@ -41,15 +41,18 @@ test_from_tag a b e = subst (λ c. option_eq same_name a c ≡ true) e (tag_itse
 
 below_is_other : (a b : List ℕ) → name_order a b ≡ Less → a ≢ b
 below_is_other a b less e =
-    let tie : name_order a b ≡ Equal = subst (λ c. name_order a c ≡ Equal) e (tied_itself IsKeyOrder-name_order.total a) in
+    let tie : name_order a b ≡ Equal = subst (λ c. name_order a c ≡ Equal) e
+    (tied_itself IsKeyOrder-name_order.total a) in
     cc
 
 -- cells in the order of their names have other names
-pub Apart-from_rising : (ss : List Stand) → IsRising name_order (λ s. s.cell) ss → Apart (map (λ (s : Stand). s.cell) ss)
+pub Apart-from_rising : (ss : List Stand) → IsRising name_order (λ s. s.cell) ss
+    → Apart (map (λ (s : Stand). s.cell) ss)
 Apart-from_rising [] h = tt
 Apart-from_rising (s ∷ ss) h = (
   All-map (λ n. s.cell ≢ n) (λ (t : Stand). t.cell) ss
-      (All-weaker (λ (t : Stand). name_order s.cell t.cell ≡ Less) (λ (t : Stand). s.cell ≢ t.cell) (λ t. below_is_other s.cell t.cell) ss
+      (All-weaker (λ (t : Stand). name_order s.cell t.cell ≡ Less) (λ (t : Stand). s.cell ≢ t.cell)
+      (λ t. below_is_other s.cell t.cell) ss
       (All-above name_order (λ s. s.cell) s.cell ss (below_rest name_order (λ s. s.cell) s ss h))),
   Apart-from_rising ss (IsRising-tail name_order (λ s. s.cell) s ss h),
 )
@@ -63,6 +66,7 @@ pub tag_kept : (b : Bool) (job : Job) (s : Stand) → (cond b (with_job job s) s
 tag_kept true job s = refl
 tag_kept false job s = refl
 
-pub names_kept : (job : Job) (cell : List ℕ) (ss : List Stand) → map (λ (s : Stand). s.cell) (placed job cell ss) ≡ map (λ (s : Stand). s.cell) ss
+pub names_kept : (job : Job) (cell : List ℕ) (ss : List Stand)
+    → map (λ (s : Stand). s.cell) (placed job cell ss) ≡ map (λ (s : Stand). s.cell) ss
 names_kept job cell [] = refl
 names_kept job cell (s ∷ ss) = λ i. name_kept (same_name s.cell cell) job s i ∷ names_kept job cell ss i

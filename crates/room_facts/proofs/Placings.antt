@@ -27,12 +27,14 @@ use Rattle.room_facts.proofs.Lists.{Apart, same_element}
 use Rattle.room_facts.proofs.Names.{same_from_test, test_from_same, other_from_test, same_tag, Apart-from_rising, name_kept, tag_kept, names_kept}
 
 -- a cell behind a placement is one from before it
-cell_before : (job : Job) (cell : List ℕ) (ss : List Stand) (t : Stand) → Contains (placed job cell ss) t → (s : Stand) × Contains ss s × (t.cell ≡ s.cell) × (t.tag ≡ s.tag)
+cell_before : (job : Job) (cell : List ℕ) (ss : List Stand) (t : Stand) → Contains (placed job cell ss) t
+    → (s : Stand) × Contains ss s × (t.cell ≡ s.cell) × (t.tag ≡ s.tag)
 cell_before job cell ss t (k, lt, at) =
     let below : k < length ss = simp length-map at lt in
     let s : Stand = get_or ss k t in
     let b : Bool = same_name s.cell cell in
-    let is : t ≡ cond b (with_job job s) s = sym at ∙ get_or-map (λ (s : Stand). cond (same_name s.cell cell) (with_job job s) s) ss k t t below in (
+    let is : t ≡ cond b (with_job job s) s = sym at ∙ get_or-map
+    (λ (s : Stand). cond (same_name s.cell cell) (with_job job s) s) ss k t t below in (
       s,
       Contains-get_or ss k t below,
       ap (λ (x : Stand). x.cell) is ∙ name_kept b job s,
@@ -40,13 +42,16 @@ cell_before job cell ss t (k, lt, at) =
     )
 
 -- one cell with the first job and the others
-module _ (job : Job) (jobs : List Job) (on : JobName → List ℕ) (cell : List ℕ) (goes : on job.job ≡ cell) (t : Stand) where
+module _ (job : Job) (jobs : List Job) (on : JobName → List ℕ) (cell : List ℕ) (goes : on job.job ≡ cell)
+    (t : Stand) where
   abbrev WithinAt : Bool → Type 0
-  WithinAt b = IsWithin (sums (filter (λ j. same_name (on j.job) (cond b (with_job job t) t).cell) jobs)) (cond b (with_job job t) t).free
+  WithinAt b = IsWithin (sums (filter (λ j. same_name (on j.job) (cond b (with_job job t) t).cell) jobs))
+      (cond b (with_job job t) t).free
 
   abbrev WithinBoth : Bool → Type 0
   WithinBoth b =
-      IsWithin (sums (cond b (job ∷ filter (λ j. same_name (on j.job) t.cell) jobs) (filter (λ j. same_name (on j.job) t.cell) jobs))) t.free
+      IsWithin (sums (cond b (job ∷ filter (λ j. same_name (on j.job) t.cell) jobs)
+      (filter (λ j. same_name (on j.job) t.cell) jobs))) t.free
 
   here : (b : Bool) → (b ≡ true → can_take job t ≡ true) → WithinAt b → WithinBoth b
   here true can h =
@@ -67,11 +72,15 @@ module _ (job : Job) (jobs : List Job) (on : JobName → List ℕ) (cell : List 
             (λ same. let yes : same_name t.cell cell ≡ true = test_from_same t.cell cell (sym same ∙ goes) in cc)
       ] refl
 
-  pub within_both : (same_name t.cell cell ≡ true → can_take job t ≡ true) → WithinAt (same_name t.cell cell) → IsWithin (sums (filter (λ j. same_name (on j.job) t.cell) (job ∷ jobs))) t.free
+  pub within_both : (same_name t.cell cell ≡ true → can_take job t ≡ true) → WithinAt (same_name t.cell cell)
+      → IsWithin (sums (filter (λ j. same_name (on j.job) t.cell) (job ∷ jobs))) t.free
   within_both can h = subst WithinBoth (sym asked_here) (here (same_name t.cell cell) can h)
 
 -- the first job and a placing of the others
-step : (stands : List Stand) (job : Job) (jobs : List Job) (on : JobName → List ℕ) → Apart (map (λ (s : Stand). s.cell) stands) → (o : Option Stand) → UsesRoom stands job (placement_on job o) → is_placed (placement_on job o) ≡ true → GoesBy on (placement_on job o) → IsPlacing (stands_with job o stands) jobs on → IsPlacing stands (job ∷ jobs) on
+step : (stands : List Stand) (job : Job) (jobs : List Job) (on : JobName → List ℕ)
+    → Apart (map (λ (s : Stand). s.cell) stands) → (o : Option Stand) → UsesRoom stands job (placement_on job o)
+    → is_placed (placement_on job o) ≡ true → GoesBy on (placement_on job o)
+    → IsPlacing (stands_with job o stands) jobs on → IsPlacing stands (job ∷ jobs) on
 step stands job jobs on apart None room is goes h = cc
 step stands job jobs on apart (Some s) (u, inside, name, can) is goes h = record {
   tags =
@@ -87,18 +96,24 @@ step stands job jobs on apart (Some s) (u, inside, name, can) is goes h = record
       let now = get_or-map (λ (s' : Stand). cond (same_name s'.cell s.cell) (with_job job s') s') stands k d d below in
       within_both job jobs on s.cell goes t
       (λ e. subst (λ (x : Stand). can_take job x ≡ true)
-      (same_element (λ (x : Stand). x.cell) stands u t apart inside (Contains-get_or stands k d below) (name ∙ sym (same_from_test t.cell s.cell e))) can)
-      (subst (λ (x : Stand). IsWithin (sums (filter (λ j. same_name (on j.job) x.cell) jobs)) x.free) now (h.within k d there));
+      (same_element (λ (x : Stand). x.cell) stands u t apart inside (Contains-get_or stands k d below)
+      (name ∙ sym (same_from_test t.cell s.cell e))) can)
+      (subst (λ (x : Stand). IsWithin (sums (filter (λ j. same_name (on j.job) x.cell) jobs)) x.free) now
+      (h.within k d there));
 }
 
-names_after : (job : Job) (o : Option Stand) (stands : List Stand) → map (λ (s : Stand). s.cell) (stands_with job o stands) ≡ map (λ (s : Stand). s.cell) stands
+names_after : (job : Job) (o : Option Stand) (stands : List Stand)
+    → map (λ (s : Stand). s.cell) (stands_with job o stands) ≡ map (λ (s : Stand). s.cell) stands
 names_after job None stands = refl
 names_after job (Some s) stands = names_kept job s.cell stands
 
-pub Apart-after : (job : Job) (o : Option Stand) (stands : List Stand) → Apart (map (λ (s : Stand). s.cell) stands) → Apart (map (λ (s : Stand). s.cell) (stands_with job o stands))
+pub Apart-after : (job : Job) (o : Option Stand) (stands : List Stand) → Apart (map (λ (s : Stand). s.cell) stands)
+    → Apart (map (λ (s : Stand). s.cell) (stands_with job o stands))
 Apart-after job o stands h = subst Apart (sym (names_after job o stands)) h
 
-placing_from : (stands : List Stand) (jobs : List Job) (on : JobName → List ℕ) → Apart (map (λ (s : Stand). s.cell) stands) → All (λ p. is_placed p ≡ true) (auction_from stands jobs) → All (GoesBy on) (auction_from stands jobs) → IsPlacing stands jobs on
+placing_from : (stands : List Stand) (jobs : List Job) (on : JobName → List ℕ)
+    → Apart (map (λ (s : Stand). s.cell) stands) → All (λ p. is_placed p ≡ true) (auction_from stands jobs)
+    → All (GoesBy on) (auction_from stands jobs) → IsPlacing stands jobs on
 placing_from stands [] on apart all goes = record {
   tags = All-nil (λ (j : Job). (s : Stand) × Contains stands s × (s.cell ≡ on j.job) × (s.tag ≡ j.tag));
   within = λ k d below. record { memory = omega arith; disk = omega arith; containers = omega arith };
@@ -113,8 +128,11 @@ placing_from stands (job ∷ jobs) on apart all goes =
     (All-tail (λ p. is_placed p ≡ true) (placement_on job o) rest all)
     (All-tail (GoesBy on) (placement_on job o) rest goes))
 
-pub auction_is_a_placing : (stands : List Stand) (jobs : List Job) → IsRising name_order (λ s. s.cell) stands → All (λ p. is_placed p ≡ true) (auction_from stands jobs) → (on : JobName → List ℕ) → All (GoesBy on) (auction_from stands jobs) → IsPlacing stands jobs on
-auction_is_a_placing stands jobs rising all on goes = placing_from stands jobs on (Apart-from_rising stands rising) all goes
+pub auction_is_a_placing : (stands : List Stand) (jobs : List Job) → IsRising name_order (λ s. s.cell) stands
+    → All (λ p. is_placed p ≡ true) (auction_from stands jobs) → (on : JobName → List ℕ)
+    → All (GoesBy on) (auction_from stands jobs) → IsPlacing stands jobs on
+auction_is_a_placing stands jobs rising all on goes = placing_from stands jobs on
+    (Apart-from_rising stands rising) all goes
 
 -- whether two jobs have one name
 same_job : JobName → JobName → Bool
@@ -140,12 +158,15 @@ job_from_test (Task a) (Lrp b) e = cc
 job_from_test (Task a) (Task b) e = ap Task (same_from_test a b e)
 
 -- where the jobs' names differ, some function goes by the placements
-keeps_going : (job : JobName) (cell : List ℕ) (on : JobName → List ℕ) (p : Placement) → job ≢ job_in p → GoesBy on p → GoesBy (λ j. cond (same_job job j) cell (on j)) p
+keeps_going : (job : JobName) (cell : List ℕ) (on : JobName → List ℕ) (p : Placement) → job ≢ job_in p → GoesBy on p
+    → GoesBy (λ j. cond (same_job job j) cell (on j)) p
 keeps_going job cell on (On other there) apart goes =
-    ap (λ b. cond b cell (on other)) (false_from_ne_true (same_job job other) (λ e. apart (job_from_test job other e))) ∙ goes
+    ap (λ b. cond b cell (on other)) (false_from_ne_true (same_job job other) (λ e. apart (job_from_test job other e)))
+    ∙ goes
 keeps_going job cell on (NoRoom other) apart goes = tt
 
-other_job : (job : JobName) (ps : List Placement) (k : ℕ) (d : Placement) → All (λ n. job ≢ n) (map job_in ps) → k < length ps → job ≢ job_in (get_or ps k d)
+other_job : (job : JobName) (ps : List Placement) (k : ℕ) (d : Placement) → All (λ n. job ≢ n) (map job_in ps)
+    → k < length ps → job ≢ job_in (get_or ps k d)
 other_job job ps k d h below =
     subst (λ n. job ≢ n) (get_or-map job_in ps k d (job_in d) below) (h k (job_in d) (simp length-map below))
 
@@ -170,9 +191,12 @@ Apart-from_pairs (x ∷ xs) h = (
   Apart-from_pairs xs (λ i j d lt below. h (suc i) (suc j) d (omega arith) (omega arith)),
 )
 
-pub some_placing : (stands : List Stand) (jobs : List Job) → IsRising name_order (λ s. s.cell) stands → AreJobs jobs → All (λ p. is_placed p ≡ true) (auction_from stands jobs) → (on : JobName → List ℕ) × All (GoesBy on) (auction_from stands jobs) × IsPlacing stands jobs on
+pub some_placing : (stands : List Stand) (jobs : List Job) → IsRising name_order (λ s. s.cell) stands → AreJobs jobs
+    → All (λ p. is_placed p ≡ true) (auction_from stands jobs)
+    → (on : JobName → List ℕ) × All (GoesBy on) (auction_from stands jobs) × IsPlacing stands jobs on
 some_placing stands jobs rising differ all =
     let ps = auction_from stands jobs in
-    let apart : Apart (map job_in ps) = subst Apart (sym (jobs_placed stands jobs)) (Apart-from_pairs (map (λ j. j.job) jobs) differ) in
+    let apart : Apart (map job_in ps) = subst Apart (sym (jobs_placed stands jobs))
+    (Apart-from_pairs (map (λ j. j.job) jobs) differ) in
     let found = goes_by ps apart in
     (found.0, found.1, auction_is_a_placing stands jobs rising all found.0 found.1)

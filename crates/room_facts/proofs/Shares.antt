@@ -38,9 +38,11 @@ at_most-short most free size short =
     ] refl
 
 -- one taken leaves room for one less
-at_most-less : (most free size : ℕ) → 0 < most → size ≤ free → at_most (most - 1) (free - size) size + 1 ≡ at_most most free size
+at_most-less : (most free size : ℕ) → 0 < most → size ≤ free
+    → at_most (most - 1) (free - size) size + 1 ≡ at_most most free size
 at_most-less most free size some fits =
-    elim (eqb size 0) as (λ b. eqb size 0 ≡ b → cond b (most - 1) (min (most - 1) ((free - size) / size)) + 1 ≡ cond b most (min most (free / size))) [
+    elim (eqb size 0) as (λ b. eqb size 0 ≡ b → cond b (most - 1) (min (most - 1) ((free - size) / size)) + 1
+    ≡ cond b most (min most (free / size))) [
       | true ↦ λ e. omega arith
       | false ↦ λ e.
           let pos : 0 < size = positive size (eqb-false size 0 e) in
@@ -55,25 +57,31 @@ at_most-less most free size some fits =
     one_less m q r h e = omega arith
 
 -- jobs of at least that size that are within what is free are no more than it holds
-count_times : (f : Job → ℕ) (size : Job) (m : ℕ) (jobs : List Job) → ((j : Job) → is_as_large size j ≡ true → m ≤ f j) → count_by (is_as_large size) jobs * m ≤ sum_by f jobs
+count_times : (f : Job → ℕ) (size : Job) (m : ℕ) (jobs : List Job) → ((j : Job) → is_as_large size j ≡ true → m ≤ f j)
+    → count_by (is_as_large size) jobs * m ≤ sum_by f jobs
 count_times f size m [] h = omega arith
 count_times f size m (j ∷ js) h =
     let rest : count_by (is_as_large size) js * m ≤ sum_by f js = count_times f size m js h in
     let whole : sum_by f (j ∷ js) ≡ f j + sum_by f js = sum_by-cons f j js in
-    let count : count_by (is_as_large size) (j ∷ js) ≡ cond (is_as_large size j) 1 0 + count_by (is_as_large size) js = sum_by-cons (λ x. cond (is_as_large size x) 1 0) j js in
+    let count : count_by (is_as_large size) (j ∷ js) ≡ cond (is_as_large size j) 1 0 + count_by (is_as_large size) js =
+    sum_by-cons (λ x. cond (is_as_large size x) 1 0) j js in
     subst (λ n. n * m ≤ sum_by f (j ∷ js)) (sym count)
-    (elim (is_as_large size j) as (λ b. is_as_large size j ≡ b → (cond b 1 0 + count_by (is_as_large size) js) * m ≤ sum_by f (j ∷ js)) [
+    (elim (is_as_large size j) as (λ b. is_as_large size j ≡ b
+    → (cond b 1 0 + count_by (is_as_large size) js) * m ≤ sum_by f (j ∷ js)) [
       | true ↦ λ e. let one : m ≤ f j = h j e in omega arith
       | false ↦ λ e. omega arith
     ] refl)
 
-pub large_within : (size : Job) (jobs : List Job) (free : Amounts) → IsWithin (sums jobs) free → count_by (is_as_large size) jobs ≤ share_of size free
+pub large_within : (size : Job) (jobs : List Job) (free : Amounts) → IsWithin (sums jobs) free
+    → count_by (is_as_large size) jobs ≤ share_of size free
 large_within size jobs free h =
     let k : ℕ = count_by (is_as_large size) jobs in
     let memory : k * size.memory ≤ sum_by (λ j. j.memory) jobs =
-    count_times (λ j. j.memory) size size.memory jobs (λ j e. leb-true size.memory j.memory (and_parts (leb size.memory j.memory) (leb size.disk j.disk) e).0) in
+    count_times (λ j. j.memory) size size.memory jobs (λ j e.
+    leb-true size.memory j.memory (and_parts (leb size.memory j.memory) (leb size.disk j.disk) e).0) in
     let disk : k * size.disk ≤ sum_by (λ j. j.disk) jobs =
-    count_times (λ j. j.disk) size size.disk jobs (λ j e. leb-true size.disk j.disk (and_parts (leb size.memory j.memory) (leb size.disk j.disk) e).1) in
+    count_times (λ j. j.disk) size size.disk jobs (λ j e.
+    leb-true size.disk j.disk (and_parts (leb size.memory j.memory) (leb size.disk j.disk) e).1) in
     let few : k ≤ length jobs = count_by-le-length (is_as_large size) jobs in
     let in_memory : k * size.memory ≤ free.memory = omega (arith, h.memory) in
     let in_disk : k * size.disk ≤ free.disk = omega (arith, h.disk) in
@@ -81,12 +89,15 @@ large_within size jobs free h =
     (at_most-holds k free.containers free.memory size.memory (omega (arith, h.containers)) in_memory) in_disk
 
 -- where a job fits, it takes the room of one
-pub share-less : (job : Job) (free : Amounts) → job.memory ≤ free.memory → job.disk ≤ free.disk → 0 < free.containers → share_of job (less free job) + 1 ≡ share_of job free
+pub share-less : (job : Job) (free : Amounts) → job.memory ≤ free.memory → job.disk ≤ free.disk → 0 < free.containers
+    → share_of job (less free job) + 1 ≡ share_of job free
 share-less job free memory disk container =
-    let inner : at_most (free.containers - 1) (free.memory - job.memory) job.memory + 1 ≡ at_most free.containers free.memory job.memory =
+    let inner : at_most (free.containers - 1) (free.memory - job.memory) job.memory + 1
+    ≡ at_most free.containers free.memory job.memory =
     at_most-less free.containers free.memory job.memory container memory in
     let before : ℕ = at_most free.containers free.memory job.memory in
     let some : 0 < before = omega (arith, inner) in
-    let left : at_most (free.containers - 1) (free.memory - job.memory) job.memory ≡ before - 1 = omega (arith, inner) in
+    let left : at_most (free.containers - 1) (free.memory - job.memory) job.memory ≡ before - 1 =
+    omega (arith, inner) in
     ap (λ n. at_most n (free.disk - job.disk) job.disk + 1) left
     ∙ at_most-less before free.disk job.disk some disk

@@ -41,9 +41,11 @@ use Rattle.round_completeness.specs.Rooms.{FindsRoom, AllFindRoom, PlacementsHav
 
 -- a job that waits is found by its name
 lrp_found : (rows : Rows) (key : Key) (j : Job) → instance_job rows key ≡ Some j → named_job rows j.job ≡ Some j
-lrp_found rows key j e = subst (λ (n : JobName). named_job rows n ≡ Some j) (sym (instance_named key (find_desired rows key.process) j e)) e
+lrp_found rows key j e = subst (λ (n : JobName). named_job rows n ≡ Some j)
+    (sym (instance_named key (find_desired rows key.process) j e)) e
 
-row_found : (rows : Rows) (key : Key) (p : Presence) (state : LrpState) (j : Job) → waiting_job rows key p state ≡ Some j
+row_found : (rows : Rows) (key : Key) (p : Presence) (state : LrpState) (j : Job)
+    → waiting_job rows key p state ≡ Some j
     → named_job rows j.job ≡ Some j
 row_found rows key Ordinary lrp.Unclaimed j e = lrp_found rows key j e
 row_found rows key Ordinary (lrp.Claimed i c) j e = absurd cc
@@ -52,11 +54,13 @@ row_found rows key Ordinary lrp.Crashed j e = absurd cc
 row_found rows key Evacuating state j e = absurd cc
 row_found rows key Suspect state j e = absurd cc
 
-task_found : (rows : Rows) (t : Task) (state : TaskState) (j : Job) → IsValid rows → Contains rows.tasks t → pending_job t state ≡ Some j
+task_found : (rows : Rows) (t : Task) (state : TaskState) (j : Job) → IsValid rows → Contains rows.tasks t
+    → pending_job t state ≡ Some j
     → named_job rows j.job ≡ Some j
 task_found rows t task.Pending j valid inside e =
     let is : job_of_task t ≡ j = ap (λ (o : Option Job). option_map_or (λ (x : Job). x) o (job_of_task t)) e in
-    let found : find_task rows t.name ≡ Some t = find_row-Contains name_order task_name_of IsKeyOrder-name_order t rows.tasks
+    let found : find_task rows t.name ≡ Some t = find_row-Contains name_order task_name_of IsKeyOrder-name_order t
+    rows.tasks
     valid.tasks.rising inside in
     subst (λ (x : Job). named_job rows x.job ≡ Some x) is (ap (option_map job_of_task) found)
 task_found rows t (task.Running i c) j valid inside e = absurd cc
@@ -85,7 +89,8 @@ takes_so : (job : Job) (s : Stand) → can_take job s ≡ true → FindsRoom s.f
 takes_so job s e =
     let tags = both (option_eq (pointwise nat_eq) job.tag s.tag)
     (nat_le job.memory s.free.memory && (nat_le job.disk s.free.disk && nat_lt 0 s.free.containers)) e in
-    let first = both (nat_le job.memory s.free.memory) (nat_le job.disk s.free.disk && nat_lt 0 s.free.containers) tags.1 in
+    let first = both (nat_le job.memory s.free.memory) (nat_le job.disk s.free.disk && nat_lt 0 s.free.containers)
+    tags.1 in
     let second = both (nat_le job.disk s.free.disk) (nat_lt 0 s.free.containers) first.1 in
     record {
       memory = leb-true job.memory s.free.memory first.0;
@@ -105,7 +110,8 @@ free_here : (job : Job) (u : Stand) (free : Amounts) (b : Bool) → b ≡ true �
 free_here job u free true e is = ap (λ (f : Amounts). less f job) is
 free_here job u free false e is = absurd cc
 
-free_there : (job : Job) (u : Stand) (free : Amounts) (b : Bool) → b ≡ false → u.free ≡ free → (cond b (with_job job u) u).free ≡ free
+free_there : (job : Job) (u : Stand) (free : Amounts) (b : Bool) → b ≡ false → u.free ≡ free
+    → (cond b (with_job job u) u).free ≡ free
 free_there job u free true e is = absurd cc
 free_there job u free false e is = is
 
@@ -118,22 +124,26 @@ less_there : (job : Job) (cell other : List ℕ) (free : Amounts) (stands : List
     → HasFree cell free stands → HasFree cell (less free job) (placed job other stands)
 less_there job cell other free stands same h t inside is =
     let u = from_map (placed_one job other) stands t inside in
-    let names : u.0.cell ≡ cell = sym (cell_of_placed job u.0 (same_name u.0.cell other)) ∙ ap (λ (x : Stand). x.cell) u.2 ∙ is in
+    let names : u.0.cell ≡ cell = sym (cell_of_placed job u.0 (same_name u.0.cell other)) ∙ ap
+    (λ (x : Stand). x.cell) u.2 ∙ is in
     let here : u.0.cell ≡ other = names ∙ sym (same_text other cell (sym same)) in
     sym (ap (λ (x : Stand). x.free) u.2)
-    ∙ free_here job u.0 free (same_name u.0.cell other) (ap (λ (n : List ℕ). same_name n other) here ∙ nat_list_eq_equiv.refl other)
+    ∙ free_here job u.0 free (same_name u.0.cell other) (ap
+    (λ (n : List ℕ). same_name n other) here ∙ nat_list_eq_equiv.refl other)
     (h u.0 u.1 names)
 
 same_there : (job : Job) (cell other : List ℕ) (free : Amounts) (stands : List Stand) → same_name other cell ≡ false
     → HasFree cell free stands → HasFree cell free (placed job other stands)
 same_there job cell other free stands differs h t inside is =
     let u = from_map (placed_one job other) stands t inside in
-    let names : u.0.cell ≡ cell = sym (cell_of_placed job u.0 (same_name u.0.cell other)) ∙ ap (λ (x : Stand). x.cell) u.2 ∙ is in
+    let names : u.0.cell ≡ cell = sym (cell_of_placed job u.0 (same_name u.0.cell other)) ∙ ap
+    (λ (x : Stand). x.cell) u.2 ∙ is in
     let apart : same_name u.0.cell other ≡ false =
     elim (same_name u.0.cell other) as (λ (b : Bool). same_name u.0.cell other ≡ b → b ≡ false) [
       | true ↦ λ e.
           let here : other ≡ cell = sym (same_text u.0.cell other (sym e)) ∙ names in
-          let bad : true ≡ false = sym (ap (λ (n : List ℕ). same_name n cell) here ∙ nat_list_eq_equiv.refl cell) ∙ differs in absurd cc
+          let bad : true ≡ false = sym (ap (λ (n : List ℕ). same_name n cell) here ∙ nat_list_eq_equiv.refl cell) ∙
+          differs in absurd cc
       | false ↦ λ e. refl
     ] refl in
     sym (ap (λ (x : Stand). x.free) u.2) ∙ free_there job u.0 free (same_name u.0.cell other) apart (h u.0 u.1 names)
@@ -155,30 +165,36 @@ room_from cell free rows stands (j ∷ js) [] found same h turns = absurd turns
 room_from cell free rows stands (j ∷ js) (On n other ∷ ps) found same h turns =
     let names : n ≡ j.job = first_is n j.job (map job_in ps) (map (λ (x : Job). x.job) js) same in
     let more = rest_is n j.job (map job_in ps) (map (λ (x : Job). x.job) js) same in
-    let later : (x : Job) → Contains js x → named_job rows x.job ≡ Some x = λ x inside. found x (inside_rest x j js inside) in
+    let later : (x : Job) → Contains js x → named_job rows x.job ≡ Some x = λ x inside.
+    found x (inside_rest x j js inside) in
     let named : named_job rows n ≡ Some j = ap (named_job rows) names ∙ found j (inside_first j js) in
     elim (same_name other cell) as
-    (λ (b : Bool). same_name other cell ≡ b → AllFindRoom free (cons_option (cond b (named_job rows n) None) (jobs_on rows ps cell))) [
+    (λ (b : Bool). same_name other cell ≡ b → AllFindRoom free
+    (cons_option (cond b (named_job rows n) None) (jobs_on rows ps cell))) [
       | true ↦ λ e.
           let s = turns.0 in
           let is : s.0.free ≡ free = h s.0 s.1 (s.2 ∙ same_text other cell (sym e)) in
           subst (λ (o : Option Job). AllFindRoom free (cons_option o (jobs_on rows ps cell))) (sym named) (
             subst (λ (f : Amounts). FindsRoom f j) is (takes_so j s.0 s.3),
-            room_from cell (less free j) rows (placed j other stands) js ps later more (less_there j cell other free stands e h) turns.1,
+            room_from cell (less free j) rows (placed j other stands) js ps later more
+                (less_there j cell other free stands e h) turns.1,
           )
-      | false ↦ λ e. room_from cell free rows (placed j other stands) js ps later more (same_there j cell other free stands e h) turns.1
+      | false ↦ λ e. room_from cell free rows (placed j other stands) js ps later more
+          (same_there j cell other free stands e h) turns.1
     ] refl
 room_from cell free rows stands (j ∷ js) (NoRoom n ∷ ps) found same h turns =
     room_from cell free rows stands js ps (λ x inside. found x (inside_rest x j js inside))
     (rest_is n j.job (map job_in ps) (map (λ (x : Job). x.job) js) same) h turns.1
 
 -- what is free at the start is what was answered
-free_first : (cells : List Answer) → AreAnswers cells → (x : Answer) → Contains cells x → HasFree x.cell x.free (stands_of cells)
+free_first : (cells : List Answer) → AreAnswers cells → (x : Answer) → Contains cells x
+    → HasFree x.cell x.free (stands_of cells)
 free_first cells are x inside t among is =
     let in_map = from_table name_order (λ (s : Stand). s.cell) IsKeyOrder-name_order (map stand_of cells) t among in
     let y = from_map stand_of cells t in_map in
     let names : y.0.cell ≡ x.cell = ap (λ (s : Stand). s.cell) y.2 ∙ is in
-    let one : y.0 ≡ x = one_of_name (λ (a : Answer). a.cell) cells (differ_pairs (map (λ (a : Answer). a.cell) cells) are.differ) y.0 x y.1
+    let one : y.0 ≡ x = one_of_name (λ (a : Answer). a.cell) cells
+    (differ_pairs (map (λ (a : Answer). a.cell) cells) are.differ) y.0 x y.1
     inside names in
     sym (ap (λ (s : Stand). s.free) y.2) ∙ ap (λ (a : Answer). a.free) one
 

@@ -37,14 +37,17 @@ by-ends by now line s s' r h ends apart told steady =
     (heard_named s.reps c.0.cell c.0.epoch f.0 c.2))
     h.opens.stopped.each in
     let q = are-ready by now line s s' r h apart in
-    let serves = serves-so ends by now h.opening_is.places h.opening_is.places.roomy h.opened h.served h.serves q.differ q.have q.has q.room
+    let serves = serves-so ends by now h.opening_is.places h.opening_is.places.roomy h.opened h.served h.serves q.differ
+    q.have q.has q.room
     stops.tells in
     let kept = lost_each by (fails_in now h.opening_is.places) (in_course h.served) h.noted h.notes in
     let none : h.opened.tally.lost ≡ 0 =
     ap (λ (t : Tally). t.lost) h.opens.tally_is
-    ∙ lost_each by (plan_of_answers (rows_seen h.opens.plan_called.read) got now) (calling h.opens.plan_called.read h.opens.worked.tally)
+    ∙ lost_each by (plan_of_answers (rows_seen h.opens.plan_called.read) got now)
+    (calling h.opens.plan_called.read h.opens.worked.tally)
     h.opens.planned h.opens.plan_called.calls
-    ∙ lost_each by (work (rows_seen h.opens.work_called.read) now) (calling h.opens.work_called.read no_calls) h.opens.worked
+    ∙ lost_each by (work (rows_seen h.opens.work_called.read) now)
+    (calling h.opens.work_called.read no_calls) h.opens.worked
     h.opens.work_called.calls in
     let few = serves.counts.is (omega (arith, none)) in
     let stopped : r.stopped ≡ h.opens.stops.stopped = h.reports.stopped ∙ h.opens.stopped_is in

@@ -47,7 +47,8 @@ all_others i (c ∷ cs) e =
       | false ↦ λ none. ap (λ xs. c ∷ xs) (all_others i cs none)
     ] e
 
-without_in : (cell : List ℕ) (i : Instance) (j : Joined) (f : Option Container) → find_container i j.store.containers ≡ f
+without_in : (cell : List ℕ) (i : Instance) (j : Joined) (f : Option Container)
+    → find_container i j.store.containers ≡ f
     → answer_of (result_unwrap_or
     (store_result (record { cell = cell; joined = Some j }) j (if_held f (λ c. Ok (without_container j.store i))))
     (record { cell = cell; joined = Some j }))
@@ -56,13 +57,16 @@ without_in cell i j None none =
     ap (λ (cs : List Container). Some (answer_with (answer_in cell j) cs)) (sym (all_others i j.store.containers none))
 without_in cell i j (Some c) found = refl
 
-without_answer : (cell : List ℕ) (i : Instance) (o : Option Joined) (x : Answer) → option_map (answer_in cell) o ≡ Some x
+without_answer : (cell : List ℕ) (i : Instance) (o : Option Joined) (x : Answer)
+    → option_map (answer_in cell) o ≡ Some x
     → answer_of (without (record { cell = cell; joined = o }) i) ≡ Some (answer_with x (others i x.containers))
 without_answer cell i None x e = absurd cc
 without_answer cell i (Some j) x e =
-    let is : answer_in cell j ≡ x = ap (λ (o : Option Answer). option_map_or (λ (y : Answer). y) o (answer_in cell j)) e in
+    let is : answer_in cell j ≡ x = ap (λ (o : Option Answer). option_map_or (λ (y : Answer). y) o (answer_in cell j)) e
+    in
     subst
-    (λ (y : Answer). answer_of (without (record { cell = cell; joined = Some j }) i) ≡ Some (answer_with y (others i y.containers))) is
+    (λ (y : Answer). answer_of (without (record { cell = cell; joined = Some j }) i)
+    ≡ Some (answer_with y (others i y.containers))) is
     (without_in cell i j (find_container i j.store.containers) refl)
 
 -- the rep of a cell answers so
@@ -83,12 +87,14 @@ less_then [] bs x = refl
 less_then (a ∷ as') bs x = less_then as' bs (less_one a x)
 
 -- one container was given up
-gone_one : (a : Stray) (reps reps' : List CellRep) (x : Answer) → StandApart (names_of reps') → LetsGo a reps reps' → Answers reps x
+gone_one : (a : Stray) (reps reps' : List CellRep) (x : Answer) → StandApart (names_of reps') → LetsGo a reps reps'
+    → Answers reps x
     → Answers reps' (less_one a x)
 gone_one a reps reps' x apart h answers at q stands =
     let w = without h.rep a.1 in
     let named : w.cell ≡ a.0 = cell_stays h.rep.cell a.1 h.rep.joined ∙ h.stands.cell_is in
-    let here : StandsFor (set reps h.place w) (less_one a x).cell at q = subst (λ rs. StandsFor rs (less_one a x).cell at q) h.is stands in
+    let here : StandsFor (set reps h.place w) (less_one a x).cell at q =
+    subst (λ rs. StandsFor rs (less_one a x).cell at q) h.is stands in
     let cells = cell_of_less a x in
     elim (same_name a.0 x.cell) as
     (λ (b : Bool). same_name a.0 x.cell ≡ b → answer_of q ≡ Some (cond b (answer_with x (others a.1 x.containers)) x)) [
@@ -101,15 +107,19 @@ gone_one a reps reps' x apart h answers at q stands =
             is = sym (get_or-set_same reps h.place w w h.stands.within);
             cell_is = named ∙ same;
           } in
-          let q_there : StandsFor (set reps h.place w) x.cell at q = subst (λ n. StandsFor (set reps h.place w) n at q) cells here in
+          let q_there : StandsFor (set reps h.place w) x.cell at q =
+          subst (λ n. StandsFor (set reps h.place w) n at q) cells here in
           let places : at ≡ h.place = subst (λ rs. StandApart (names_of rs)) h.is apart at h.place x.cell
-          (name_there (set reps h.place w) x.cell at q q_there) (name_there (set reps h.place w) x.cell h.place w there) in
+          (name_there (set reps h.place w) x.cell at q q_there)
+          (name_there (set reps h.place w) x.cell h.place w there) in
           let is : q ≡ w = q_there.is ∙ ap (λ (k : ℕ). get_or (set reps h.place w) k q) places
           ∙ get_or-set_same reps h.place w q h.stands.within in
-          ap (λ (p : CellRep). answer_of p) is ∙ without_answer h.rep.cell a.1 h.rep.joined x (answers h.place h.rep mine)
+          ap (λ (p : CellRep). answer_of p) is ∙ without_answer h.rep.cell a.1 h.rep.joined x
+          (answers h.place h.rep mine)
       | false ↦ λ e.
           let differs : x.cell ≢ a.0 = λ same.
-          let bad : true ≡ false = sym (ap (λ (n : List ℕ). same_name a.0 n) same ∙ nat_list_eq_equiv.refl a.0) ∙ e in absurd cc in
+          let bad : true ≡ false = sym (ap (λ (n : List ℕ). same_name a.0 n) same ∙ nat_list_eq_equiv.refl a.0) ∙ e in
+          absurd cc in
           answers at q (stood_before reps h.place w a.0 x.cell at q h.stands.within named differs
           (subst (λ n. StandsFor (set reps h.place w) n at q) cells here))
     ] refl
@@ -128,7 +138,8 @@ pub record AreLessened (s t : Stopped) : Type 0 where
   pub names : names_of t.course.reps ≡ names_of s.course.reps
   pub answer : (x : Answer) → Answers s.course.reps x → Answers t.course.reps (less_all more x)
 
-pub are-lessened : (gone : List Stray) (s t : Stopped) → StandApart (names_of s.course.reps) → Each StopsOne gone s t → AreLessened s t
+pub are-lessened : (gone : List Stray) (s t : Stopped) → StandApart (names_of s.course.reps) → Each StopsOne gone s t
+    → AreLessened s t
 are-lessened [] s t apart f = record {
   more = [];
   is = ap (λ (x : Stopped). x.stopped) f ∙ sym (append-nil s.stopped);
@@ -143,7 +154,8 @@ are-lessened (a ∷ gone) s t apart f =
       more = if_done f.1.done a ++ rest.more;
       is = rest.is ∙ ap (λ xs. xs ++ rest.more) f.1.stopped ∙ append_assoc s.stopped (if_done f.1.done a) rest.more;
       names = rest.names ∙ names;
-      answer = λ x answers. subst (λ (y : Answer). Answers t.course.reps y) (sym (less_then (if_done f.1.done a) rest.more x))
+      answer = λ x answers. subst (λ (y : Answer). Answers t.course.reps y)
+          (sym (less_then (if_done f.1.done a) rest.more x))
           (rest.answer (less_all (if_done f.1.done a) x)
           (gone_if f.1.stops.reached f.1.done a s.course.reps f.0.course.reps x apart' f.1.stops.stops answers));
     }
@@ -152,7 +164,8 @@ are-lessened (a ∷ gone) s t apart f =
 abbrev pub IsSoundAs : List ℕ → Answer → Type 0
 IsSoundAs cell x = IsAnswerOf (record { cell = cell; joined = None }) x
 
-sound_with : (cell : List ℕ) (i : Instance) (x : Answer) → IsSoundAs cell x → IsSoundAs cell (answer_with x (others i x.containers))
+sound_with : (cell : List ℕ) (i : Instance) (x : Answer) → IsSoundAs cell x
+    → IsSoundAs cell (answer_with x (others i x.containers))
 sound_with cell i x h = record {
   cell = h.cell;
   rising = IsRising-filter nat_cmp number_of (λ c. not (is_same_instance i c.instance)) x.containers h.rising;

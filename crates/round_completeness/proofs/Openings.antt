@@ -39,10 +39,12 @@ record IsKnown (cells : List CellRep) (gone : List (List ℕ × Instance)) (x : 
   sound : IsSoundAs x.cell x
   answers : Answers cells (less_all gone x)
 
-hears_so : (cells : List CellRep) (gone : List (List ℕ × Instance)) (x : Answer) (o : Option Answer) → StandApart (names_of cells)
+hears_so : (cells : List CellRep) (gone : List (List ℕ × Instance)) (x : Answer) (o : Option Answer)
+    → StandApart (names_of cells)
     → IsKnown cells gone x → Hears cells x.cell x.epoch o → o ≡ Some (less_all gone x)
 hears_so cells gone x (Some y) apart k h =
-    sym h.answers ∙ k.answers h.place h.rep (subst (λ n. StandsFor cells n h.place h.rep) (sym (cell_of_all gone x)) h.stands)
+    sym h.answers ∙ k.answers h.place h.rep (subst (λ n. StandsFor cells n h.place h.rep)
+    (sym (cell_of_all gone x)) h.stands)
 hears_so cells gone x None apart k h =
     let m = from_map (λ (r : CellRep). r.cell) cells x.cell k.there in
     let stands : StandsFor cells x.cell m.1.0 m.0 = record { within = m.1.1; is = sym m.1.2; cell_is = m.2 } in
@@ -52,7 +54,8 @@ hears_so cells gone x None apart k h =
       stands = stands;
       answers = k.answers m.1.0 m.0 (subst (λ n. StandsFor cells n m.1.0 m.0) (sym (cell_of_all gone x)) stands);
       epoch_is = epoch_of_all gone x;
-      sound = sound_as (record { cell = x.cell; joined = None }) m.0 (less_all gone x) (sym m.2) (sound_all x.cell gone x k.sound);
+      sound = sound_as (record { cell = x.cell; joined = None }) m.0 (less_all gone x) (sym m.2)
+          (sound_all x.cell gone x k.sound);
     }))
 
 opens_if : (b : Bool) (cells : List CellRep) (gone : List (List ℕ × Instance)) (x : Answer) (o : Option Answer)
@@ -65,12 +68,14 @@ listed : {X : Type 0} (o : Option X) (xs : List X) → option_to_list o ++ xs �
 listed None xs = refl
 listed (Some x) xs = refl
 
-opens-so : (rows : Rows) (cells : List CellRep) (gone : List (List ℕ × Instance)) (got s t : List Answer) → StandApart (names_of cells)
+opens-so : (rows : Rows) (cells : List CellRep) (gone : List (List ℕ × Instance)) (got s t : List Answer)
+    → StandApart (names_of cells)
     → ((x : Answer) → Contains got x → IsKnown cells gone x)
     → Each (OpensOne rows cells) got s t → t ≡ s ++ filter_map (left_open rows gone) got
 opens-so rows cells gone [] s t apart known f = f ∙ sym (append-nil s)
 opens-so rows cells gone (x ∷ got) s t apart known f =
-    let one = opens_if (is_being_emptied rows x.cell) cells gone x f.1.now apart (known x (inside_first x got)) f.1.opens in
+    let one = opens_if (is_being_emptied rows x.cell) cells gone x f.1.now apart
+    (known x (inside_first x got)) f.1.opens in
     opens-so rows cells gone got f.0 t apart (λ y inside. known y (inside_rest y x got inside)) f.2
     ∙ ap (λ xs. xs ++ filter_map (left_open rows gone) got) f.1.more
     ∙ append_assoc s (option_to_list f.1.now) (filter_map (left_open rows gone) got)
@@ -89,7 +94,8 @@ what-is-left by now line s s' r h apart =
     let rows = rows_seen h.opened.view in
     let l = are-lessened (strays (rows_seen h.opens.third) got) (so_far (stops_at h.opens.wire s.reps) [])
     (so_far (stops_at h.opened.wire h.opened.reps) h.opens.stops.stopped) apart h.opens.stopped.each in
-    let heard = are-heard s.reps (present (rows_seen h.opens.first) now) (questions s.wire []) (questions h.opens.wire got)
+    let heard = are-heard s.reps (present (rows_seen h.opens.first) now) (questions s.wire [])
+    (questions h.opens.wire got)
     h.opens.heard.got in
     let stopped : l.more ≡ r.stopped = sym (h.reports.stopped ∙ h.opens.stopped_is ∙ l.is) in
     subst (λ gone. h.opening_is.places.roomy ≡ filter_map (left_open rows gone) got) stopped

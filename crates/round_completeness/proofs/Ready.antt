@@ -23,13 +23,15 @@ use Rattle.round_completeness.proofs.Auctions.{have-room}
 use Rattle.round_completeness.proofs.CellsFit.{HasAnswered, has-answered, serves-fit}
 
 -- stops keep the names of the reps
-names_kept : (gone : List (List ℕ × Instance)) (s t : Stopped) → Each StopsOne gone s t → names_of t.course.reps ≡ names_of s.course.reps
+names_kept : (gone : List (List ℕ × Instance)) (s t : Stopped) → Each StopsOne gone s t
+    → names_of t.course.reps ≡ names_of s.course.reps
 names_kept [] s t f = ap (λ (x : Stopped). names_of x.course.reps) f
 names_kept (a ∷ gone) s t f =
     names_kept gone f.0 t f.2 ∙ names_after f.1.stops.reached f.1.done a s.course.reps f.0.course.reps f.1.stops.stops
 
 -- each has a rep that stands as it answered, and finds room for its jobs
-pub record AreReady (by : ℕ) (now : Moment) (line : ℕ) (s s' : Standing) (r : Report) (h : IsRound by now line s s' r) : Type 0 where
+pub record AreReady (by : ℕ) (now : Moment) (line : ℕ) (s s' : Standing) (r : Report)
+    (h : IsRound by now line s s' r) : Type 0 where
   pub differ : Differ (map (λ (x : Answer). x.cell) h.opening_is.places.roomy)
   pub have : (x : Answer) → Contains h.opening_is.places.roomy x → Contains (names_of h.opened.reps) x.cell
   pub has : (x : Answer) → Contains h.opening_is.places.roomy x → HasAnswered h.opened.reps x
@@ -47,12 +49,14 @@ are-ready by now line s s' r h apart =
     names_kept (strays (rows_seen h.opens.third) got) (so_far (stops_at h.opens.wire s.reps) [])
     (so_far (stops_at h.opened.wire h.opened.reps) h.opens.stops.stopped) h.opens.stopped.each in
     let differ : StandApart (names_of h.opened.reps) = subst StandApart (sym names) apart in
-    let answers : AreAnswers p.roomy = open_answers rows h.opened.reps got p.roomy h.opens.heard.apart placed.open_are in
+    let answers : AreAnswers p.roomy = open_answers rows h.opened.reps got p.roomy h.opens.heard.apart placed.open_are
+    in
     record {
       differ = differ_pairs (map (λ (x : Answer). x.cell) p.roomy) answers.differ;
       have = λ x inside.
           let y = is-roomy rows h.opened.reps got p.roomy x placed.open_are inside in
-          subst (Contains (names_of h.opened.reps)) (sym (heard_cell h.opened.reps y.answer.cell y.answer.epoch x y.heard))
+          subst (Contains (names_of h.opened.reps)) (sym (heard_cell h.opened.reps y.answer.cell y.answer.epoch x
+          y.heard))
           (heard_named h.opened.reps y.answer.cell y.answer.epoch x y.heard);
       has = λ x inside.
           let y = is-roomy rows h.opened.reps got p.roomy x placed.open_are inside in

@@ -39,7 +39,8 @@ pub record IsFreeOn (free : Amounts) (cell : List ℕ) (rep : CellRep) : Type 0 
   pub free_is : IsFree free rep.joined
 
 -- the end of a claim leaves the rep as it is, or without the container
-by_end : (P : CellRep → Type 0) (n : JobName) (cell : List ℕ) (i : Instance) (e : CallEnd) (rep : CellRep) → P rep → P (without rep i)
+by_end : (P : CellRep → Type 0) (n : JobName) (cell : List ℕ) (i : Instance) (e : CallEnd) (rep : CellRep) → P rep
+    → P (without rep i)
     → P (left (claim_op cell n i) e rep)
 by_end P (name.Lrp key) cell i (Got (reply.Ok place stamp)) rep h g = h
 by_end P (name.Lrp key) cell i (Got (reply.Same place)) rep h g = h
@@ -62,15 +63,18 @@ was_called by v w c (Local why) h = absurd h
 was_called by v w c Idle h = absurd h
 
 -- the start wasn't declined, its call ended as the wire tells, and it left the rest
-pub record IsFitted (free : Amounts) (job : Job) (rep : CellRep) (wire : WireAt) (a : Called) (rep' : CellRep) : Type 0 where
+pub record IsFitted (free : Amounts) (job : Job) (rep : CellRep) (wire : WireAt) (a : Called)
+    (rep' : CellRep) : Type 0 where
   pub calls : declined_end a.end ≡ 0
   pub fits : EndFits (end_now wire.ends rep.cell) a.end
   pub rest : IsFreeOn (less free job) rep.cell rep'
 
-module _ (by : ℕ) (now : Moment) (job : Job) (s s' : Serving) (wire : WireAt) (a : Called) (ended : HasNoFault a.end) (free : Amounts)
+module _ (by : ℕ) (now : Moment) (job : Job) (s s' : Serving) (wire : WireAt) (a : Called) (ended : HasNoFault a.end)
+    (free : Amounts)
     (room : FindsRoom free job) where
   fits_joined : (o : Option Joined) → IsFree free o
-      → Follows by s.rep.cell wire.ends (job_todo job now s.rep.cell o ∷ []) (job_begun job s.rep o) s.view (a ∷ []) s'.rep s'.view
+      → Follows by s.rep.cell wire.ends (job_todo job now s.rep.cell o ∷ []) (job_begun job s.rep o) s.view
+      (a ∷ []) s'.rep s'.view
       → IsFitted free job s.rep wire a s'.rep
   fits_joined None is h = absurd is
   fits_joined (Some j) is h =
@@ -78,8 +82,10 @@ module _ (by : ℕ) (now : Moment) (job : Job) (s s' : Serving) (wire : WireAt) 
       let c = at now (claim_op s.rep.cell job.job (next_of j.store)) in
       let rep = with_store s.rep j (reserved j.store job.job job.memory job.disk) in
       let made = subst (λ (x : Result StoreView StoreRefusal).
-      Follows by s.rep.cell wire.ends (claim_todo now (λ d. claim_op s.rep.cell job.job d.instance) (claimed_next n x) ∷ [])
-      (with_store s.rep j (store_claimed j.store (claimed_next n x))) s.view (a ∷ []) s'.rep s'.view) (room_made free job j.store is room) h in
+      Follows by s.rep.cell wire.ends (claim_todo now (λ d. claim_op s.rep.cell job.job d.instance) (claimed_next n x)
+      ∷ [])
+      (with_store s.rep j (store_claimed j.store (claimed_next n x))) s.view (a ∷ []) s'.rep s'.view)
+      (room_made free job j.store is room) h in
       record {
         calls = was_called by s.view made.0 c a.end made.2.1;
         fits = made.2.0;
@@ -96,16 +102,19 @@ module _ (by : ℕ) (now : Moment) (job : Job) (s s' : Serving) (wire : WireAt) 
   first_of x y e = cc
 
   pub fits_started : IsFree free s.rep.joined
-      → IsStarted by job now (stage s.rep s.view wire.ends wire.losses []) (stage s'.rep s'.view s'.wire.ends s'.wire.losses (a ∷ []))
+      → IsStarted by job now (stage s.rep s.view wire.ends wire.losses [])
+      (stage s'.rep s'.view s'.wire.ends s'.wire.losses (a ∷ []))
       → IsFitted free job s.rep wire a s'.rep
   fits_started is h = ⊎_elim
       (λ p. fits_joined s.rep.joined is
-      (subst (λ out. Follows by s.rep.cell wire.ends (job_todo job now s.rep.cell s.rep.joined ∷ []) (job_begun job s.rep s.rep.joined)
+      (subst (λ out. Follows by s.rep.cell wire.ends (job_todo job now s.rep.cell s.rep.joined ∷ [])
+      (job_begun job s.rep s.rep.joined)
       s.view out s'.rep s'.view) (sym p.out_is) p.follows))
       (λ e. absurd (subst (λ (x : Called). HasNoFault x.end) (first_of a starved (ap (λ (x : Stage). x.out) e)) ended))
       h
 
-pub fits_if : (b : Bool) (by : ℕ) (now : Moment) (job : Job) (wire : WireAt) (s s' : Serving) (h : TakesIf b by now job wire s s')
+pub fits_if : (b : Bool) (by : ℕ) (now : Moment) (job : Job) (wire : WireAt) (s s' : Serving)
+    (h : TakesIf b by now job wire s s')
     (free : Amounts) → FindsRoom free job → IsFree free s.rep.joined
     → (declined_if b by now job wire s s' h ≡ 0) × IsFreeOn (less free job) s.rep.cell s'.rep
 fits_if true by now job wire s s' h free room is =
@@ -118,7 +127,8 @@ fits_if false by now job wire s s' h free room is = (
 )
 
 -- starts that find room, one after another
-pub starts-fit : (by : ℕ) (now : Moment) (jobs : List Job) (s s' : Serving) (f : Each (StartsOne by now) jobs s s') (free : Amounts)
+pub starts-fit : (by : ℕ) (now : Moment) (jobs : List Job) (s s' : Serving) (f : Each (StartsOne by now) jobs s s')
+    (free : Amounts)
     → AllFindRoom free jobs → IsFree free s.rep.joined
     → (declined_on by now jobs s s' f ≡ 0) × (s'.rep.cell ≡ s.rep.cell)
 starts-fit by now [] s s' f free room is = (refl, ap (λ (x : Serving). x.rep.cell) f)

@@ -63,14 +63,16 @@ answered_lost (Some c) r t = lost_noted c r t
 abbrev one_if : Delivery → ℕ
 one_if d = cond (not (is_delivery_lost d)) 0 1
 
-end_counted : (o : Option Command) (e : CallEnd) (t : Tally) (d : Delivery) → HasNoFault e → declined_end e ≡ 0 → EndFits (Some d) e
+end_counted : (o : Option Command) (e : CallEnd) (t : Tally) (d : Delivery) → HasNoFault e → declined_end e ≡ 0
+    → EndFits (Some d) e
     → IsCounted (one_if d) t.lost (counted o e t).lost
 end_counted o (Got r) t d fine calls fits =
     subst (λ (x : Delivery). IsCounted (one_if x) t.lost (counted o (Got r) t).lost) (sym fits)
     (counted_none t.lost (answered o r t).lost (answered_lost o r t))
 end_counted o (Fault why) t d fine calls fits = absurd fine
 end_counted o CallLost t d fine calls fits =
-    subst (λ (x : Delivery). IsCounted (one_if x) t.lost (counted o CallLost t).lost) (sym fits) (counted_one t.lost (lost_one t).lost refl)
+    subst (λ (x : Delivery). IsCounted (one_if x) t.lost (counted o CallLost t).lost) (sym fits)
+    (counted_one t.lost (lost_one t).lost refl)
 end_counted o (ReplyLost (Ok r)) t d fine calls fits =
     subst (λ (x : Delivery). IsCounted (one_if x) t.lost (counted o (ReplyLost (Ok r)) t).lost) (sym fits)
     (counted_one t.lost (answered o r (lost_one t)).lost (answered_lost o r (lost_one t)))
@@ -85,12 +87,15 @@ one_unless ends cell b = cond (b && gets_through ends cell Board) 0 1
 first_of : (x y : Called) → x ∷ [] ≡ y ∷ [] → x ≡ y
 first_of x y e = cc
 
-tells_started : (ends : WireEnds) (by : ℕ) (now : Moment) (job : Job) (w : WireAt) (s s' : Serving) (a : Called) → HasNoFault a.end
+tells_started : (ends : WireEnds) (by : ℕ) (now : Moment) (job : Job) (w : WireAt) (s s' : Serving) (a : Called)
+    → HasNoFault a.end
     → Tells ends w.ends
-    → IsStarted by job now (stage s.rep s.view w.ends w.losses []) (stage s'.rep s'.view s'.wire.ends s'.wire.losses (a ∷ []))
+    → IsStarted by job now (stage s.rep s.view w.ends w.losses [])
+    (stage s'.rep s'.view s'.wire.ends s'.wire.losses (a ∷ []))
     → Tells ends s'.wire.ends
 tells_started ends by now job w s s' a ended tells h = ⊎_elim
-    (λ p. subst (Tells ends) (sym p.ends_are) (tells_moved ends (job_todo job now s.rep.cell s.rep.joined) w.ends tells))
+    (λ p. subst (Tells ends) (sym p.ends_are) (tells_moved ends
+    (job_todo job now s.rep.cell s.rep.joined) w.ends tells))
     (λ e. absurd (subst (λ (x : Called). HasNoFault x.end) (first_of a starved (ap (λ (x : Stage). x.out) e)) ended))
     h
 
@@ -127,7 +132,8 @@ starts_counted : (ends : WireEnds) (cell : List ℕ) (by : ℕ) (now : Moment) (
     → IsFree free s.rep.joined → s.rep.cell ≡ cell → Tells ends s.wire.ends
     → IsCounted (all_unless ends cell (length jobs)) s.tally.lost s'.tally.lost × Tells ends s'.wire.ends
 starts_counted ends cell by now [] s s' f free room is names tells = (
-  subst (λ (n : ℕ). IsCounted n s.tally.lost s'.tally.lost) (sym (none_of (gets_through ends cell Start && gets_through ends cell Board)))
+  subst (λ (n : ℕ). IsCounted n s.tally.lost s'.tally.lost)
+      (sym (none_of (gets_through ends cell Start && gets_through ends cell Board)))
       (counted_none s.tally.lost s'.tally.lost (ap (λ (x : Serving). x.tally.lost) f)),
   subst (λ (x : Serving). Tells ends x.wire.ends) (sym f) tells,
 )
@@ -138,10 +144,13 @@ starts_counted ends cell by now (job ∷ jobs) s s' f free room is names tells =
     let here : IsCounted (all_unless ends cell 1) s.tally.lost f.0.tally.lost =
     subst (λ (c : List ℕ). IsCounted (all_unless ends c 1) s.tally.lost f.0.tally.lost) names
     (subst (λ (b : Bool). IsCounted (one_unless ends s.rep.cell b) s.tally.lost f.0.tally.lost) w.0 one.0) in
-    let rest = starts_counted ends cell by now jobs f.0 s' f.2 (less free job) room.1 fit.1.free_is (fit.1.cell_is ∙ names) one.1 in (
+    let rest = starts_counted ends cell by now jobs f.0 s' f.2 (less free job) room.1 fit.1.free_is
+    (fit.1.cell_is ∙ names) one.1 in (
       subst (λ (n : ℕ). IsCounted n s.tally.lost s'.tally.lost)
-          (one_more_of (gets_through ends cell Start && gets_through ends cell Board) (length jobs) ∙ ap (all_unless ends cell) (omega arith))
-          (counted_then (all_unless ends cell 1) (all_unless ends cell (length jobs)) s.tally.lost f.0.tally.lost s'.tally.lost here
+          (one_more_of (gets_through ends cell Start && gets_through ends cell Board) (length jobs) ∙ ap
+          (all_unless ends cell) (omega arith))
+          (counted_then (all_unless ends cell 1) (all_unless ends cell (length jobs)) s.tally.lost f.0.tally.lost
+          s'.tally.lost here
           rest.0),
       rest.1,
     )
@@ -152,9 +161,11 @@ record IsServedSo (ends : WireEnds) (n : ℕ) (s m : Course) : Type 0 where
   tells : Tells ends m.wire.ends
   names : names_of m.reps ≡ names_of s.reps
 
-serve_counted : (ends : WireEnds) (by : ℕ) (now : Moment) (p : Places) (x : Answer) (s m : Course) → ServesOne by now p x s m
+serve_counted : (ends : WireEnds) (by : ℕ) (now : Moment) (p : Places) (x : Answer) (s m : Course)
+    → ServesOne by now p x s m
     → Contains (names_of s.reps) x.cell → HasAnswered s.reps x
-    → AllFindRoom x.free (jobs_on p.rows p.placements x.cell) → Tells ends s.wire.ends → IsServedSo ends (starts_lost ends p x) s m
+    → AllFindRoom x.free (jobs_on p.rows p.placements x.cell) → Tells ends s.wire.ends
+    → IsServedSo ends (starts_lost ends p x) s m
 serve_counted ends by now p x s m (inl c) have has room tells =
     let jobs = jobs_on p.rows p.placements x.cell in
     let from = serving c.rep s.view s.tally s.wire in
@@ -174,7 +185,8 @@ pub record AreServedSo (ends : WireEnds) (n : ℕ) (s s' : Course) : Type 0 wher
 
 pub serves-so : (ends : WireEnds) (by : ℕ) (now : Moment) (p : Places) (xs : List Answer) (s s' : Course)
     → Each (ServesOne by now p) xs s s' → Differ (map (λ (x : Answer). x.cell) xs)
-    → ((x : Answer) → Contains xs x → Contains (names_of s.reps) x.cell) → ((x : Answer) → Contains xs x → HasAnswered s.reps x)
+    → ((x : Answer) → Contains xs x → Contains (names_of s.reps) x.cell)
+    → ((x : Answer) → Contains xs x → HasAnswered s.reps x)
     → ((x : Answer) → Contains xs x → AllFindRoom x.free (jobs_on p.rows p.placements x.cell)) → Tells ends s.wire.ends
     → AreServedSo ends (sum_by (starts_lost ends p) xs) s s'
 serves-so ends by now p [] s s' f differ have has room tells =
@@ -185,8 +197,13 @@ serves-so ends by now p (x ∷ xs) s s' f differ have has room tells =
     let fits = serve_fits by now p x s f.0 f.1 (has x first) (room x first) in
     let rest = serves-so ends by now p xs f.0 s' f.2 differ.1
     (λ y inside. subst (λ ns. Contains ns y.cell) (sym one.names) (have y (inside_rest y x xs inside)))
-    (λ y inside. fits.1 y (differ.0 y.cell (inside_map (λ (z : Answer). z.cell) xs y inside)) (has y (inside_rest y x xs inside)))
+    (λ y inside. fits.1 y (differ.0 y.cell (inside_map (λ (z : Answer). z.cell) xs y inside))
+    (has y (inside_rest y x xs inside)))
     (λ y inside. room y (inside_rest y x xs inside)) one.tells in
-    let both = counted_then (starts_lost ends p x) (sum_by (starts_lost ends p) xs) s.tally.lost f.0.tally.lost s'.tally.lost one.counts
+    let both = counted_then (starts_lost ends p x) (sum_by (starts_lost ends p) xs) s.tally.lost f.0.tally.lost
+    s'.tally.lost one.counts
     rest.counts in
-    record { counts = subst (λ (n : ℕ). IsCounted n s.tally.lost s'.tally.lost) (sym (sum_by-cons (starts_lost ends p) x xs)) both }
+    record {
+      counts = subst (λ (n : ℕ). IsCounted n s.tally.lost s'.tally.lost)
+          (sym (sum_by-cons (starts_lost ends p) x xs)) both;
+    }

@@ -35,7 +35,8 @@ record IsTaken (job : Job) (s s' : StoreView) : Type 0 where
   slots : length s'.containers ≤ length s.containers + 1
   last : s'.last ≤ s.last + 1
 
-amount_left : (total now used used' free part : ℕ) → now ≡ total → used' ≤ used + part → free ≤ total - used → free - part ≤ now - used'
+amount_left : (total now used used' free part : ℕ) → now ≡ total → used' ≤ used + part → free ≤ total - used
+    → free - part ≤ now - used'
 amount_left total now used used' free part same u f = omega (arith, same, u, f)
 
 slots_left : (total now held held' last last' free : ℕ) → now ≡ total → held' ≤ held + 1 → last' ≤ last + 1
@@ -47,9 +48,11 @@ left_free : (free : Amounts) (job : Job) (s s' : StoreView) → IsTaken job s s'
 left_free free job s s' t w = record {
   memory = amount_left s.totals.memory s'.totals.memory (used_memory s) (used_memory s') free.memory job.memory
       (ap (λ (a : Amounts). a.memory) t.totals) t.memory w.memory;
-  disk = amount_left s.totals.disk s'.totals.disk (used_disk s) (used_disk s') free.disk job.disk (ap (λ (a : Amounts). a.disk) t.totals)
+  disk = amount_left s.totals.disk s'.totals.disk (used_disk s) (used_disk s') free.disk job.disk
+      (ap (λ (a : Amounts). a.disk) t.totals)
       t.disk w.disk;
-  containers = slots_left s.totals.containers s'.totals.containers (length s.containers) (length s'.containers) s.last s'.last
+  containers = slots_left s.totals.containers s'.totals.containers (length s.containers)
+      (length s'.containers) s.last s'.last
       free.containers
       (ap (λ (a : Amounts). a.containers) t.totals) t.slots t.last w.containers;
 }
@@ -108,7 +111,8 @@ room_made free job s w f =
     (no_less (free_of s).memory job.memory (omega (arith, w.memory, f.memory)))
     ∙ ap (λ (b : Bool). cond b (Err NoDiskLeft) (cond (eqb (free_of s).containers 0) (Err NoSlot) done))
     (no_less (free_of s).disk job.disk (omega (arith, w.disk, f.disk)))
-    ∙ ap (λ (b : Bool). cond b (Err NoSlot) done) (not_none (free_of s).containers (omega (arith, w.containers, f.container)))
+    ∙ ap (λ (b : Bool). cond b (Err NoSlot) done) (not_none (free_of s).containers
+    (omega (arith, w.containers, f.container)))
 
 -- a cell has joined, and has at least so much free
 abbrev pub IsFree : Amounts → Option Joined → Type 0
@@ -124,14 +128,17 @@ pub held_free : (free : Amounts) (job : Job) (s : StoreView) → IsWithin free (
     → IsWithin (less free job) (free_of (reserved s job.job job.memory job.disk))
 held_free free job s w = left_free free job s (reserved s job.job job.memory job.disk) (reserved_taken job s) w
 
-pub gone_free : (free : Amounts) (job : Job) (rep : CellRep) (j : Joined) (i : Instance) → IsWithin free (free_of j.store)
+pub gone_free : (free : Amounts) (job : Job) (rep : CellRep) (j : Joined) (i : Instance)
+    → IsWithin free (free_of j.store)
     → IsFree (less free job) (without (with_store rep j (reserved j.store job.job job.memory job.disk)) i).joined
 gone_free free job rep j i w =
     let store = reserved j.store job.job job.memory job.disk in
     let now = with_store rep j store in
     elim (find_container i store.containers) as
     (λ (o : Option Container). IsFree (less free job)
-    (result_unwrap_or (store_result now (record j { store = store }) (if_held o (λ c. Ok (without_container store i)))) now).joined) [
+    (result_unwrap_or (store_result now (record j { store = store }) (if_held o (λ c. Ok (without_container store i))))
+    now).joined) [
       | None ↦ held_free free job j.store w
-      | (Some c) ↦ left_free free job j.store (without_container store i) (removed_taken job j.store store i (reserved_taken job j.store)) w
+      | (Some c) ↦ left_free free job j.store (without_container store i)
+          (removed_taken job j.store store i (reserved_taken job j.store)) w
     ]

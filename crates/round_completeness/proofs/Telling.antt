@@ -31,7 +31,8 @@ abbrev pub Tells : WireEnds → Option WireEnds → Type 0
 Tells ends None = ⊥
 Tells ends (Some e) = (c : WireCall) (n : ℕ) → e c n ≡ ends c 0
 
-delivers_so : (ends : WireEnds) (o o' : Option WireEnds) (call : WireCall) (d : Delivery) → Tells ends o → Delivers o o' call d
+delivers_so : (ends : WireEnds) (o o' : Option WireEnds) (call : WireCall) (d : Delivery) → Tells ends o
+    → Delivers o o' call d
     → (d ≡ ends call 0) × Tells ends o'
 delivers_so ends None o' call d t h = absurd t
 delivers_so ends (Some e) None call d t h = absurd h
@@ -51,10 +52,12 @@ tells_moved ends (todo.Call c) (Some e) h = λ call n. h call (n + 1)
 tells_moved ends todo.Idle (Some e) h = h
 tells_moved ends (todo.Local why) (Some e) h = h
 
-pub fits_told : (ends : WireEnds) (o : Option WireEnds) (cell : List ℕ) (e : CallEnd) → Tells ends o → EndFits (end_now o cell) e
+pub fits_told : (ends : WireEnds) (o : Option WireEnds) (cell : List ℕ) (e : CallEnd) → Tells ends o
+    → EndFits (end_now o cell) e
     → EndFits (Some (ends (record { actor = cell; kind = Board }) 0)) e
 fits_told ends None cell e t h = absurd t
-fits_told ends (Some x) cell e t h = subst (λ (d : Delivery). EndFits (Some d) e) (t (record { actor = cell; kind = Board }) 0) h
+fits_told ends (Some x) cell e t h = subst (λ (d : Delivery). EndFits (Some d) e)
+    (t (record { actor = cell; kind = Board }) 0) h
 
 -- the questions
 pub record AreAskedSo (ends : WireEnds) (reps : List CellRep) (cs : List CellRow) (s t : Asking) : Type 0 where
@@ -77,7 +80,14 @@ asks-so ends reps (c ∷ cs) s t tells f =
     record {
       more = option_to_list f.1.answer ++ rest.more;
       is = rest.is ∙ ap (λ xs. xs ++ rest.more) f.1.got ∙ append_assoc s.got (option_to_list f.1.answer) rest.more;
-      heard = (f.1.answer, rest.more, refl, subst (λ (b : Bool). HearsIf b reps c.cell c.epoch f.1.answer) w.0 f.1.asked.heard, rest.heard);
+      heard = (
+        f.1.answer,
+        rest.more,
+        refl,
+        subst (λ (b : Bool). HearsIf b reps c.cell c.epoch f.1.answer) w.0
+            f.1.asked.heard,
+        rest.heard,
+      );
       tells = rest.tells;
     }
 
@@ -85,7 +95,8 @@ asks-so ends reps (c ∷ cs) s t tells f =
 abbrev Stray : Type 0
 Stray = List ℕ × Instance
 
-done_so : (reached done : Bool) (a : Stray) (reps reps' : List CellRep) → Contains (names_of reps) a.0 → StopsIf reached done a reps reps'
+done_so : (reached done : Bool) (a : Stray) (reps reps' : List CellRep) → Contains (names_of reps) a.0
+    → StopsIf reached done a reps reps'
     → done ≡ reached
 done_so true true a reps reps' have h = refl
 done_so true false a reps reps' have h = absurd (h.0 have)
@@ -109,9 +120,11 @@ stops-so ends [] s t tells have f = record {
 }
 stops-so ends (a ∷ gone) s t tells have f =
     let w = sent_so ends a.0 Stop f.1.stops.reached s.course.wire f.0.course.wire tells f.1.stops.sent in
-    let done = done_so f.1.stops.reached f.1.done a s.course.reps f.0.course.reps (have a (inside_first a gone)) f.1.stops.stops ∙ w.0 in
+    let done = done_so f.1.stops.reached f.1.done a s.course.reps f.0.course.reps
+    (have a (inside_first a gone)) f.1.stops.stops ∙ w.0 in
     let names = names_after f.1.stops.reached f.1.done a s.course.reps f.0.course.reps f.1.stops.stops in
-    let rest = stops-so ends gone f.0 t w.1 (λ b inside. subst (λ ns. Contains ns b.0) (sym names) (have b (inside_rest b a gone inside)))
+    let rest = stops-so ends gone f.0 t w.1 (λ b inside. subst (λ ns. Contains ns b.0) (sym names)
+    (have b (inside_rest b a gone inside)))
     f.2 in
     record {
       is = rest.is ∙ ap (λ xs. xs ++ filter (is_stopped ends) gone) f.1.stopped

@@ -29,14 +29,17 @@ use Rattle.round_completeness.proofs.ByEnds.{by-ends}
 use Rattle.round_completeness.proofs.Ready.{decline-none}
 
 -- each cell that has an answer is heard, unless its question was lost
-heard_if : (b : Bool) (cells : List CellRep) (c : CellRow) (o : Option Answer) → StandApart (names_of cells) → (a : Answer)
+heard_if : (b : Bool) (cells : List CellRep) (c : CellRow) (o : Option Answer) → StandApart (names_of cells)
+    → (a : Answer)
     → IsHeardFrom cells c.cell c.epoch a → HearsIf b cells c.cell c.epoch o → mute_if b o ≡ 0
 heard_if true cells c None apart a heard h = absurd (h apart a heard)
 heard_if true cells c (Some x) apart a heard h = refl
 heard_if false cells c o apart a heard h = refl
 
-mute_none : (cells : List CellRep) (cs : List CellRow) (s t : Asking) (f : Each (AsksOne cells) cs s t) → StandApart (names_of cells)
-    → ((c : CellRow) → Contains cs c → (a : Answer) × IsHeardFrom cells c.cell c.epoch a) → mute_among cells cs s t f ≡ 0
+mute_none : (cells : List CellRep) (cs : List CellRow) (s t : Asking) (f : Each (AsksOne cells) cs s t)
+    → StandApart (names_of cells)
+    → ((c : CellRow) → Contains cs c → (a : Answer) × IsHeardFrom cells c.cell c.epoch a)
+    → mute_among cells cs s t f ≡ 0
 mute_none cells [] s t f apart answers = refl
 mute_none cells (c ∷ cs) s t f apart answers =
     let a = answers c (inside_first c cs) in
@@ -47,7 +50,8 @@ mute_none cells (c ∷ cs) s t f apart answers =
 none-mute : (by : ℕ) (now : Moment) (line : ℕ) (s s' : Standing) (r : Report) (h : IsRound by now line s s' r)
     → IsUndisturbed by now line s s' r h → mute_of by now line s s' r h ≡ 0
 none-mute by now line s s' r h u =
-    mute_none s.reps (present (rows_seen h.opens.first) now) (questions s.wire []) (questions h.opens.wire h.opens.hearing.got)
+    mute_none s.reps (present (rows_seen h.opens.first) now) (questions s.wire [])
+    (questions h.opens.wire h.opens.hearing.got)
     h.opens.heard.got u.names u.answer
 
 -- where all gets through, each of them is heard, all are stopped, and no start is lost
@@ -63,7 +67,8 @@ module _ (ends : WireEnds) (through : (cell : List ℕ) (kind : CallKind) → ge
   all_heard cells [] got apart answers h = ap length h
   all_heard cells (c ∷ cs) got apart answers h =
       let a = answers c (inside_first c cs) in
-      let one = heard_some cells c h.0 apart a.0 a.1 (subst (λ (b : Bool). HearsIf b cells c.cell c.epoch h.0) (through c.cell Ask) h.3) in
+      let one = heard_some cells c h.0 apart a.0 a.1 (subst (λ (b : Bool). HearsIf b cells c.cell c.epoch h.0)
+      (through c.cell Ask) h.3) in
       let rest = all_heard cells cs h.1 apart (λ d inside. answers d (inside_rest d c cs inside)) h.4 in
       omega (arith, ap length h.2, length-append (option_to_list h.0) h.1, one, rest)
 
@@ -71,26 +76,38 @@ module _ (ends : WireEnds) (through : (cell : List ℕ) (kind : CallKind) → ge
   none_starts p [] = refl
   none_starts p (x ∷ xs) =
       let one : starts_lost ends p x ≡ 0 =
-      ap (λ (b : Bool). cond (b && gets_through ends x.cell Board) 0 (length (jobs_on p.rows p.placements x.cell))) (through x.cell Start)
+      ap (λ (b : Bool). cond (b && gets_through ends x.cell Board) 0 (length (jobs_on p.rows p.placements x.cell)))
+      (through x.cell Start)
       ∙ ap (λ (b : Bool). cond b 0 (length (jobs_on p.rows p.placements x.cell))) (through x.cell Board) in
       omega (arith, sum_by-cons (starts_lost ends p) x xs, one, none_starts p xs)
 
 all_kept : {X : Type 0} (p : X → Bool) (xs : List X) → ((x : X) → p x ≡ true) → length (filter p xs) ≡ length xs
 all_kept p [] h = refl
-all_kept p (x ∷ xs) h = ap (λ (b : Bool). length (cond b (x ∷ filter p xs) (filter p xs))) (h x) ∙ omega (arith, all_kept p xs h)
+all_kept p (x ∷ xs) h = ap (λ (b : Bool). length (cond b (x ∷ filter p xs) (filter p xs))) (h x) ∙ omega
+    (arith, all_kept p xs h)
 
 module _ (by : ℕ) (now : Moment) (line : ℕ) (s s' : Standing) (r : Report) (h : IsRound by now line s s' r)
     (u : IsUndisturbed by now line s s' r h) where
   none_by_count : IsCountSame s.wire s'.wire → r.lost ≡ 0
   none_by_count w =
       let c = has-causes by now line s s' r h in
-      omega (arith, c.lost, c.rose, w.stands, w.rises, none-mute by now line s s' r h u, decline-none by now line s s' r h u.names)
+      omega (
+        arith,
+        c.lost,
+        c.rose,
+        w.stands,
+        w.rises,
+        none-mute by now line s s' r h u,
+        decline-none by now line s s' r h u.names,
+      )
 
   none_by_ends : TellsThrough s.wire → r.lost ≡ 0
   none_by_ends w =
       let through : (cell : List ℕ) (kind : CallKind) → gets_through w.ends cell kind ≡ true =
-      λ cell kind. ap (λ (d : Delivery). not (is_delivery_lost d)) (w.through (record { actor = cell; kind = kind }) 0) in
-      let steady : IsSteady s.wire.ends = subst IsSteady (sym w.told) (λ call n. w.through call n ∙ sym (w.through call 0)) in
+      λ cell kind. ap (λ (d : Delivery). not (is_delivery_lost d))
+      (w.through (record { actor = cell; kind = kind }) 0) in
+      let steady : IsSteady s.wire.ends = subst IsSteady (sym w.told)
+      (λ call n. w.through call n ∙ sym (w.through call 0)) in
       let b = by-ends by now line s s' r h w.ends u.names w.told steady in
       let gone = strays (rows_seen h.opens.third) h.opens.hearing.got in
       omega (
@@ -99,7 +116,8 @@ module _ (by : ℕ) (now : Moment) (line : ℕ) (s s' : Standing) (r : Report) (
         h.reports.asked,
         h.opens.asked_is,
         h.opens.heard.asked,
-        all_heard w.ends through s.reps (present (rows_seen h.opens.first) now) h.opens.hearing.got u.names u.answer b.heard,
+        all_heard w.ends through s.reps (present (rows_seen h.opens.first) now) h.opens.hearing.got u.names u.answer
+            b.heard,
         ap length b.stopped,
         all_kept (is_stopped w.ends) gone (λ a. through a.0 Stop),
         none_starts w.ends through h.opening_is.places h.opening_is.places.roomy,
@@ -112,7 +130,8 @@ none_inside (x ∷ xs) h = absurd (h x (inside_first x xs))
 pub complete-round : RoundsThatNothingDisturbsAreComplete
 complete-round by now line s s' r h u = record {
   lost = ⊎_elim (none_by_count by now line s s' r h u) (none_by_ends by now line s s' r h u) u.wire;
-  refused = none_inside r.refused (λ x inside. u.room x inside (alone-refused by now line s s' r h u.names u.alone x inside));
+  refused = none_inside r.refused (λ x inside. u.room x inside
+      (alone-refused by now line s s' r h u.names u.alone x inside));
   placed = u.placed;
   alone = u.alone;
 }

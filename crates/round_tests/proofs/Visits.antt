@@ -39,7 +39,8 @@ abbrev sight : Rows → List Item → List Item → PortView
 sight base seen mine = record { base = base; seen = seen; mine = mine }
 
 -- of a log that grew by items of which these are its own the caller sees just that
-seen_more : (base base' : Rows) (log log' items own : List Item) → base' ≡ base → log' ≡ log ++ items → by_number 7 items ≡ own
+seen_more : (base base' : Rows) (log log' items own : List Item) → base' ≡ base → log' ≡ log ++ items
+    → by_number 7 items ≡ own
     → sight base' log' (by_number 7 log') ≡ sight base (log ++ items) (by_number 7 log ++ own)
 seen_more base base' log log' items own base_is log_is own_is =
     ap (λ (r : Rows). sight r log' (by_number 7 log')) base_is
@@ -48,7 +49,8 @@ seen_more base base' log log' items own base_is log_is own_is =
     (filter-append (λ (i : Item). by_of i == 7) log items ∙ ap (λ (xs : List Item). by_number 7 log ++ xs) own_is)
 
 module _ {D : Type 0} (v w : View D) (c : Command) (end : Result Reply CallFault) (moment : ℕ) where
-  pub visit_looks : Grows (is_done end) (added end 8 c) moment v w → length w.log < 2 ^ 64 → Looks (seen_of 7 v) (seen_of 7 w)
+  pub visit_looks : Grows (is_done end) (added end 8 c) moment v w → length w.log < 2 ^ 64
+      → Looks (seen_of 7 v) (seen_of 7 w)
   visit_looks grows few = record {
     others = added end 8 c;
     is = seen_more v.base w.base v.log w.log (added end 8 c) [] grows.base grows.log (none_added end c)
@@ -56,7 +58,8 @@ module _ {D : Type 0} (v w : View D) (c : Command) (end : Result Reply CallFault
     few = few;
   }
 
-  pub own_called : Ends (verdict_of (rows_of v) c) (length v.log) (rows_of v).next end → Grows (is_done end) (added end 7 c) moment v w
+  pub own_called : Ends (verdict_of (rows_of v) c) (length v.log) (rows_of v).next end
+      → Grows (is_done end) (added end 7 c) moment v w
       → length w.log < 2 ^ 64 → IsCalled 7 (seen_of 7 v) c end (seen_of 7 w)
   own_called ends grows few = called_alone 7 (seen_of 7 v) c end (seen_of 7 w) ends
       (seen_more v.base w.base v.log w.log (added end 7 c) (added end 7 c) grows.base grows.log (own_added end c)) few
@@ -68,10 +71,13 @@ called_behind v xs c end w h =
     let joined : (v.seen ++ xs) ++ h.others ≡ v.seen ++ (xs ++ h.others) = append_assoc v.seen xs h.others in
     record {
       others = xs ++ h.others;
-      ends = subst (λ (l : List Item). Ends (verdict_of (replay_log v.base l) c) (length l) (replay_log v.base l).next end) joined h.ends;
+      ends = subst (λ (l : List Item). Ends (verdict_of (replay_log v.base l) c) (length l)
+          (replay_log v.base l).next end) joined h.ends;
       is = h.is ∙ ap (λ (l : List Item). sight v.base (l ++ added end 7 c) (v.mine ++ added end 7 c)) joined;
       few = h.few;
     }
 
-pub looks_called : (v u : PortView) (c : Command) (end : Result Reply CallFault) (w : PortView) → Looks v u → IsCalled 7 u c end w → IsCalled 7 v c end w
-looks_called v u c end w looks called = called_behind v looks.others c end w (subst (λ (x : PortView). IsCalled 7 x c end w) looks.is called)
+pub looks_called : (v u : PortView) (c : Command) (end : Result Reply CallFault) (w : PortView) → Looks v u
+    → IsCalled 7 u c end w → IsCalled 7 v c end w
+looks_called v u c end w looks called = called_behind v looks.others c end w
+    (subst (λ (x : PortView). IsCalled 7 x c end w) looks.is called)

@@ -23,44 +23,57 @@ use Rattle.round_theorem.specs.Alone.{AreClaimsOn, AreClaims}
 use Rattle.round_theorem.proofs.Segments.{then-seen, after-seen, seen-grows}
 
 -- a claim of these jobs is one of a job of them
-claim_on_from : (now : Moment) (cell : List ℕ) (jobs : List Job) (n : ℕ) (cs : List Command) (c : Command) → AreClaimsOn now cell jobs n cs → Contains cs c → IsClaimOfOne now cell jobs c
+claim_on_from : (now : Moment) (cell : List ℕ) (jobs : List Job) (n : ℕ) (cs : List Command) (c : Command)
+    → AreClaimsOn now cell jobs n cs → Contains cs c → IsClaimOfOne now cell jobs c
 claim_on_from now cell [] n cs c h inside = absurd (omega (arith, (subst (λ xs. Contains xs c) h.1 inside).1))
 claim_on_from now cell (job ∷ jobs) n cs c (inl h) inside =
     let r = claim_on_from now cell jobs h.0 cs c h.2 inside in (r.0, inside_rest r.0 job jobs r.1, r.2)
 claim_on_from now cell (job ∷ jobs) n cs c (inr h) inside =
     ⊎_elim
     (λ (is : h.0 ≡ c). (job, inside_first job jobs, subst (IsClaim now cell job) is h.3))
-    (λ (rest : Contains h.1 c). let r = claim_on_from now cell jobs n h.1 c h.4 rest in (r.0, inside_rest r.0 job jobs r.1, r.2))
+    (λ (rest : Contains h.1 c). let r = claim_on_from now cell jobs n h.1 c h.4 rest in
+    (r.0, inside_rest r.0 job jobs r.1, r.2))
     (first_or_rest c h.0 h.1 (subst (λ xs. Contains xs c) h.2 inside))
 
-pub claim_from : (now : Moment) (rows : Rows) (list : List Placement) (xs : List Answer) (n : ℕ) (cs : List Command) (c : Command) → AreClaims now rows list xs n cs → Contains cs c
+pub claim_from : (now : Moment) (rows : Rows) (list : List Placement) (xs : List Answer) (n : ℕ) (cs : List Command)
+    (c : Command) → AreClaims now rows list xs n cs → Contains cs c
     → (x : Answer) × Contains xs x × IsClaimOfOne now x.cell (jobs_on rows list x.cell) c
 claim_from now rows list [] n cs c h inside = absurd (omega (arith, (subst (λ xs. Contains xs c) h.1 inside).1))
 claim_from now rows list (x ∷ xs) n cs c h inside =
     ⊎_elim
-    (λ (here : Contains h.2 c). (x, inside_first x xs, claim_on_from now x.cell (jobs_on rows list x.cell) h.0 h.2 c h.6 here))
-    (λ (later : Contains h.3 c). let r = claim_from now rows list xs h.1 h.3 c h.7 later in (r.0, inside_rest r.0 x xs r.1, r.2))
+    (λ (here : Contains h.2 c). (
+      x,
+      inside_first x xs,
+      claim_on_from now x.cell
+          (jobs_on rows list x.cell) h.0 h.2 c h.6 here,
+    ))
+    (λ (later : Contains h.3 c). let r = claim_from now rows list xs h.1 h.3 c h.7 later in
+    (r.0, inside_rest r.0 x xs r.1, r.2))
     (Contains-append_cases h.2 h.3 c (subst (λ ys. Contains ys c) h.5 inside))
 
 -- what was stopped is one of what was to be stopped
 done_is : (b : Bool) (a x : List ℕ × Instance) → Contains (if_done b a) x → a ≡ x
-done_is true a x inside = ⊎_elim (λ (is : a ≡ x). is) (λ (rest : Contains [] x). absurd (omega (arith, rest.1))) (first_or_rest x a [] inside)
+done_is true a x inside = ⊎_elim (λ (is : a ≡ x). is) (λ (rest : Contains [] x). absurd (omega (arith, rest.1)))
+    (first_or_rest x a [] inside)
 done_is false a x inside = absurd (omega (arith, inside.1))
 
-pub stopped_from : (strays : List (List ℕ × Instance)) (s t : Stopped) (x : List ℕ × Instance) → Each StopsOne strays s t → Contains t.stopped x → Contains s.stopped x ⊎ Contains strays x
+pub stopped_from : (strays : List (List ℕ × Instance)) (s t : Stopped) (x : List ℕ × Instance)
+    → Each StopsOne strays s t → Contains t.stopped x → Contains s.stopped x ⊎ Contains strays x
 stopped_from [] s t x f inside = inl (subst (λ (y : Stopped). Contains y.stopped x) f inside)
 stopped_from (a ∷ strays) s t x f inside =
     ⊎_elim
     (λ (here : Contains f.0.stopped x).
     ⊎_elim
     (λ (old : Contains s.stopped x). inl old)
-    (λ (new : Contains (if_done f.1.done a) x). inr (subst (Contains (a ∷ strays)) (done_is f.1.done a x new) (inside_first a strays)))
+    (λ (new : Contains (if_done f.1.done a) x). inr (subst (Contains (a ∷ strays)) (done_is f.1.done a x new)
+    (inside_first a strays)))
     (Contains-append_cases s.stopped (if_done f.1.done a) x (subst (λ xs. Contains xs x) f.1.stopped here)))
     (λ (later : Contains strays x). inr (inside_rest x a strays later))
     (stopped_from strays f.0 t x f.2 inside)
 
 -- an item that rows asked for that were seen in between, by their place
-pub item-asked : (by : ℕ) (now : Moment) (got roomy : List Answer) (v z : PortView) (start : ℕ) (i : Item) → start ≡ length v.seen → IsAskedBetween by (IsOfTable got roomy now) v z i
+pub item-asked : (by : ℕ) (now : Moment) (got roomy : List Answer) (v z : PortView) (start : ℕ) (i : Item)
+    → start ≡ length v.seen → IsAskedBetween by (IsOfTable got roomy now) v z i
     → IsItemAsked by now got roomy start z i
 item-asked by now got roomy v z start i is e = record {
   place = length e.read.seen;

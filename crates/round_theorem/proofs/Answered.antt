@@ -36,14 +36,18 @@ pub record AreHeard (cells : List CellRep) (cs : List CellRow) (old new : List A
   pub is : new ≡ old ++ more
   pub few : length more ≤ length cs
   pub from : (a : Answer) → Contains more a → (c : CellRow) × Contains cs c × IsHeardFrom cells c.cell c.epoch a
-  pub all : length cs ≤ length more → (c : CellRow) → Contains cs c → (a : Answer) × Contains more a × IsHeardFrom cells c.cell c.epoch a
+  pub all : length cs ≤ length more → (c : CellRow) → Contains cs c
+      → (a : Answer) × Contains more a × IsHeardFrom cells c.cell c.epoch a
 
-heard_one : (b : Bool) (cells : List CellRep) (cell : List ℕ) (epoch : ℕ) (a : Answer) → HearsIf b cells cell epoch (Some a) → IsHeardFrom cells cell epoch a
+heard_one : (b : Bool) (cells : List CellRep) (cell : List ℕ) (epoch : ℕ) (a : Answer)
+    → HearsIf b cells cell epoch (Some a) → IsHeardFrom cells cell epoch a
 heard_one true cells cell epoch a h = h
 heard_one false cells cell epoch a h = absurd cc
 
-heard_before : (cells : List CellRep) (c : CellRow) (cs : List CellRow) (old middle new : List Answer) (o : Option Answer)
-    → ((a : Answer) → o ≡ Some a → IsHeardFrom cells c.cell c.epoch a) → middle ≡ old ++ option_to_list o → AreHeard cells cs middle new → AreHeard cells (c ∷ cs) old new
+heard_before : (cells : List CellRep) (c : CellRow) (cs : List CellRow) (old middle new : List Answer)
+    (o : Option Answer)
+    → ((a : Answer) → o ≡ Some a → IsHeardFrom cells c.cell c.epoch a) → middle ≡ old ++ option_to_list o
+    → AreHeard cells cs middle new → AreHeard cells (c ∷ cs) old new
 heard_before cells c cs old middle new None told e h = record {
   more = h.more;
   is = h.is ∙ ap (λ xs. xs ++ h.more) (e ∙ append-nil old);
@@ -60,8 +64,14 @@ heard_before cells c cs old middle new (Some a) told e h = record {
       (λ (rest : Contains h.more b). let r = h.from b rest in (r.0, inside_rest r.0 c cs r.1, r.2))
       (first_or_rest b a h.more inside);
   all = λ enough d inside. ⊎_elim
-      (λ (is : c ≡ d). (a, inside_first a h.more, subst (λ (x : CellRow). IsHeardFrom cells x.cell x.epoch a) is (told a refl)))
-      (λ (rest : Contains cs d). let r = h.all (omega (arith, enough)) d rest in (r.0, inside_rest r.0 a h.more r.1, r.2))
+      (λ (is : c ≡ d). (
+        a,
+        inside_first a h.more,
+        subst (λ (x : CellRow). IsHeardFrom cells x.cell x.epoch a) is
+            (told a refl),
+      ))
+      (λ (rest : Contains cs d). let r = h.all (omega (arith, enough)) d rest in
+      (r.0, inside_rest r.0 a h.more r.1, r.2))
       (first_or_rest d c cs inside);
 }
 
@@ -74,26 +84,33 @@ none_heard cells xs = record {
   all = λ enough c inside. absurd (omega (arith, inside.1));
 }
 
-pub are-heard : (cells : List CellRep) (cs : List CellRow) (s t : Asking) → Each (AsksOne cells) cs s t → AreHeard cells cs s.got t.got
+pub are-heard : (cells : List CellRep) (cs : List CellRow) (s t : Asking) → Each (AsksOne cells) cs s t
+    → AreHeard cells cs s.got t.got
 are-heard cells [] s t f = subst (λ (x : Asking). AreHeard cells [] s.got x.got) (sym f) (none_heard cells s.got)
 are-heard cells (c ∷ cs) s t f =
     heard_before cells c cs s.got f.0.got t.got f.1.answer
-    (λ a e. heard_one f.1.asked.reached cells c.cell c.epoch a (subst (HearsIf f.1.asked.reached cells c.cell c.epoch) e f.1.asked.heard))
+    (λ a e. heard_one f.1.asked.reached cells c.cell c.epoch a
+    (subst (HearsIf f.1.asked.reached cells c.cell c.epoch) e f.1.asked.heard))
     f.1.got (are-heard cells cs f.0 t f.2)
 
 -- what is heard of a cell has its name and epoch, and is the answer of a rep
-pub heard_cell : (cells : List CellRep) (cell : List ℕ) (epoch : ℕ) (a : Answer) → IsHeardFrom cells cell epoch a → a.cell ≡ cell
+pub heard_cell : (cells : List CellRep) (cell : List ℕ) (epoch : ℕ) (a : Answer) → IsHeardFrom cells cell epoch a
+    → a.cell ≡ cell
 heard_cell cells cell epoch a h = h.sound.cell ∙ h.stands.cell_is
 
-pub heard_inside : (cells : List CellRep) (cell : List ℕ) (epoch : ℕ) (a : Answer) → IsHeardFrom cells cell epoch a → Contains (filter_map answer_of cells) a
+pub heard_inside : (cells : List CellRep) (cell : List ℕ) (epoch : ℕ) (a : Answer) → IsHeardFrom cells cell epoch a
+    → Contains (filter_map answer_of cells) a
 heard_inside cells cell epoch a h =
     let here : Contains cells h.rep = (h.place, h.stands.within, sym h.stands.is) in
     kept_inside answer_of cells h.rep a here h.answers
 
-cell_named : (rep : CellRep) (o : Option Joined) (x : Answer) → rep.joined ≡ o → answer_of rep ≡ Some x → x.cell ≡ rep.cell
-cell_named rep None x is e = let bad : None ≡ Some x = sym (ap (λ (j : Option Joined). answer_of (record rep { joined = j })) is) ∙ e in absurd cc
+cell_named : (rep : CellRep) (o : Option Joined) (x : Answer) → rep.joined ≡ o → answer_of rep ≡ Some x
+    → x.cell ≡ rep.cell
+cell_named rep None x is e = let bad : None ≡ Some x =
+    sym (ap (λ (j : Option Joined). answer_of (record rep { joined = j })) is) ∙ e in absurd cc
 cell_named rep (Some j) x is e =
-    let same : Some (answer_in rep.cell j) ≡ Some x = sym (ap (λ (k : Option Joined). answer_of (record rep { joined = k })) is) ∙ e in
+    let same : Some (answer_in rep.cell j) ≡ Some x = sym
+    (ap (λ (k : Option Joined). answer_of (record rep { joined = k })) is) ∙ e in
     sym (ap (λ (o : Option Answer). option_map_or (λ (y : Answer). y.cell) o rep.cell) same)
 
 -- an answer has the name of its rep
@@ -104,7 +121,8 @@ stands_itself : (cells : List CellRep) (r : CellRep) (h : Contains cells r) → 
 stands_itself cells r h = record { within = h.1; is = sym h.2; cell_is = refl }
 
 -- of reps whose names differ no two answers have one name
-pub answers_differ : (cells : List CellRep) → StandApart (names_of cells) → (x y : Answer) → Contains (filter_map answer_of cells) x → Contains (filter_map answer_of cells) y → x.cell ≡ y.cell → x ≡ y
+pub answers_differ : (cells : List CellRep) → StandApart (names_of cells) → (x y : Answer)
+    → Contains (filter_map answer_of cells) x → Contains (filter_map answer_of cells) y → x.cell ≡ y.cell → x ≡ y
 answers_differ cells apart x y in_x in_y e =
     let p = from_kept answer_of cells x in_x in
     let q = from_kept answer_of cells y in_y in
@@ -112,8 +130,10 @@ answers_differ cells apart x y in_x in_y e =
     let at : p.1.0 ≡ q.1.0 = apart p.1.0 q.1.0 q.0.cell
     (name_there cells q.0.cell p.1.0 p.0 (record { within = p.1.1; is = sym p.1.2; cell_is = names }))
     (name_there cells q.0.cell q.1.0 q.0 (stands_itself cells q.0 q.1)) in
-    let reps : Some p.0 ≡ Some q.0 = sym (rep_there cells p.0.cell p.1.0 p.0 (stands_itself cells p.0 p.1)) ∙ ap (λ n. slice_get cells n) at ∙ rep_there cells q.0.cell q.1.0 q.0 (stands_itself cells q.0 q.1) in
-    let answers : Some x ≡ Some y = sym p.2 ∙ ap (λ (o : Option CellRep). option_map_or (λ r. answer_of r) o None) reps ∙ q.2 in
+    let reps : Some p.0 ≡ Some q.0 = sym (rep_there cells p.0.cell p.1.0 p.0 (stands_itself cells p.0 p.1)) ∙ ap
+    (λ n. slice_get cells n) at ∙ rep_there cells q.0.cell q.1.0 q.0 (stands_itself cells q.0 q.1) in
+    let answers : Some x ≡ Some y = sym p.2 ∙ ap (λ (o : Option CellRep). option_map_or (λ r. answer_of r) o None) reps
+    ∙ q.2 in
     ap (λ (o : Option Answer). option_map_or (λ a. a) o x) answers
 
 both : (a b : Bool) → (a && b) ≡ true → (a ≡ true) × (b ≡ true)
@@ -122,9 +142,11 @@ both false b e = absurd cc
 
 looks_so : (cell : List ℕ) (epoch : ℕ) (a : Answer) → a.cell ≡ cell → a.epoch ≡ epoch → is_answer_of cell epoch a ≡ true
 looks_so cell epoch a names epochs =
-    ap (λ (n : List ℕ). pointwise nat_eq n cell && a.epoch == epoch) names ∙ ap (λ (b : Bool). b && a.epoch == epoch) (nat_list_eq_equiv.refl cell) ∙ eq-eqb a.epoch epoch epochs
+    ap (λ (n : List ℕ). pointwise nat_eq n cell && a.epoch == epoch) names ∙ ap (λ (b : Bool). b && a.epoch == epoch)
+    (nat_list_eq_equiv.refl cell) ∙ eq-eqb a.epoch epoch epochs
 
-present_there : (now : Moment) (epoch : ℕ) (o : Option CellRow) → option_map_or (λ (c : CellRow). c.epoch == epoch && is_present c now) o false ≡ true
+present_there : (now : Moment) (epoch : ℕ) (o : Option CellRow)
+    → option_map_or (λ (c : CellRow). c.epoch == epoch && is_present c now) o false ≡ true
     → (c : CellRow) × (o ≡ Some c) × (c.epoch ≡ epoch) × (is_present c now ≡ true)
 present_there now epoch None e = absurd cc
 present_there now epoch (Some c) e =
@@ -137,17 +159,24 @@ pub there_row : (rows : Rows) (now : Moment) (cell : List ℕ) (epoch : ℕ) →
 there_row rows now cell epoch there =
     let p = present_there now epoch (find_cell rows cell) there in
     let inside : Contains rows.cells p.0 = Contains-find_row name_order cell_name_of cell p.0 rows.cells p.1 in
-    let shown : present_at now p.0 ≡ Some p.0 = ap (λ (b : Bool). cond b (Some p.0) None) p.3 in
-    (p.0, kept_inside (present_at now) rows.cells p.0 p.0 inside shown, key-find_row name_order cell_name_of IsKeyOrder-name_order cell p.0 rows.cells p.1, p.2)
+    let shown : present_at now p.0 ≡ Some p.0 = ap (λ (b : Bool). cond b (Some p.0) None) p.3 in (
+      p.0,
+      kept_inside (present_at now) rows.cells p.0 p.0 inside shown,
+      key-find_row name_order cell_name_of IsKeyOrder-name_order cell p.0 rows.cells p.1,
+      p.2,
+    )
 
-pub have-answered : (cells : List CellRep) (rows : Rows) (now : Moment) (s s' : WireAt) (got : List Answer) → Each (AsksOne cells) (present rows now) (questions s []) (questions s' got)
-    → StandApart (names_of cells) → length (present rows now) ≤ length got → HaveAnswered rows got (filter_map answer_of cells) now
+pub have-answered : (cells : List CellRep) (rows : Rows) (now : Moment) (s s' : WireAt) (got : List Answer)
+    → Each (AsksOne cells) (present rows now) (questions s []) (questions s' got)
+    → StandApart (names_of cells) → length (present rows now) ≤ length got
+    → HaveAnswered rows got (filter_map answer_of cells) now
 have-answered cells rows now s s' got is apart enough =
     let heard = are-heard cells (present rows now) (questions s []) (questions s' got) is in
     let same : got ≡ heard.more = heard.is in
     let all : length (present rows now) ≤ length heard.more = omega (arith, enough, ap length same) in
     record {
-      inside = λ x inside. let f = heard.from x (subst (λ xs. Contains xs x) same inside) in heard_inside cells f.0.cell f.0.epoch x f.2;
+      inside = λ x inside. let f = heard.from x (subst (λ xs. Contains xs x) same inside) in
+          heard_inside cells f.0.cell f.0.epoch x f.2;
       differ = answers_differ cells apart;
       there = λ cell epoch there.
           let c = there_row rows now cell epoch there in

@@ -58,7 +58,8 @@ one_lost before now rose = record { wire = 1; rose = omega (arith, rose); all = 
 beside_one : (n before now : ℕ) → before ≤ now → AreLost n n before now
 beside_one n before now later = record { wire = 0; rose = omega (arith, later); all = omega arith }
 
-rose_unless : (b : Bool) (d : Delivery) (before now : ℕ) → b ≡ false → b ≡ not (is_delivery_lost d) → HasCause (is_delivery_lost d) before now → Rose before now
+rose_unless : (b : Bool) (d : Delivery) (before now : ℕ) → b ≡ false → b ≡ not (is_delivery_lost d)
+    → HasCause (is_delivery_lost d) before now → Rose before now
 rose_unless b d before now fails is cause =
     elim (is_delivery_lost d) as (λ (x : Bool). is_delivery_lost d ≡ x → Rose before now) [
       | true ↦ λ e. cause.rose e
@@ -66,18 +67,28 @@ rose_unless b d before now fails is cause =
     ] refl
 
 -- a question that brought no answer
-silent_one : (cells : List CellRep) (cell : List ℕ) (epoch : ℕ) (b : Bool) (o : Option Answer) (d : Delivery) (before now : ℕ) → b ≡ not (is_delivery_lost d)
-    → HasCause (is_delivery_lost d) before now → HearsIf b cells cell epoch o → AreLost (1 - length (option_to_list o)) (mute_if b o) before now
+silent_one : (cells : List CellRep) (cell : List ℕ) (epoch : ℕ) (b : Bool) (o : Option Answer) (d : Delivery)
+    (before now : ℕ) → b ≡ not (is_delivery_lost d)
+    → HasCause (is_delivery_lost d) before now → HearsIf b cells cell epoch o
+    → AreLost (1 - length (option_to_list o)) (mute_if b o) before now
 silent_one cells cell epoch true None d before now is cause h = beside_one 1 before now cause.later
 silent_one cells cell epoch true (Some a) d before now is cause h = beside_one 0 before now cause.later
-silent_one cells cell epoch false None d before now is cause h = one_lost before now (rose_unless false d before now refl is cause)
+silent_one cells cell epoch false None d before now is cause h =
+    one_lost before now (rose_unless false d before now refl is cause)
 silent_one cells cell epoch false (Some a) d before now is cause h = absurd cc
 
-pub asks-lost : (cells : List CellRep) (cs : List CellRow) (s t : Asking) (f : Each (AsksOne cells) cs s t) → AreLost ((length cs + length s.got) - length t.got) (mute_among cells cs s t f) s.wire.losses t.wire.losses
+pub asks-lost : (cells : List CellRep) (cs : List CellRow) (s t : Asking) (f : Each (AsksOne cells) cs s t)
+    → AreLost ((length cs + length s.got) - length t.got) (mute_among cells cs s t f) s.wire.losses t.wire.losses
 asks-lost cells [] s t f =
-    record { wire = 0; rose = omega (arith, ap (λ (x : Asking). x.wire.losses) f); all = omega (arith, ap (λ (x : Asking). length x.got) f) }
+    record {
+      wire = 0;
+      rose = omega (arith, ap (λ (x : Asking). x.wire.losses) f);
+      all =
+          omega (arith, ap (λ (x : Asking). length x.got) f);
+    }
 asks-lost cells (c ∷ cs) s t f =
-    let one = silent_one cells c.cell c.epoch f.1.asked.reached f.1.answer f.1.asked.sent.end s.wire.losses f.0.wire.losses f.1.asked.sent.is f.1.asked.sent.cause f.1.asked.heard in
+    let one = silent_one cells c.cell c.epoch f.1.asked.reached f.1.answer f.1.asked.sent.end s.wire.losses
+    f.0.wire.losses f.1.asked.sent.is f.1.asked.sent.cause f.1.asked.heard in
     let rest = asks-lost cells cs f.0 t f.2 in
     let both = lost-then _ _ _ _ s.wire.losses f.0.wire.losses t.wire.losses one rest in
     record {
@@ -87,28 +98,41 @@ asks-lost cells (c ∷ cs) s t f =
     }
 
 -- a stop that wasn't done, on a cell that has a rep
-missed_one : (reached done : Bool) (a : Stray) (reps reps' : List CellRep) (d : Delivery) (before now : ℕ) → Contains (names_of reps) a.0 → reached ≡ not (is_delivery_lost d)
-    → HasCause (is_delivery_lost d) before now → StopsIf reached done a reps reps' → AreLost (1 - length (if_done done a)) 0 before now
+missed_one : (reached done : Bool) (a : Stray) (reps reps' : List CellRep) (d : Delivery) (before now : ℕ)
+    → Contains (names_of reps) a.0 → reached ≡ not (is_delivery_lost d)
+    → HasCause (is_delivery_lost d) before now → StopsIf reached done a reps reps'
+    → AreLost (1 - length (if_done done a)) 0 before now
 missed_one true true a reps reps' d before now have is cause h = beside_one 0 before now cause.later
 missed_one true false a reps reps' d before now have is cause h = absurd (h.0 have)
 missed_one false true a reps reps' d before now have is cause h = absurd h
-missed_one false false a reps reps' d before now have is cause h = one_lost before now (rose_unless false d before now refl is cause)
+missed_one false false a reps reps' d before now have is cause h =
+    one_lost before now (rose_unless false d before now refl is cause)
 
-pub names_after : (reached done : Bool) (a : Stray) (reps reps' : List CellRep) → StopsIf reached done a reps reps' → names_of reps' ≡ names_of reps
-names_after true true a reps reps' h = ap names_of h.is ∙ names_set reps h.place h.rep (without h.rep a.1) h.stands.within h.stands.is (cell_stays h.rep.cell a.1 h.rep.joined)
+pub names_after : (reached done : Bool) (a : Stray) (reps reps' : List CellRep) → StopsIf reached done a reps reps'
+    → names_of reps' ≡ names_of reps
+names_after true true a reps reps' h = ap names_of h.is ∙ names_set reps h.place h.rep
+    (without h.rep a.1) h.stands.within h.stands.is (cell_stays h.rep.cell a.1 h.rep.joined)
 names_after true false a reps reps' h = ap names_of h.1
 names_after false true a reps reps' h = absurd h
 names_after false false a reps reps' h = ap names_of h
 
-pub stops-lost : (strays : List Stray) (s t : Stopped) → ((a : Stray) → Contains strays a → Contains (names_of s.course.reps) a.0) → Each StopsOne strays s t
+pub stops-lost : (strays : List Stray) (s t : Stopped)
+    → ((a : Stray) → Contains strays a → Contains (names_of s.course.reps) a.0) → Each StopsOne strays s t
     → AreLost ((length strays + length s.stopped) - length t.stopped) 0 s.course.wire.losses t.course.wire.losses
 stops-lost [] s t have f =
-    record { wire = 0; rose = omega (arith, ap (λ (x : Stopped). x.course.wire.losses) f); all = omega (arith, ap (λ (x : Stopped). length x.stopped) f) }
+    record {
+      wire = 0;
+      rose = omega (arith, ap (λ (x : Stopped). x.course.wire.losses) f);
+      all =
+          omega (arith, ap (λ (x : Stopped). length x.stopped) f);
+    }
 stops-lost (a ∷ strays) s t have f =
-    let one = missed_one f.1.stops.reached f.1.done a s.course.reps f.0.course.reps f.1.stops.sent.end s.course.wire.losses f.0.course.wire.losses (have a (inside_first a strays))
+    let one = missed_one f.1.stops.reached f.1.done a s.course.reps f.0.course.reps f.1.stops.sent.end
+    s.course.wire.losses f.0.course.wire.losses (have a (inside_first a strays))
     f.1.stops.sent.is f.1.stops.sent.cause f.1.stops.stops in
     let names = names_after f.1.stops.reached f.1.done a s.course.reps f.0.course.reps f.1.stops.stops in
-    let rest = stops-lost strays f.0 t (λ b inside. subst (λ ns. Contains ns b.0) (sym names) (have b (inside_rest b a strays inside))) f.2 in
+    let rest = stops-lost strays f.0 t (λ b inside. subst (λ ns. Contains ns b.0) (sym names)
+    (have b (inside_rest b a strays inside))) f.2 in
     let both = lost-then _ _ _ _ s.course.wire.losses f.0.course.wire.losses t.course.wire.losses one rest in
     record {
       wire = both.wire;
@@ -121,11 +145,23 @@ answered_none : (o : Option Command) (r : Reply) (t : Tally) → (answered o r t
 answered_none None r t = refl
 answered_none (Some c) r t = lost_noted c r t
 
-by_end : (o : Option Command) (e : CallEnd) (t : Tally) (before now : ℕ) → HasNoFault e → HasCause (is_call_lost e) before now → AreLost ((counted o e t).lost - t.lost) (declined_end e) before now
-by_end o (Got r) t before now fine cause = record { wire = 0; rose = omega (arith, cause.later); all = omega (arith, answered_none o r t) }
+by_end : (o : Option Command) (e : CallEnd) (t : Tally) (before now : ℕ) → HasNoFault e
+    → HasCause (is_call_lost e) before now → AreLost ((counted o e t).lost - t.lost) (declined_end e) before now
+by_end o (Got r) t before now fine cause = record {
+  wire = 0;
+  rose = omega (arith, cause.later);
+  all =
+      omega (arith, answered_none o r t);
+}
 by_end o (Fault why) t before now fine cause = absurd fine
-by_end o CallLost t before now fine cause = record { wire = 1; rose = omega (arith, cause.rose refl); all = omega arith }
-by_end o (ReplyLost (Ok r)) t before now fine cause = record { wire = 1; rose = omega (arith, cause.rose refl); all = omega (arith, answered_none o r (lost_one t)) }
+by_end o CallLost t before now fine cause = record {
+  wire = 1;
+  rose = omega (arith, cause.rose refl);
+  all =
+      omega arith;
+}
+by_end o (ReplyLost (Ok r)) t before now fine cause = record
+    { wire = 1; rose = omega (arith, cause.rose refl); all = omega (arith, answered_none o r (lost_one t)) }
 by_end o (ReplyLost (Err why)) t before now fine cause = absurd fine
 by_end o (Local why) t before now fine cause = record { wire = 0; rose = omega (arith, cause.later); all = omega arith }
 by_end o Idle t before now fine cause = record { wire = 0; rose = omega (arith, cause.later); all = omega arith }
@@ -137,45 +173,79 @@ or_false : (b : Bool) → (b || false) ≡ b
 or_false true = refl
 or_false false = refl
 
-any_of_one : (e : CallEnd) (before now : ℕ) → HasCause (is_call_lost e || false) before now → HasCause (is_call_lost e) before now
+any_of_one : (e : CallEnd) (before now : ℕ) → HasCause (is_call_lost e || false) before now
+    → HasCause (is_call_lost e) before now
 any_of_one e before now h = subst (λ (b : Bool). HasCause b before now) (or_false (is_call_lost e)) h
 
-started_lost : (by : ℕ) (now : Moment) (job : Job) (wire : WireAt) (s s' : Serving) (a : Called) (t : Tally) → HasNoFault a.end
-    → IsStarted by job now (stage s.rep s.view wire.ends wire.losses []) (stage s'.rep s'.view s'.wire.ends s'.wire.losses (a ∷ []))
+started_lost : (by : ℕ) (now : Moment) (job : Job) (wire : WireAt) (s s' : Serving) (a : Called) (t : Tally)
+    → HasNoFault a.end
+    → IsStarted by job now (stage s.rep s.view wire.ends wire.losses [])
+    (stage s'.rep s'.view s'.wire.ends s'.wire.losses (a ∷ []))
     → AreLost ((counted a.command a.end t).lost - t.lost) (declined_end a.end) wire.losses s'.wire.losses
 started_lost by now job wire s s' a t fine h = ⊎_elim
     (λ p. by_end a.command a.end t wire.losses s'.wire.losses fine
-    (any_of_one a.end wire.losses s'.wire.losses (subst (λ (xs : List Called). HasCause (is_any_lost xs) wire.losses s'.wire.losses) (sym p.out_is) p.cause)))
+    (any_of_one a.end wire.losses s'.wire.losses (subst (λ (xs : List Called).
+    HasCause (is_any_lost xs) wire.losses s'.wire.losses) (sym p.out_is) p.cause)))
     (λ e. absurd (subst (λ (x : Called). HasNoFault x.end) (first_of a starved (ap (λ (x : Stage). x.out) e)) fine))
     h
 
-start_if : (b : Bool) (by : ℕ) (now : Moment) (job : Job) (before : ℕ) (d : Delivery) (wire : WireAt) (s s' : Serving) (h : TakesIf b by now job wire s s') → b ≡ not (is_delivery_lost d)
-    → HasCause (is_delivery_lost d) before wire.losses → AreLost (s'.tally.lost - s.tally.lost) (declined_if b by now job wire s s' h) before s'.wire.losses
+start_if : (b : Bool) (by : ℕ) (now : Moment) (job : Job) (before : ℕ) (d : Delivery) (wire : WireAt) (s s' : Serving)
+    (h : TakesIf b by now job wire s s') → b ≡ not (is_delivery_lost d)
+    → HasCause (is_delivery_lost d) before wire.losses → AreLost (s'.tally.lost - s.tally.lost)
+    (declined_if b by now job wire s s' h) before s'.wire.losses
 start_if true by now job before d wire s s' h is cause =
     let went : AreLost 0 0 before wire.losses = beside_one 0 before wire.losses cause.later in
-    let all = lost-then _ _ _ _ before wire.losses s'.wire.losses went (started_lost by now job wire s s' h.answer s.tally h.ended h.started) in
+    let all = lost-then _ _ _ _ before wire.losses s'.wire.losses went
+    (started_lost by now job wire s s' h.answer s.tally h.ended h.started) in
     record { wire = all.wire; rose = all.rose; all = omega (arith, all.all, ap (λ (t : Tally). t.lost) h.counts) }
 start_if false by now job before d wire s s' h is cause =
     let rose = rose_unless false d before wire.losses refl is cause in
-    record { wire = 1; rose = omega (arith, rose, ap (λ (w : WireAt). w.losses) h.wire_is); all = omega (arith, ap (λ (t : Tally). t.lost) h.counts) }
+    record {
+      wire = 1;
+      rose = omega (arith, rose, ap (λ (w : WireAt). w.losses) h.wire_is);
+      all =
+          omega (arith, ap (λ (t : Tally). t.lost) h.counts);
+    }
 
-starts-lost : (by : ℕ) (now : Moment) (jobs : List Job) (s s' : Serving) (f : Each (StartsOne by now) jobs s s') → AreLost (s'.tally.lost - s.tally.lost) (declined_on by now jobs s s' f) s.wire.losses s'.wire.losses
+starts-lost : (by : ℕ) (now : Moment) (jobs : List Job) (s s' : Serving) (f : Each (StartsOne by now) jobs s s')
+    → AreLost (s'.tally.lost - s.tally.lost) (declined_on by now jobs s s' f) s.wire.losses s'.wire.losses
 starts-lost by now [] s s' f =
-    record { wire = 0; rose = omega (arith, ap (λ (x : Serving). x.wire.losses) f); all = omega (arith, ap (λ (x : Serving). x.tally.lost) f) }
+    record {
+      wire = 0;
+      rose = omega (arith, ap (λ (x : Serving). x.wire.losses) f);
+      all =
+          omega (arith, ap (λ (x : Serving). x.tally.lost) f);
+    }
 starts-lost by now (job ∷ jobs) s s' f =
-    let one = start_if f.1.reached by now job s.wire.losses f.1.sent.end f.1.wire s f.0 f.1.takes f.1.sent.is f.1.sent.cause in
-    let both = lost-then _ _ _ _ s.wire.losses f.0.wire.losses s'.wire.losses one (starts-lost by now jobs f.0 s' f.2) in
+    let one = start_if f.1.reached by now job s.wire.losses f.1.sent.end f.1.wire s f.0 f.1.takes f.1.sent.is
+    f.1.sent.cause in
+    let both = lost-then _ _ _ _ s.wire.losses f.0.wire.losses s'.wire.losses one
+    (starts-lost by now jobs f.0 s' f.2) in
     record { wire = both.wire; rose = both.rose; all = omega (arith, both.all) }
 
-serve_lost : (by : ℕ) (now : Moment) (p : Places) (x : Answer) (s s' : Course) (h : ServesOne by now p x s s') → AreLost (s'.tally.lost - s.tally.lost) (declined_at by now p x s s' h) s.wire.losses s'.wire.losses
-serve_lost by now p x s s' (inl c) = starts-lost by now (jobs_on p.rows p.placements x.cell) (serving c.rep s.view s.tally s.wire) (serving c.after s'.view s'.tally s'.wire) c.starts
+serve_lost : (by : ℕ) (now : Moment) (p : Places) (x : Answer) (s s' : Course) (h : ServesOne by now p x s s')
+    → AreLost (s'.tally.lost - s.tally.lost) (declined_at by now p x s s' h) s.wire.losses s'.wire.losses
+serve_lost by now p x s s' (inl c) = starts-lost by now (jobs_on p.rows p.placements x.cell)
+    (serving c.rep s.view s.tally s.wire) (serving c.after s'.view s'.tally s'.wire) c.starts
 serve_lost by now p x s s' (inr e) =
-    record { wire = 0; rose = omega (arith, ap (λ (y : Course). y.wire.losses) e.1); all = omega (arith, ap (λ (y : Course). y.tally.lost) e.1) }
+    record {
+      wire = 0;
+      rose = omega (arith, ap (λ (y : Course). y.wire.losses) e.1);
+      all =
+          omega (arith, ap (λ (y : Course). y.tally.lost) e.1);
+    }
 
-pub serves-lost : (by : ℕ) (now : Moment) (p : Places) (xs : List Answer) (s s' : Course) (f : Each (ServesOne by now p) xs s s')
+pub serves-lost : (by : ℕ) (now : Moment) (p : Places) (xs : List Answer) (s s' : Course)
+    (f : Each (ServesOne by now p) xs s s')
     → AreLost (s'.tally.lost - s.tally.lost) (declined_among by now p xs s s' f) s.wire.losses s'.wire.losses
 serves-lost by now p [] s s' f =
-    record { wire = 0; rose = omega (arith, ap (λ (y : Course). y.wire.losses) f); all = omega (arith, ap (λ (y : Course). y.tally.lost) f) }
+    record {
+      wire = 0;
+      rose = omega (arith, ap (λ (y : Course). y.wire.losses) f);
+      all =
+          omega (arith, ap (λ (y : Course). y.tally.lost) f);
+    }
 serves-lost by now p (x ∷ xs) s s' f =
-    let both = lost-then _ _ _ _ s.wire.losses f.0.wire.losses s'.wire.losses (serve_lost by now p x s f.0 f.1) (serves-lost by now p xs f.0 s' f.2) in
+    let both = lost-then _ _ _ _ s.wire.losses f.0.wire.losses s'.wire.losses (serve_lost by now p x s f.0 f.1)
+    (serves-lost by now p xs f.0 s' f.2) in
     record { wire = both.wire; rose = both.rose; all = omega (arith, both.all) }

@@ -34,7 +34,8 @@ pub record AreClaimsMade (by : ℕ) (now : Moment) (jobs : List Job) (s s' : Ser
   pub claims : List Command
   pub notes : Each (IsNoted by) claims (in_serving s) (in_serving s')
   pub subjects : map subject_in claims ≡ map about_job jobs
-  pub named : (c : Command) → Contains claims c → (j : Joined) × (s.rep.joined ≡ Some j) × IsClaimAt now s.rep.cell j.store.epoch c
+  pub named : (c : Command) → Contains claims c → (j : Joined) × (s.rep.joined ≡ Some j)
+      × IsClaimAt now s.rep.cell j.store.epoch c
   pub cell : s'.rep.cell ≡ s.rep.cell
   pub adds : AgreeIf (IsWith claims) (answer_of s.rep) (answer_of s'.rep)
 
@@ -48,35 +49,47 @@ none_made by now s = record {
   adds = agree_same (IsWith []) (answer_of s.rep) (λ x is. with_none x);
 }
 
-one_and_more : (by : ℕ) (now : Moment) (job : Job) (jobs : List Job) (s m s' : Serving) → IsClaimMade by now job s m → AreClaimsMade by now jobs m s' → AreClaimsMade by now (job ∷ jobs) s s'
+one_and_more : (by : ℕ) (now : Moment) (job : Job) (jobs : List Job) (s m s' : Serving) → IsClaimMade by now job s m
+    → AreClaimsMade by now jobs m s' → AreClaimsMade by now (job ∷ jobs) s s'
 one_and_more by now job jobs s m s' f g =
     let c : Command = next_claim now s.rep.cell job f.joined in
     let next : Joined = record f.joined { store = reserved f.joined.store job.job job.memory job.disk } in
     let joins : m.rep.joined ≡ Some next = ap (λ (r : CellRep). r.joined) f.rep_is in
     let cells : m.rep.cell ≡ s.rep.cell = ap (λ (r : CellRep). r.cell) f.rep_is in
-    let before : answer_of s.rep ≡ Some (answer_in s.rep.cell f.joined) = ap (option_map (answer_in s.rep.cell)) f.was in
+    let before : answer_of s.rep ≡ Some (answer_in s.rep.cell f.joined) =
+    ap (option_map (answer_in s.rep.cell)) f.was in
     let after : answer_of m.rep ≡ Some (answer_in s.rep.cell next) = ap answer_of f.rep_is in
     record {
       claims = c ∷ g.claims;
       notes = (in_serving m, f.claim, g.notes);
-      subjects = ap (λ (x : Subject). x ∷ map subject_in g.claims) (claim-about job.job (next_of f.joined.store) s.rep.cell c.op (claims_itself job.job (next_of f.joined.store) s.rep.cell))
+      subjects = ap (λ (x : Subject). x ∷ map subject_in g.claims)
+          (claim-about job.job (next_of f.joined.store) s.rep.cell c.op
+          (claims_itself job.job (next_of f.joined.store) s.rep.cell))
           ∙ ap (λ xs. about_job job ∷ xs) g.subjects;
       named = λ d inside. ⊎_elim
-          (λ (is : c ≡ d).
-          (f.joined, f.was, subst (IsClaimAt now s.rep.cell f.joined.store.epoch) is (record { job = job.job; instance = next_of f.joined.store; is = refl; epoch_is = refl })))
+          (λ (is : c ≡ d). (
+            f.joined,
+            f.was,
+            subst (IsClaimAt now s.rep.cell f.joined.store.epoch) is
+                (record { job = job.job; instance = next_of f.joined.store; is = refl; epoch_is = refl }),
+          ))
           (λ (rest : Contains g.claims d).
           let n = g.named d rest in
-          let epochs : n.0.store.epoch ≡ f.joined.store.epoch = ap (λ (o : Option Joined). option_map_or (λ (k : Joined). k.store.epoch) o 0) (sym n.1 ∙ joins) in
+          let epochs : n.0.store.epoch ≡ f.joined.store.epoch =
+          ap (λ (o : Option Joined). option_map_or (λ (k : Joined). k.store.epoch) o 0) (sym n.1 ∙ joins) in
           (f.joined, f.was, subst (λ (p : List ℕ × ℕ). IsClaimAt now p.0 p.1 d) (λ i. (cells i, epochs i)) n.2))
           (first_or_rest d c g.claims inside);
       cell = g.cell ∙ cells;
-      adds = agree_then (IsWith (c ∷ [])) (IsWith g.claims) (IsWith (c ∷ g.claims)) (with_then (c ∷ []) g.claims) (answer_of s.rep) (answer_of m.rep) (answer_of s'.rep)
+      adds = agree_then (IsWith (c ∷ [])) (IsWith g.claims) (IsWith (c ∷ g.claims)) (with_then (c ∷ []) g.claims)
+          (answer_of s.rep) (answer_of m.rep) (answer_of s'.rep)
           (subst (λ (a : Option Answer). AgreeIf (IsWith (c ∷ [])) a (answer_of m.rep)) (sym before)
-          (subst (AgreeIf (IsWith (c ∷ [])) (Some (answer_in s.rep.cell f.joined))) (sym after) (with_next_one now s.rep.cell job f.joined)))
+          (subst (AgreeIf (IsWith (c ∷ [])) (Some (answer_in s.rep.cell f.joined))) (sym after)
+          (with_next_one now s.rep.cell job f.joined)))
           g.adds;
     }
 
-pub claims-made : (by : ℕ) (now : Moment) (jobs : List Job) (s s' : Serving) → s'.tally.lost ≡ 0 → s'.tally.refused ≡ [] → Each (StartsOne by now) jobs s s' → AreClaimsMade by now jobs s s'
+pub claims-made : (by : ℕ) (now : Moment) (jobs : List Job) (s s' : Serving) → s'.tally.lost ≡ 0 → s'.tally.refused ≡ []
+    → Each (StartsOne by now) jobs s s' → AreClaimsMade by now jobs s s'
 claims-made by now [] s s' whole taken f = subst (AreClaimsMade by now [] s) (sym f) (none_made by now s)
 claims-made by now (job ∷ jobs) s s' whole taken f =
     let rest = claims-made by now jobs f.0 s' whole taken f.2 in

@@ -62,13 +62,18 @@ no_room : (p : Placement) (m : JobName) → without_room p ≡ Some m → m ≡ 
 no_room (On n cell) m e = absurd cc
 no_room (NoRoom n) m e = sym (ap (λ (o : Option JobName). option_map_or (λ x. x) o n) e)
 
-left_out : (list : List Placement) (p : Placement) (m : JobName) → Contains list p → without_room p ≡ Some m → Contains list (NoRoom m)
+left_out : (list : List Placement) (p : Placement) (m : JobName) → Contains list p → without_room p ≡ Some m
+    → Contains list (NoRoom m)
 left_out list (On n cell) m inside e = absurd cc
-left_out list (NoRoom n) m inside e = subst (λ (x : JobName). Contains list (NoRoom x)) (sym (no_room (NoRoom n) m e)) inside
+left_out list (NoRoom n) m inside e = subst (λ (x : JobName). Contains list (NoRoom x))
+    (sym (no_room (NoRoom n) m e)) inside
 
 -- claims and notes by the auction at some rows, on cells that are there
-module _ (now : Moment) (A : Rows) (roomy : List Answer) (valid : IsValid A) (n : ℕ) (claims : List Command) (are : AreClaims now A (placements A roomy) roomy n claims)
-    (cells : Differ (map (λ (x : Answer). x.cell) roomy)) (under : (c : Command) → Contains claims c → (x : Answer) × Contains roomy x × IsClaimUnder now x.cell x.epoch c)
+module _ (now : Moment) (A : Rows) (roomy : List Answer) (valid : IsValid A) (n : ℕ) (claims : List Command)
+    (are : AreClaims now A (placements A roomy) roomy n claims)
+    (cells : Differ (map (λ (x : Answer). x.cell) roomy))
+    (under : (c : Command) → Contains claims c → (x : Answer) × Contains roomy x
+    × IsClaimUnder now x.cell x.epoch c)
     (there : (x : Answer) → Contains roomy x → is_there A now x.cell x.epoch ≡ true) where
   abbrev list : List Placement
   list = placements A roomy
@@ -89,7 +94,8 @@ module _ (now : Moment) (A : Rows) (roomy : List Answer) (valid : IsValid A) (n 
   part = claims-part now A list roomy n claims are
 
   -- the job of a claim
-  claimed_job : (c : Command) → Contains claims c → (j : Job) × (x : Answer) × Contains list (On j.job x.cell) × (subject_in c ≡ subject_for j.job)
+  claimed_job : (c : Command) → Contains claims c → (j : Job) × (x : Answer) × Contains list (On j.job x.cell)
+      × (subject_in c ≡ subject_for j.job)
   claimed_job c inside =
       let at = part_inside (map subject_in claims) about (subject_in c) part (inside_map subject_in claims c inside) in
       let x = from_flat_map (λ (y : Answer). map about_job (jobs_on A list y.cell)) roomy (subject_in c) at in
@@ -97,7 +103,8 @@ module _ (now : Moment) (A : Rows) (roomy : List Answer) (valid : IsValid A) (n 
       (j.0, x.0, placed_on A list x.0.cell j.0 j.1, sym j.2)
 
   claim_about : (c : Command) (cell : List ℕ) (e : ℕ) (u : IsClaimUnder now cell e c) → subject_in c ≡ subject_for u.0
-  claim_about c cell e u = ap subject_in u.2 ∙ claim-about u.0 u.1 cell (claim_op cell u.0 u.1) (claims_itself u.0 u.1 cell)
+  claim_about c cell e u = ap subject_in u.2 ∙ claim-about u.0 u.1 cell (claim_op cell u.0 u.1)
+      (claims_itself u.0 u.1 cell)
 
   waits : (m : JobName) → Contains (map job_in list) m → IsRowWaiting A m
   waits m inside = placed-waits A roomy m valid js inside
@@ -116,34 +123,44 @@ module _ (now : Moment) (A : Rows) (roomy : List Answer) (valid : IsValid A) (n 
   notes_differ =
       let us : Differ (map subject_for (unplaced list)) =
       part_differ (map subject_for (unplaced list)) (map (λ (p : Placement). subject_for (job_in p)) list)
-      (kept_part without_room (λ (p : Placement). subject_for (job_in p)) subject_for (λ p m e. ap subject_for (no_room p m e)) list)
-      (differ_by job_in (λ (p : Placement). subject_for (job_in p)) (λ p q e. one_subject (job_in p) (job_in q) e) list differ) in
-      part_differ (map subject_in notes) (map subject_for (unplaced list)) (kept_part (fail_of A now) subject_for subject_in note_about (unplaced list)) us
+      (kept_part without_room (λ (p : Placement). subject_for (job_in p)) subject_for
+      (λ p m e. ap subject_for (no_room p m e)) list)
+      (differ_by job_in (λ (p : Placement). subject_for (job_in p))
+      (λ p q e. one_subject (job_in p) (job_in q) e) list differ) in
+      part_differ (map subject_in notes) (map subject_for (unplaced list))
+      (kept_part (fail_of A now) subject_for subject_in note_about (unplaced list)) us
 
   all_differ : Differ (map subject_in (claims ++ notes))
   all_differ = subst Differ (sym (map-append subject_in claims notes))
-      (differ_append (map subject_in claims) (map subject_in notes) (part_differ (map subject_in claims) about part (all_cells A list differ roomy cells)) notes_differ
+      (differ_append (map subject_in claims) (map subject_in notes)
+      (part_differ (map subject_in claims) about part (all_cells A list differ roomy cells)) notes_differ
       (λ s t in_s in_t same.
       let c = from_map subject_in claims s in_s in
       let d = from_map subject_in notes t in_t in
       let j = claimed_job c.0 c.1 in
       let m = note_job d.0 d.1 in
-      let names : j.0.job ≡ m.0 = one_subject j.0.job m.0 (sym j.3 ∙ c.2 ∙ sym same ∙ sym d.2 ∙ note_about m.0 d.0 m.2) in
-      let one : On j.0.job j.1.cell ≡ NoRoom m.0 = one_of_name job_in list differ (On j.0.job j.1.cell) (NoRoom m.0) j.2 m.1 names in
+      let names : j.0.job ≡ m.0 = one_subject j.0.job m.0 (sym j.3 ∙ c.2 ∙ sym same ∙ sym d.2 ∙ note_about m.0 d.0 m.2)
+      in
+      let one : On j.0.job j.1.cell ≡ NoRoom m.0 = one_of_name job_in list differ (On j.0.job j.1.cell)
+      (NoRoom m.0) j.2 m.1 names in
       absurd cc))
 
   -- none of them changes a SUSPECT row
   unsuspected : (c : Command) → Contains (claims ++ notes) c → suspect_in c.op ≡ None
   unsuspected c inside = ⊎_elim
-      (λ here. let u = (under c here).2 in ap (λ (d : Command). suspect_in d.op) u.2 ∙ claim-unsuspected u.0 u.1 (under c here).0.cell (claim_op (under c here).0.cell u.0 u.1) (claims_itself u.0 u.1 (under c here).0.cell))
+      (λ here. let u = (under c here).2 in ap (λ (d : Command). suspect_in d.op) u.2 ∙ claim-unsuspected u.0 u.1
+      (under c here).0.cell (claim_op (under c here).0.cell u.0 u.1) (claims_itself u.0 u.1 (under c here).0.cell))
       (λ here. let m = note_job c here in ap (λ (d : Command). suspect_in d.op) (note-of A now m.0 c m.2).is)
       (Contains-append_cases claims notes c inside)
 
   of_round : AreOfRound now (claims ++ notes)
   of_round = record {
     ops = λ c inside. ⊎_elim
-        (λ here. let u = (under c here).2 in subst (λ (d : Command). IsOfRound d.op) (sym u.2) (claim-of_round u.0 u.1 (under c here).0.cell (claim_op (under c here).0.cell u.0 u.1) (claims_itself u.0 u.1 (under c here).0.cell)))
-        (λ here. let m = note_job c here in subst (λ (d : Command). IsOfRound d.op) (sym (note-of A now m.0 c m.2).is) tt)
+        (λ here. let u = (under c here).2 in subst (λ (d : Command). IsOfRound d.op) (sym u.2)
+        (claim-of_round u.0 u.1 (under c here).0.cell (claim_op (under c here).0.cell u.0 u.1)
+        (claims_itself u.0 u.1 (under c here).0.cell)))
+        (λ here. let m = note_job c here in subst (λ (d : Command). IsOfRound d.op)
+        (sym (note-of A now m.0 c m.2).is) tt)
         (Contains-append_cases claims notes c inside);
     moments = λ c inside. ⊎_elim
         (λ here. ap (λ (d : Command). d.now) (under c here).2.2)
@@ -151,27 +168,35 @@ module _ (now : Moment) (A : Rows) (roomy : List Answer) (valid : IsValid A) (n 
         (Contains-append_cases claims notes c inside);
   }
 
-  fair : (c : Command) → Contains (claims ++ notes) c → (rows : Rows) → IsAsBefore A rows (subject_in c) → KeepsThere now A rows → IsFair (attempt_of rows c)
+  fair : (c : Command) → Contains (claims ++ notes) c → (rows : Rows) → IsAsBefore A rows (subject_in c)
+      → KeepsThere now A rows → IsFair (attempt_of rows c)
   fair c inside rows h keeps = ⊎_elim
       (λ here.
       let x = under c here in
       let j = claimed_job c here in
       let names : j.0.job ≡ x.2.0 = one_subject j.0.job x.2.0 (sym j.3 ∙ claim_about c x.0.cell x.0.epoch x.2) in
-      let w : IsRowWaiting A x.2.0 = subst (IsRowWaiting A) names (waits j.0.job (inside_map job_in list (On j.0.job j.1.cell) j.2)) in
-      let cell : is_there rows now x.0.cell x.2.1.epoch ≡ true = keeps x.0.cell x.2.1.epoch ∙ ap (λ (e : ℕ). is_there A now x.0.cell e) x.2.3 ∙ there x.0 x.1 in
+      let w : IsRowWaiting A x.2.0 = subst (IsRowWaiting A) names
+      (waits j.0.job (inside_map job_in list (On j.0.job j.1.cell) j.2)) in
+      let cell : is_there rows now x.0.cell x.2.1.epoch ≡ true =
+      keeps x.0.cell x.2.1.epoch ∙ ap (λ (e : ℕ). is_there A now x.0.cell e) x.2.3 ∙ there x.0 x.1 in
       subst (λ (d : Command). IsFair (attempt_of rows d)) (sym x.2.2)
-      (fair-claim A rows now x.2.0 x.2.1 x.0.cell w (subst (IsAsBefore A rows) (claim_about c x.0.cell x.0.epoch x.2) h) cell))
+      (fair-claim A rows now x.2.0 x.2.1 x.0.cell w (subst (IsAsBefore A rows) (claim_about c x.0.cell x.0.epoch x.2) h)
+      cell))
       (λ here.
       let m = note_job c here in
       let k = note-of A now m.0 c m.2 in
-      let w : IsRowWaiting A (name.Lrp k.key) = subst (IsRowWaiting A) k.name_is (waits m.0 (inside_map job_in list (NoRoom m.0) m.1)) in
-      subst (λ (d : Command). IsFair (attempt_of rows d)) (sym k.is) (fair-note A rows now k.key w (subst (IsAsBefore A rows) (ap subject_in k.is) h)))
+      let w : IsRowWaiting A (name.Lrp k.key) = subst (IsRowWaiting A) k.name_is
+      (waits m.0 (inside_map job_in list (NoRoom m.0) m.1)) in
+      subst (λ (d : Command). IsFair (attempt_of rows d)) (sym k.is)
+      (fair-note A rows now k.key w (subst (IsAsBefore A rows) (ap subject_in k.is) h)))
       (Contains-append_cases claims notes c inside)
 
   pub claims-refused : AreRefusedForRoom A (claims ++ notes)
-  claims-refused = fair-run now A A (claims ++ notes) (apart_by_subjects (claims ++ notes) all_differ unsuspected) of_round fair (λ cell epoch. refl) (λ c inside. as_itself A (subject_in c))
+  claims-refused = fair-run now A A (claims ++ notes) (apart_by_subjects (claims ++ notes) all_differ unsuspected)
+      of_round fair (λ cell epoch. refl) (λ c inside. as_itself A (subject_in c))
 
-module _ (by : ℕ) (now : Moment) (line : ℕ) (s s' : Standing) (r : Report) (h : IsRound by now line s s' r) (apart : StandApart (names_of s.reps)) (none : r.foreign ≡ 0) where
+module _ (by : ℕ) (now : Moment) (line : ℕ) (s s' : Standing) (r : Report) (h : IsRound by now line s s' r)
+    (apart : StandApart (names_of s.reps)) (none : r.foreign ≡ 0) where
   abbrev R : Rows
   R = rows_seen h.first
 
@@ -186,7 +211,8 @@ module _ (by : ℕ) (now : Moment) (line : ℕ) (s s' : Standing) (r : Report) (
 
   first_rows : rows_seen h.opens.first ≡ R
   first_rows = rows-looks h.first h.opens.first h.opens.looks
-      (quiet_first h.first h.opens.first s'.view (later_looks h.first h.opens.first h.opens.looks) (parts.first_later by now line s s' r h) (account.quiet by now line s s' r h none))
+      (quiet_first h.first h.opens.first s'.view (later_looks h.first h.opens.first h.opens.looks)
+      (parts.first_later by now line s s' r h) (account.quiet by now line s s' r h none))
 
   valid : IsValid R
   valid = subst IsValid first_rows h.opens.heard.valid
@@ -198,33 +224,47 @@ module _ (by : ℕ) (now : Moment) (line : ℕ) (s s' : Standing) (r : Report) (
   valid_plan = run-valid (after_work R now) (plan_of_answers (after_work R now) got now) valid_work
 
   apart_later : StandApart (names_of h.opened.reps)
-  apart_later = subst StandApart (sym (names-stopped (strays (rows_seen h.opens.third) got) (so_far (stops_at h.opens.wire s.reps) []) (so_far (stops_at h.opened.wire h.opened.reps) h.opens.stops.stopped) h.opens.stopped.each)) apart
+  apart_later = subst StandApart (sym (names-stopped (strays (rows_seen h.opens.third) got)
+      (so_far (stops_at h.opens.wire s.reps) []) (so_far (stops_at h.opened.wire h.opened.reps) h.opens.stops.stopped)
+      h.opens.stopped.each)) apart
 
   roomy_there : (y : Answer) → Contains roomy y → is_there A now y.cell y.epoch ≡ true
   roomy_there y inside =
       let q = parts.roomy_cell by now line s s' r h y inside in
-      let heard = are-heard s.reps (present (rows_seen h.opens.first) now) (questions s.wire []) (questions h.opens.wire got) h.opens.heard.got in
+      let heard = are-heard s.reps (present (rows_seen h.opens.first) now) (questions s.wire [])
+      (questions h.opens.wire got) h.opens.heard.got in
       let c = heard.from q.answer (subst (λ xs. Contains xs q.answer) heard.is q.inside) in
-      let cells : y.cell ≡ c.0.cell = heard_cell h.opened.reps q.answer.cell q.answer.epoch y q.heard ∙ heard_cell s.reps c.0.cell c.0.epoch q.answer c.2 in
+      let cells : y.cell ≡ c.0.cell = heard_cell h.opened.reps q.answer.cell q.answer.epoch y q.heard ∙ heard_cell
+      s.reps c.0.cell c.0.epoch q.answer c.2 in
       let epochs : y.epoch ≡ c.0.epoch = q.heard.epoch_is ∙ c.2.epoch_is in
-      (run-ground (after_work R now) now (plan_of_answers (after_work R now) got now) (plan_of_round (after_work R now) got now valid_work)).there y.cell y.epoch
+      (run-ground (after_work R now) now (plan_of_answers (after_work R now) got now)
+      (plan_of_round (after_work R now) got now valid_work)).there y.cell y.epoch
       ∙ (run-ground R now (work R now) (work_of_round R now valid)).there y.cell y.epoch
       ∙ ap (λ (n : List ℕ). is_there R now n y.epoch) cells ∙ ap (λ (e : ℕ). is_there R now c.0.cell e) epochs
-      ∙ ap (λ (x : Rows). is_there x now c.0.cell c.0.epoch) (sym first_rows) ∙ present-there (rows_seen h.opens.first) now c.0 h.opens.heard.valid c.1
+      ∙ ap (λ (x : Rows). is_there x now c.0.cell c.0.epoch) (sym first_rows) ∙ present-there
+      (rows_seen h.opens.first) now c.0 h.opens.heard.valid c.1
 
-  under : (c : Command) → Contains (parts.claims by now line s s' r h) c → (x : Answer) × Contains roomy x × IsClaimUnder now x.cell x.epoch c
+  under : (c : Command) → Contains (parts.claims by now line s s' r h) c
+      → (x : Answer) × Contains roomy x × IsClaimUnder now x.cell x.epoch c
   under = (parts.served by now line s s' r h).under (λ y inside.
       let q = parts.roomy_cell by now line s s' r h y inside in
       is-ready h.opened.reps y apart_later (heard_inside h.opened.reps q.answer.cell q.answer.epoch y q.heard))
 
-  are : AreClaims now A (placements A roomy) roomy (parts.served by now line s s' r h).missing (parts.claims by now line s s' r h)
-  are = subst (λ (ps : List Placement). AreClaims now A ps roomy (parts.served by now line s s' r h).missing (parts.claims by now line s s' r h)) (account.places_are by now line s s' r h none)
-      (subst (λ (x : Rows). AreClaims now x h.opening_is.places.placements roomy (parts.served by now line s s' r h).missing (parts.claims by now line s s' r h)) (account.places_rows by now line s s' r h none)
+  are : AreClaims now A (placements A roomy) roomy (parts.served by now line s s' r h).missing
+      (parts.claims by now line s s' r h)
+  are = subst (λ (ps : List Placement). AreClaims now A ps roomy (parts.served by now line s s' r h).missing
+      (parts.claims by now line s s' r h)) (account.places_are by now line s s' r h none)
+      (subst (λ (x : Rows). AreClaims now x h.opening_is.places.placements roomy
+      (parts.served by now line s s' r h).missing (parts.claims by now line s s' r h))
+      (account.places_rows by now line s s' r h none)
       (parts.served by now line s s' r h).are)
 
   last : AreRefusedForRoom A (parts.claims by now line s s' r h ++ fails_of A now (unplaced (placements A roomy)))
-  last = claims-refused now A roomy valid_plan (parts.served by now line s s' r h).missing (parts.claims by now line s s' r h) are
-      (differ_pairs (map (λ (x : Answer). x.cell) roomy) (open_answers (rows_seen h.opened.view) h.opened.reps got roomy h.opens.heard.apart h.opens.placed.open_are).differ) under roomy_there
+  last = claims-refused now A roomy valid_plan (parts.served by now line s s' r h).missing
+      (parts.claims by now line s s' r h) are
+      (differ_pairs (map (λ (x : Answer). x.cell) roomy) (open_answers
+      (rows_seen h.opened.view) h.opened.reps got roomy h.opens.heard.apart h.opens.placed.open_are).differ) under
+      roomy_there
 
   pub alone-refused : (x : Command × BoardRefusal) → Contains r.refused x → IsLack x.1
   alone-refused x inside =
@@ -232,12 +272,15 @@ module _ (by : ℕ) (now : Moment) (line : ℕ) (s s' : Standing) (r : Report) (
       let P : List Command = plan_of_answers (after_work R now) got now in
       let L : List Command = parts.claims by now line s s' r h ++ fails_of A now (unplaced (placements A roomy)) in
       let all : r.refused ≡ refused_of R (W ++ (P ++ L)) =
-      h.reports.refused ∙ (account.turns by now line s s' r h none).refused ∙ ap (refused_of R) (account.calls_are by now line s s' r h none) in
-      let here : Contains (refused_of R W ++ refused_of (after_work R now) (P ++ L)) x = subst (λ xs. Contains xs x) (all ∙ refused_append R W (P ++ L)) inside in
+      h.reports.refused ∙ (account.turns by now line s s' r h none).refused ∙ ap (refused_of R)
+      (account.calls_are by now line s s' r h none) in
+      let here : Contains (refused_of R W ++ refused_of (after_work R now) (P ++ L)) x =
+      subst (λ xs. Contains xs x) (all ∙ refused_append R W (P ++ L)) inside in
       ⊎_elim
       (λ first. work-refused R now valid x first)
       (λ rest. ⊎_elim
       (λ second. plan-refused (after_work R now) got now valid_work x second)
       (λ third. last x third)
-      (Contains-append_cases (refused_of (after_work R now) P) (refused_of A L) x (subst (λ xs. Contains xs x) (refused_append (after_work R now) P L) rest)))
+      (Contains-append_cases (refused_of (after_work R now) P) (refused_of A L) x
+      (subst (λ xs. Contains xs x) (refused_append (after_work R now) P L) rest)))
       (Contains-append_cases (refused_of R W) (refused_of (after_work R now) (P ++ L)) x here)

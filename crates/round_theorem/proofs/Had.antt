@@ -71,7 +71,8 @@ had_noted by c s s' h = record {
   refused = ap (λ (t : Tally). t.refused) h.tally_is ∙ refused_noted c h.reply s.tally;
 }
 
-pub each-had : (by : ℕ) (cs : List Command) (s s' : Calling) → Each (IsNoted by) cs s s' → Each (IsHad by) cs (had s) (had s')
+pub each-had : (by : ℕ) (cs : List Command) (s s' : Calling) → Each (IsNoted by) cs s s'
+    → Each (IsHad by) cs (had s) (had s')
 each-had by [] s s' f = ap had f
 each-had by (c ∷ cs) s s' f = (had f.0, had_noted by c s f.0 f.1, each-had by cs f.0 s' f.2)
 
@@ -85,12 +86,16 @@ abbrev why_or : BoardRefusal → Result Reply CallFault → BoardRefusal
 why_or other (Ok (reply.Refused why place)) = why
 why_or other end = other
 
-turn_by : (by : ℕ) (rows : Rows) (c : Command) (r : Reply) (place stamp : ℕ) (x : Verdict) → Ends x place stamp (Ok r) → IsTurn by rows c r x
+turn_by : (by : ℕ) (rows : Rows) (c : Command) (r : Reply) (place stamp : ℕ) (x : Verdict) → Ends x place stamp (Ok r)
+    → IsTurn by rows c r x
 turn_by by rows c (reply.Ok at n) place stamp verdict.Ok ends = record { items = refl; refusal = refl; rows_are = refl }
-turn_by by rows c (reply.Same at) place stamp verdict.Ok ends = ⊎_elim (λ same. absurd cc) (λ rest. ⊎_elim (λ bad. absurd cc) (λ bad. absurd cc) rest) ends
-turn_by by rows c (reply.Refused why at) place stamp verdict.Ok ends = ⊎_elim (λ same. absurd cc) (λ rest. ⊎_elim (λ bad. absurd cc) (λ bad. absurd cc) rest) ends
+turn_by by rows c (reply.Same at) place stamp verdict.Ok ends =
+    ⊎_elim (λ same. absurd cc) (λ rest. ⊎_elim (λ bad. absurd cc) (λ bad. absurd cc) rest) ends
+turn_by by rows c (reply.Refused why at) place stamp verdict.Ok ends =
+    ⊎_elim (λ same. absurd cc) (λ rest. ⊎_elim (λ bad. absurd cc) (λ bad. absurd cc) rest) ends
 turn_by by rows c (reply.Ok at n) place stamp verdict.Same ends = absurd cc
-turn_by by rows c (reply.Same at) place stamp verdict.Same ends = record { items = refl; refusal = refl; rows_are = refl }
+turn_by by rows c (reply.Same at) place stamp verdict.Same ends =
+    record { items = refl; refusal = refl; rows_are = refl }
 turn_by by rows c (reply.Refused why at) place stamp verdict.Same ends = absurd cc
 turn_by by rows c (reply.Ok at n) place stamp (verdict.Refused y) ends = absurd cc
 turn_by by rows c (reply.Same at) place stamp (verdict.Refused y) ends = absurd cc
@@ -109,34 +114,50 @@ pub record AreTurns (by : ℕ) (cs : List Command) (s s' : Had) : Type 0 where
 abbrev pub done_by : ℕ → Command → Item
 done_by by c = Done by c
 
-legal_first : (by : ℕ) (c : Command) (later : List Command) (x : Verdict) → map (done_by by) (if_legal x (c ∷ later) later) ≡ if_legal x (done_by by c ∷ []) [] ++ map (done_by by) later
+legal_first : (by : ℕ) (c : Command) (later : List Command) (x : Verdict)
+    → map (done_by by) (if_legal x (c ∷ later) later) ≡ if_legal x (done_by by c ∷ []) [] ++ map (done_by by) later
 legal_first by c later verdict.Ok = refl
 legal_first by c later verdict.Same = refl
 legal_first by c later (verdict.Refused why) = refl
 
 turn_one : (by : ℕ) (c : Command) (s s' : Had) (h : IsHad by c s s') → IsQuiet s.view s'.view
-    → (s'.view.seen ≡ s.view.seen ++ if_legal (verdict_of (rows_seen s.view) c) (done_by by c ∷ []) []) × (s'.refused ≡ s.refused ++ refusal_by c (verdict_of (rows_seen s.view) c)) × (rows_seen s'.view ≡ state_after (rows_seen s.view) c)
+    → (s'.view.seen ≡ s.view.seen ++ if_legal (verdict_of (rows_seen s.view) c) (done_by by c ∷ []) [])
+    × (s'.refused ≡ s.refused ++ refusal_by c (verdict_of (rows_seen s.view) c))
+    × (rows_seen s'.view ≡ state_after (rows_seen s.view) c)
 turn_one by c s s' h q =
     let none = quiet_called by s.view c (Ok h.reply) s'.view h.called q in
-    let seen : s.view.seen ++ h.called.others ≡ s.view.seen = ap (λ xs. s.view.seen ++ xs) none ∙ append-nil s.view.seen in
+    let seen : s.view.seen ++ h.called.others ≡ s.view.seen =
+    ap (λ xs. s.view.seen ++ xs) none ∙ append-nil s.view.seen in
     let same : rows_seen (after_others s.view h.called.others) ≡ rows_seen s.view = ap (replay_log s.view.base) seen in
-    let ends = subst (λ (x : Rows). Ends (verdict_of x c) (length (s.view.seen ++ h.called.others)) x.next (Ok h.reply)) same h.called.ends in
-    let turn = turn_by by (rows_seen s.view) c h.reply (length (s.view.seen ++ h.called.others)) (rows_seen s.view).next (verdict_of (rows_seen s.view) c) ends in
-    let all : s'.view.seen ≡ s.view.seen ++ added (Ok h.reply) by c = ap (λ (v : PortView). v.seen) h.called.is ∙ ap (λ xs. xs ++ added (Ok h.reply) by c) seen in
+    let ends = subst (λ (x : Rows). Ends (verdict_of x c) (length (s.view.seen ++ h.called.others)) x.next (Ok h.reply))
+    same h.called.ends in
+    let turn = turn_by by (rows_seen s.view) c h.reply (length (s.view.seen ++ h.called.others)) (rows_seen s.view).next
+    (verdict_of (rows_seen s.view) c) ends in
+    let all : s'.view.seen ≡ s.view.seen ++ added (Ok h.reply) by c =
+    ap (λ (v : PortView). v.seen) h.called.is ∙ ap (λ xs. xs ++ added (Ok h.reply) by c) seen in
     let base : s'.view.base ≡ s.view.base = ap (λ (v : PortView). v.base) h.called.is in (
       all ∙ ap (λ xs. s.view.seen ++ xs) turn.items,
       h.refused ∙ ap (λ xs. s.refused ++ xs) turn.refusal,
-      ap (λ (b : Rows). replay_log b s'.view.seen) base ∙ ap (replay_log s.view.base) all ∙ replay_log-append s.view.base s.view.seen (added (Ok h.reply) by c) ∙ turn.rows_are,
+      ap (λ (b : Rows). replay_log b s'.view.seen) base ∙ ap
+          (replay_log s.view.base) all ∙ replay_log-append s.view.base s.view.seen
+          (added (Ok h.reply) by c) ∙ turn.rows_are,
     )
 
 pub later-had : (by : ℕ) (cs : List Command) (s s' : Had) → Each (IsHad by) cs s s' → IsLater s.view s'.view
 later-had by [] s s' f = subst (λ (x : Had). IsLater s.view x.view) (sym f) (later_same s.view)
 later-had by (c ∷ cs) s s' f =
-    later_then s.view f.0.view s'.view (later_called by s.view c (Ok f.1.reply) f.0.view f.1.called) (later-had by cs f.0 s' f.2)
+    later_then s.view f.0.view s'.view (later_called by s.view c (Ok f.1.reply) f.0.view f.1.called)
+    (later-had by cs f.0 s' f.2)
 
-pub turns-had : (by : ℕ) (cs : List Command) (s s' : Had) → Each (IsHad by) cs s s' → IsQuiet s.view s'.view → AreTurns by cs s s'
+pub turns-had : (by : ℕ) (cs : List Command) (s s' : Had) → Each (IsHad by) cs s s' → IsQuiet s.view s'.view
+    → AreTurns by cs s s'
 turns-had by [] s s' f q =
-    subst (AreTurns by [] s) (sym f) (record { items = sym (append-nil s.view.seen); refused = sym (append-nil s.refused); rows_are = refl })
+    subst (AreTurns by [] s) (sym f) (record {
+      items = sym (append-nil s.view.seen);
+      refused =
+          sym (append-nil s.refused);
+      rows_are = refl;
+    })
 turns-had by (c ∷ cs) s s' f q =
     let rows : Rows = rows_seen s.view in
     let one_later = later_called by s.view c (Ok f.1.reply) f.0.view f.1.called in
@@ -144,10 +165,14 @@ turns-had by (c ∷ cs) s s' f q =
     let one = turn_one by c s f.0 f.1 (quiet_first s.view f.0.view s'.view one_later rest_later q) in
     let rest = turns-had by cs f.0 s' f.2 (quiet_second s.view f.0.view s'.view one_later rest_later q) in
     record {
-      items = rest.items ∙ ap (λ (x : Rows). f.0.view.seen ++ items_of by x cs) one.2 ∙ ap (λ xs. xs ++ items_of by (state_after rows c) cs) one.0
-          ∙ append_assoc s.view.seen (if_legal (verdict_of rows c) (done_by by c ∷ []) []) (items_of by (state_after rows c) cs)
-          ∙ ap (λ xs. s.view.seen ++ xs) (sym (legal_first by c (legal_ones (state_after rows c) cs) (verdict_of rows c)));
-      refused = rest.refused ∙ ap (λ (x : Rows). f.0.refused ++ refused_of x cs) one.2 ∙ ap (λ xs. xs ++ refused_of (state_after rows c) cs) one.1
+      items = rest.items ∙ ap (λ (x : Rows). f.0.view.seen ++ items_of by x cs) one.2 ∙ ap
+          (λ xs. xs ++ items_of by (state_after rows c) cs) one.0
+          ∙ append_assoc s.view.seen (if_legal (verdict_of rows c) (done_by by c ∷ []) [])
+          (items_of by (state_after rows c) cs)
+          ∙ ap (λ xs. s.view.seen ++ xs) (sym (legal_first by c (legal_ones (state_after rows c) cs)
+          (verdict_of rows c)));
+      refused = rest.refused ∙ ap (λ (x : Rows). f.0.refused ++ refused_of x cs) one.2 ∙ ap
+          (λ xs. xs ++ refused_of (state_after rows c) cs) one.1
           ∙ append_assoc s.refused (refusal_by c (verdict_of rows c)) (refused_of (state_after rows c) cs);
       rows_are = rest.rows_are ∙ ap (λ (x : Rows). state_after_all x cs) one.2;
     }
@@ -157,30 +182,41 @@ pub record AreCountedIn (s s' : Had) : Type 0 where
   pub own : s'.own + length s.view.mine ≡ s.own + length s'.view.mine
   pub few : s'.own ≤ length s'.view.seen
 
-count_ok : (own own' seen seen' mine mine' others : ℕ) → own' ≡ one_more own → seen' ≡ seen + others + 1 → mine' ≡ mine + 1 → own ≤ seen → seen' < 2 ^ 64
+count_ok : (own own' seen seen' mine mine' others : ℕ) → own' ≡ one_more own → seen' ≡ seen + others + 1
+    → mine' ≡ mine + 1 → own ≤ seen → seen' < 2 ^ 64
     → (own' + mine ≡ own + mine') × (own' ≤ seen')
 count_ok own own' seen seen' mine mine' others a b c d e = (omega (arith, a, b, c, d, e), omega (arith, a, b, c, d, e))
 
-count_none : (own own' seen seen' mine mine' others : ℕ) → own' ≡ own → seen' ≡ seen + others + 0 → mine' ≡ mine + 0 → own ≤ seen
+count_none : (own own' seen seen' mine mine' others : ℕ) → own' ≡ own → seen' ≡ seen + others + 0 → mine' ≡ mine + 0
+    → own ≤ seen
     → (own' + mine ≡ own + mine') × (own' ≤ seen')
 count_none own own' seen seen' mine mine' others a b c d = (omega (arith, a, b, c, d), omega (arith, a, b, c, d))
 
-count_by : (by : ℕ) (c : Command) (r : Reply) (own own' seen seen' mine mine' others : ℕ) → own' ≡ own_after r own → seen' ≡ seen + others + length (added (Ok r) by c)
-    → mine' ≡ mine + length (added (Ok r) by c) → own ≤ seen → seen' < 2 ^ 64 → (own' + mine ≡ own + mine') × (own' ≤ seen')
-count_by by c (reply.Ok at n) own own' seen seen' mine mine' others a b d e f = count_ok own own' seen seen' mine mine' others a b d e f
-count_by by c (reply.Same at) own own' seen seen' mine mine' others a b d e f = count_none own own' seen seen' mine mine' others a b d e
-count_by by c (reply.Refused why at) own own' seen seen' mine mine' others a b d e f = count_none own own' seen seen' mine mine' others a b d e
+count_by : (by : ℕ) (c : Command) (r : Reply) (own own' seen seen' mine mine' others : ℕ) → own' ≡ own_after r own
+    → seen' ≡ seen + others + length (added (Ok r) by c)
+    → mine' ≡ mine + length (added (Ok r) by c) → own ≤ seen → seen' < 2 ^ 64
+    → (own' + mine ≡ own + mine') × (own' ≤ seen')
+count_by by c (reply.Ok at n) own own' seen seen' mine mine' others a b d e f =
+    count_ok own own' seen seen' mine mine' others a b d e f
+count_by by c (reply.Same at) own own' seen seen' mine mine' others a b d e f =
+    count_none own own' seen seen' mine mine' others a b d e
+count_by by c (reply.Refused why at) own own' seen seen' mine mine' others a b d e f =
+    count_none own own' seen seen' mine mine' others a b d e
 
 count_one : (by : ℕ) (c : Command) (s s' : Had) → IsHad by c s s' → s.own ≤ length s.view.seen → AreCountedIn s s'
 count_one by c s s' h few =
     let items : List Item = added (Ok h.reply) by c in
     let seen : length s'.view.seen ≡ length s.view.seen + length h.called.others + length items =
-    ap (λ (v : PortView). length v.seen) h.called.is ∙ length-append (s.view.seen ++ h.called.others) items ∙ ap (λ n. n + length items) (length-append s.view.seen h.called.others) in
-    let mine : length s'.view.mine ≡ length s.view.mine + length items = ap (λ (v : PortView). length v.mine) h.called.is ∙ length-append s.view.mine items in
-    let both = count_by by c h.reply s.own s'.own (length s.view.seen) (length s'.view.seen) (length s.view.mine) (length s'.view.mine) (length h.called.others) h.own seen mine few h.called.few in
+    ap (λ (v : PortView). length v.seen) h.called.is ∙ length-append (s.view.seen ++ h.called.others) items ∙ ap
+    (λ n. n + length items) (length-append s.view.seen h.called.others) in
+    let mine : length s'.view.mine ≡ length s.view.mine + length items =
+    ap (λ (v : PortView). length v.mine) h.called.is ∙ length-append s.view.mine items in
+    let both = count_by by c h.reply s.own s'.own (length s.view.seen) (length s'.view.seen) (length s.view.mine)
+    (length s'.view.mine) (length h.called.others) h.own seen mine few h.called.few in
     record { own = both.0; few = both.1 }
 
-pub counted-had : (by : ℕ) (cs : List Command) (s s' : Had) → Each (IsHad by) cs s s' → s.own ≤ length s.view.seen → AreCountedIn s s'
+pub counted-had : (by : ℕ) (cs : List Command) (s s' : Had) → Each (IsHad by) cs s s' → s.own ≤ length s.view.seen
+    → AreCountedIn s s'
 counted-had by [] s s' f few = subst (AreCountedIn s) (sym f) (record { own = refl; few = few })
 counted-had by (c ∷ cs) s s' f few =
     let one = count_one by c s f.0 f.1 few in
@@ -188,9 +224,13 @@ counted-had by (c ∷ cs) s s' f few =
     record { own = omega (arith, one.own, rest.own); few = rest.few }
 
 -- each item is of one of the commands
-pub own-had : (by : ℕ) (cs : List Command) (s s' : Had) → Each (IsHad by) cs s s' → AreOf by (Contains cs) s.view s'.view
+pub own-had : (by : ℕ) (cs : List Command) (s s' : Had) → Each (IsHad by) cs s s'
+    → AreOf by (Contains cs) s.view s'.view
 own-had by [] s s' f = own_as by (Contains []) s.view s'.view (ap (λ (x : Had). x.view) f)
 own-had by (c ∷ cs) s s' f =
     own_then by (Contains (c ∷ cs)) s.view f.0.view s'.view
-    (own_weaker by (λ x. x ≡ c) (Contains (c ∷ cs)) s.view f.0.view (λ x is. subst (Contains (c ∷ cs)) (sym is) (inside_first c cs)) (own_called by s.view c (Ok f.1.reply) f.0.view f.1.called))
-    (own_weaker by (Contains cs) (Contains (c ∷ cs)) f.0.view s'.view (λ x inside. inside_rest x c cs inside) (own-had by cs f.0 s' f.2))
+    (own_weaker by (λ x. x ≡ c) (Contains (c ∷ cs)) s.view f.0.view
+    (λ x is. subst (Contains (c ∷ cs)) (sym is) (inside_first c cs))
+    (own_called by s.view c (Ok f.1.reply) f.0.view f.1.called))
+    (own_weaker by (Contains cs) (Contains (c ∷ cs)) f.0.view s'.view (λ x inside. inside_rest x c cs inside)
+    (own-had by cs f.0 s' f.2))

@@ -4,19 +4,24 @@ use Rattle.std.specs.List.{AllPairs, AllZip, Contains, cons_option}
 use Rattle.std.proofs.lemmas.List.Elements.{Contains-append_cases}
 use Rattle.converge_laws.proofs.Public.{inside_first, inside_rest, first_or_rest, inside_map}
 
-inside_kept : {X Y : Type 0} (x : X) (ys : List X) (f : X → Option Y) (o : Option Y) (y : Y) → Contains (filter_map f ys) y → Contains (cons_option o (filter_map f ys)) y
+inside_kept : {X Y : Type 0} (x : X) (ys : List X) (f : X → Option Y) (o : Option Y) (y : Y)
+    → Contains (filter_map f ys) y → Contains (cons_option o (filter_map f ys)) y
 inside_kept x ys f None y h = h
 inside_kept x ys f (Some z) y h = inside_rest y z (filter_map f ys) h
 
 -- what an element comes to is kept
-pub kept_inside : {X Y : Type 0} (f : X → Option Y) (xs : List X) (x : X) (y : Y) → Contains xs x → f x ≡ Some y → Contains (filter_map f xs) y
+pub kept_inside : {X Y : Type 0} (f : X → Option Y) (xs : List X) (x : X) (y : Y) → Contains xs x → f x ≡ Some y
+    → Contains (filter_map f xs) y
 kept_inside {Y = Y} f [] x y (k, lt, at) e = absurd (omega arith)
 kept_inside {Y = Y} f (z ∷ xs) x y (zero, lt, at) e =
-    subst (λ (o : Option Y). Contains (cons_option o (filter_map f xs)) y) (sym (ap f at ∙ e)) (inside_first y (filter_map f xs))
-kept_inside {Y = Y} f (z ∷ xs) x y (suc k, lt, at) e = inside_kept z xs f (f z) y (kept_inside f xs x y (k, omega arith, at) e)
+    subst (λ (o : Option Y). Contains (cons_option o (filter_map f xs)) y) (sym (ap f at ∙ e))
+    (inside_first y (filter_map f xs))
+kept_inside {Y = Y} f (z ∷ xs) x y (suc k, lt, at) e =
+    inside_kept z xs f (f z) y (kept_inside f xs x y (k, omega arith, at) e)
 
 -- two lists that agree place by place, by way of a third
-pub zip_then : {X : Type 0} (R S Q : X → X → Type 0) → ((x y z : X) → R x y → S y z → Q x z) → (xs ys zs : List X) → AllZip R xs ys → AllZip S ys zs → AllZip Q xs zs
+pub zip_then : {X : Type 0} (R S Q : X → X → Type 0) → ((x y z : X) → R x y → S y z → Q x z) → (xs ys zs : List X)
+    → AllZip R xs ys → AllZip S ys zs → AllZip Q xs zs
 zip_then R S Q join [] [] [] f g = tt
 zip_then R S Q join [] [] (z ∷ zs) f g = absurd g
 zip_then R S Q join [] (y ∷ ys) zs f g = absurd f
@@ -35,7 +40,8 @@ AgreeIf R None (Some y) = ⊥
 AgreeIf R (Some x) None = ⊥
 AgreeIf R (Some x) (Some y) = R x y
 
-pub agree_then : {X : Type 0} (R S Q : X → X → Type 0) → ((x y z : X) → R x y → S y z → Q x z) → (a b c : Option X) → AgreeIf R a b → AgreeIf S b c → AgreeIf Q a c
+pub agree_then : {X : Type 0} (R S Q : X → X → Type 0) → ((x y z : X) → R x y → S y z → Q x z) → (a b c : Option X)
+    → AgreeIf R a b → AgreeIf S b c → AgreeIf Q a c
 agree_then R S Q join None None None f g = tt
 agree_then R S Q join None None (Some z) f g = absurd g
 agree_then R S Q join None (Some y) c f g = absurd f
@@ -43,7 +49,8 @@ agree_then R S Q join (Some x) None c f g = absurd f
 agree_then R S Q join (Some x) (Some y) None f g = absurd g
 agree_then R S Q join (Some x) (Some y) (Some z) f g = join x y z f g
 
-zip_kept : {X : Type 0} (R : X → X → Type 0) (a b : Option X) (xs ys : List X) → AgreeIf R a b → AllZip R xs ys → AllZip R (cons_option a xs) (cons_option b ys)
+zip_kept : {X : Type 0} (R : X → X → Type 0) (a b : Option X) (xs ys : List X) → AgreeIf R a b → AllZip R xs ys
+    → AllZip R (cons_option a xs) (cons_option b ys)
 zip_kept R None None xs ys f g = g
 zip_kept R None (Some y) xs ys f g = absurd f
 zip_kept R (Some x) None xs ys f g = absurd f
@@ -54,7 +61,8 @@ agree_same R None same = tt
 agree_same R (Some x) same = same x refl
 
 module _ {A X : Type 0} (R : X → X → Type 0) (f : A → Option X) where
-  zip_others : (xs : List A) → ((a : A) → Contains xs a → (x : X) → f a ≡ Some x → R x x) → AllZip R (filter_map f xs) (filter_map f xs)
+  zip_others : (xs : List A) → ((a : A) → Contains xs a → (x : X) → f a ≡ Some x → R x x)
+      → AllZip R (filter_map f xs) (filter_map f xs)
   zip_others [] same = tt
   zip_others (a ∷ xs) same = zip_kept R (f a) (f a) (filter_map f xs) (filter_map f xs)
       (agree_same R (f a) (same a (inside_first a xs))) (zip_others xs (λ b inside. same b (inside_rest b a xs inside)))
@@ -66,10 +74,13 @@ module _ {A X : Type 0} (R : X → X → Type 0) (f : A → Option X) where
   zip_set [] at a b within is one others = absurd (omega arith)
   zip_set (x ∷ xs) zero a b within is one others =
       zip_kept R (f x) (f b) (filter_map f xs) (filter_map f xs) (subst (λ c. AgreeIf R (f c) (f b)) is one)
-      (zip_others xs (λ c inside. others (suc inside.0) c (omega (arith, inside.1)) (sym inside.2) (λ e. omega (arith, e))))
+      (zip_others xs (λ c inside. others (suc inside.0) c (omega (arith, inside.1)) (sym inside.2)
+      (λ e. omega (arith, e))))
   zip_set (x ∷ xs) (suc k) a b within is one others =
-      zip_kept R (f x) (f x) (filter_map f xs) (filter_map f (set xs k b)) (agree_same R (f x) (others 0 x (omega arith) refl (λ e. omega (arith, e))))
-      (zip_set xs k a b (omega arith) is one (λ n c lt at ne. others (suc n) c (omega arith) at (λ e. ne (omega (arith, e)))))
+      zip_kept R (f x) (f x) (filter_map f xs) (filter_map f (set xs k b))
+      (agree_same R (f x) (others 0 x (omega arith) refl (λ e. omega (arith, e))))
+      (zip_set xs k a b (omega arith) is one (λ n c lt at ne.
+      others (suc n) c (omega arith) at (λ e. ne (omega (arith, e)))))
 
 -- no two elements are one
 abbrev pub Differ : {X : Type 0} → List X → Type 0
@@ -83,15 +94,18 @@ differ_pairs (x ∷ xs) h = (
   differ_pairs xs (λ i j d lt below. h (suc i) (suc j) d (omega arith) (omega arith)),
 )
 
-pub differ_append : {X : Type 0} (xs ys : List X) → Differ xs → Differ ys → ((x y : X) → Contains xs x → Contains ys y → y ≢ x) → Differ (xs ++ ys)
+pub differ_append : {X : Type 0} (xs ys : List X) → Differ xs → Differ ys
+    → ((x y : X) → Contains xs x → Contains ys y → y ≢ x) → Differ (xs ++ ys)
 differ_append [] ys f g ne = g
 differ_append (x ∷ xs) ys f g ne = (
-  λ y inside e. ⊎_elim (λ here. f.0 y here e) (λ there. ne x y (inside_first x xs) there e) (Contains-append_cases xs ys y inside),
+  λ y inside e. ⊎_elim (λ here. f.0 y here e) (λ there. ne x y (inside_first x xs) there e)
+      (Contains-append_cases xs ys y inside),
   differ_append xs ys f.1 g (λ a b in_a in_b. ne a b (inside_rest a x xs in_a) in_b),
 )
 
 -- where names differ, an element is told by its name
-pub one_of_name : {X N : Type 0} (f : X → N) (xs : List X) → Differ (map f xs) → (x y : X) → Contains xs x → Contains xs y → f x ≡ f y → x ≡ y
+pub one_of_name : {X N : Type 0} (f : X → N) (xs : List X) → Differ (map f xs) → (x y : X) → Contains xs x
+    → Contains xs y → f x ≡ f y → x ≡ y
 one_of_name f [] h x y in_x in_y e = absurd (omega (arith, in_x.1))
 one_of_name f (z ∷ xs) h x y in_x in_y e =
     ⊎_elim

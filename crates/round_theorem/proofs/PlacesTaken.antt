@@ -33,7 +33,8 @@ use Rattle.round_theorem.proofs.ClaimsMade.{about_job}
 use Rattle.round_theorem.proofs.Lists.{Differ, differ_append, one_of_name, kept_inside}
 
 -- commands whose subjects differ are apart, where none changes a SUSPECT row
-pub apart_by_subjects : (cs : List Command) → Differ (map subject_in cs) → ((c : Command) → Contains cs c → suspect_in c.op ≡ None) → AreApart cs
+pub apart_by_subjects : (cs : List Command) → Differ (map subject_in cs)
+    → ((c : Command) → Contains cs c → suspect_in c.op ≡ None) → AreApart cs
 apart_by_subjects [] h plain = tt
 apart_by_subjects (c ∷ cs) h plain = (
   λ d inside. record {
@@ -51,18 +52,23 @@ one_subject a (name.Task n) e = same_task_as a n e
 abbrev name_or : JobName → Option Job → JobName
 name_or other o = option_map_or (λ (j : Job). j.job) o other
 
-place_named : (key : Key) (d : Desired) (b : Bool) (j : Job) → cond b (Some (record { job = name.Lrp key; memory = d.memory; disk = d.disk; tag = d.tag })) None ≡ Some j → j.job ≡ name.Lrp key
+place_named : (key : Key) (d : Desired) (b : Bool) (j : Job)
+    → cond b (Some (record { job = name.Lrp key; memory = d.memory; disk = d.disk; tag = d.tag })) None ≡ Some j
+    → j.job ≡ name.Lrp key
 place_named key d true j e = sym (ap (name_or (name.Lrp key)) e)
 place_named key d false j e = absurd cc
 
-pub instance_named : (key : Key) (o : Option Desired) (j : Job) → option_and_then (job_of_place key) o ≡ Some j → j.job ≡ name.Lrp key
+pub instance_named : (key : Key) (o : Option Desired) (j : Job) → option_and_then (job_of_place key) o ≡ Some j
+    → j.job ≡ name.Lrp key
 instance_named key None j e = absurd cc
 instance_named key (Some d) j e = place_named key d (nat_lt key.index d.instances) j e
 
-task_named : (rows : Rows) (n : List ℕ) (o : Option Task) (j : Job) → find_task rows n ≡ o → option_map job_of_task o ≡ Some j → j.job ≡ name.Task n
+task_named : (rows : Rows) (n : List ℕ) (o : Option Task) (j : Job) → find_task rows n ≡ o
+    → option_map job_of_task o ≡ Some j → j.job ≡ name.Task n
 task_named rows n None j is e = absurd cc
 task_named rows n (Some t) j is e =
-    sym (ap (name_or (name.Task t.name)) e) ∙ ap (λ m. name.Task m) (key-find_row name_order task_name_of IsKeyOrder-name_order n t rows.tasks is)
+    sym (ap (name_or (name.Task t.name)) e) ∙ ap (λ m. name.Task m)
+    (key-find_row name_order task_name_of IsKeyOrder-name_order n t rows.tasks is)
 
 -- a job that is found by a name has it
 pub named_so : (rows : Rows) (n : JobName) (j : Job) → named_job rows n ≡ Some j → j.job ≡ n
@@ -70,7 +76,8 @@ named_so rows (name.Lrp key) j e = instance_named key (find_desired rows key.pro
 named_so rows (name.Task n) j e = task_named rows n (find_task rows n) j refl e
 
 -- where a job that goes to a cell was placed
-on_cell_if : (rows : Rows) (cell other : List ℕ) (n : JobName) (j : Job) (b : Bool) → same_name other cell ≡ b → cond b (named_job rows n) None ≡ Some j → (On n other ≡ On j.job cell)
+on_cell_if : (rows : Rows) (cell other : List ℕ) (n : JobName) (j : Job) (b : Bool) → same_name other cell ≡ b
+    → cond b (named_job rows n) None ≡ Some j → (On n other ≡ On j.job cell)
 on_cell_if rows cell other n j true same e = λ i. On (sym (named_so rows n j e) i) (same_text other cell (sym same) i)
 on_cell_if rows cell other n j false same e = absurd cc
 
@@ -78,23 +85,27 @@ on_cell : (rows : Rows) (cell : List ℕ) (p : Placement) (j : Job) → job_on r
 on_cell rows cell (On n other) j e = on_cell_if rows cell other n j (same_name other cell) refl e
 on_cell rows cell (NoRoom n) j e = absurd cc
 
-pub placed_on : (rows : Rows) (list : List Placement) (cell : List ℕ) (j : Job) → Contains (jobs_on rows list cell) j → Contains list (On j.job cell)
+pub placed_on : (rows : Rows) (list : List Placement) (cell : List ℕ) (j : Job) → Contains (jobs_on rows list cell) j
+    → Contains list (On j.job cell)
 placed_on rows list cell j inside =
     let k = from_kept (job_on rows cell) list j inside in
     subst (Contains list) (on_cell rows cell k.0 j k.2) k.1
 
 -- a placement on a cell leads to its job there
-pub goes_there : (rows : Rows) (list : List Placement) (cell : List ℕ) (n : JobName) (j : Job) → Contains list (On n cell) → named_job rows n ≡ Some j → Contains (jobs_on rows list cell) j
+pub goes_there : (rows : Rows) (list : List Placement) (cell : List ℕ) (n : JobName) (j : Job)
+    → Contains list (On n cell) → named_job rows n ≡ Some j → Contains (jobs_on rows list cell) j
 goes_there rows list cell n j inside named =
     kept_inside (job_on rows cell) list (On n cell) j inside
     (ap (λ (b : Bool). cond b (named_job rows n) None) (nat_list_eq_equiv.refl cell) ∙ named)
 
 module _ (rows : Rows) where
   -- the jobs of one cell differ
-  one_cell : (cell : List ℕ) (list : List Placement) → Differ (map job_in list) → Differ (map about_job (jobs_on rows list cell))
+  one_cell : (cell : List ℕ) (list : List Placement) → Differ (map job_in list)
+      → Differ (map about_job (jobs_on rows list cell))
   one_cell cell [] h = tt
   one_cell cell (p ∷ list) h =
-      elim (job_on rows cell p) as (λ (o : Option Job). job_on rows cell p ≡ o → Differ (map about_job (cons_option o (jobs_on rows list cell)))) [
+      elim (job_on rows cell p) as (λ (o : Option Job). job_on rows cell p ≡ o
+      → Differ (map about_job (cons_option o (jobs_on rows list cell)))) [
         | None ↦ λ is. one_cell cell list h.1
         | (Some j) ↦ λ is. (
           λ s inside same.
@@ -113,10 +124,12 @@ cell_or other (NoRoom n) = other
 
 module _ (rows : Rows) (list : List Placement) (differ : Differ (map job_in list)) where
   -- the jobs of all cells differ
-  pub all_cells : (xs : List Answer) → Differ (map (λ (x : Answer). x.cell) xs) → Differ (flat_map (λ (x : Answer). map about_job (jobs_on rows list x.cell)) xs)
+  pub all_cells : (xs : List Answer) → Differ (map (λ (x : Answer). x.cell) xs)
+      → Differ (flat_map (λ (x : Answer). map about_job (jobs_on rows list x.cell)) xs)
   all_cells [] h = tt
   all_cells (x ∷ xs) h =
-      differ_append (map about_job (jobs_on rows list x.cell)) (flat_map (λ (y : Answer). map about_job (jobs_on rows list y.cell)) xs)
+      differ_append (map about_job (jobs_on rows list x.cell))
+      (flat_map (λ (y : Answer). map about_job (jobs_on rows list y.cell)) xs)
       (one_cell rows x.cell list differ) (all_cells xs h.1)
       (λ s t in_s in_t same.
       let a = from_map about_job (jobs_on rows list x.cell) s in_s in
@@ -124,5 +137,6 @@ module _ (rows : Rows) (list : List Placement) (differ : Differ (map job_in list
       let b = from_map about_job (jobs_on rows list y.0.cell) t y.2 in
       let names : a.0.job ≡ b.0.job = one_subject a.0.job b.0.job (a.2 ∙ sym same ∙ sym b.2) in
       let one : On a.0.job x.cell ≡ On b.0.job y.0.cell =
-      one_of_name job_in list differ (On a.0.job x.cell) (On b.0.job y.0.cell) (placed_on rows list x.cell a.0 a.1) (placed_on rows list y.0.cell b.0 b.1) names in
+      one_of_name job_in list differ (On a.0.job x.cell) (On b.0.job y.0.cell) (placed_on rows list x.cell a.0 a.1)
+      (placed_on rows list y.0.cell b.0 b.1) names in
       h.0 y.0.cell (inside_map (λ (z : Answer). z.cell) xs y.0 y.1) (sym (ap (cell_or x.cell) one)))

@@ -24,7 +24,8 @@ use Rattle.converge_round.specs.Places.{OpensIf, OpensOne, is_being_emptied}
 use Rattle.converge_round.specs.Reps.{names_of}
 use Rattle.converge_round.proofs.Public.{from_kept}
 
-heard_open : (b : Bool) (cells : List CellRep) (x : Answer) (y : Answer) → OpensIf b cells x (Some y) → IsHeardFrom cells x.cell x.epoch y × (b ≡ false)
+heard_open : (b : Bool) (cells : List CellRep) (x : Answer) (y : Answer) → OpensIf b cells x (Some y)
+    → IsHeardFrom cells x.cell x.epoch y × (b ≡ false)
 heard_open true cells x y h = absurd cc
 heard_open false cells x y h = (h, refl)
 
@@ -35,11 +36,20 @@ pub record IsRoomy (rows : Rows) (cells : List CellRep) (got : List Answer) (y :
   pub heard : IsHeardFrom cells answer.cell answer.epoch y
   pub kept : is_being_emptied rows answer.cell ≡ false
 
-roomy_more : (rows : Rows) (cells : List CellRep) (x : Answer) (got : List Answer) (y : Answer) → IsRoomy rows cells got y → IsRoomy rows cells (x ∷ got) y
-roomy_more rows cells x got y h = record { answer = h.answer; inside = inside_rest h.answer x got h.inside; heard = h.heard; kept = h.kept }
+roomy_more : (rows : Rows) (cells : List CellRep) (x : Answer) (got : List Answer) (y : Answer)
+    → IsRoomy rows cells got y → IsRoomy rows cells (x ∷ got) y
+roomy_more rows cells x got y h = record {
+  answer = h.answer;
+  inside = inside_rest h.answer x got h.inside;
+  heard =
+      h.heard;
+  kept = h.kept;
+}
 
-roomy_now : (rows : Rows) (cells : List CellRep) (x : Answer) (got : List Answer) (s m : List Answer) (o : Option Answer) (y : Answer)
-    → OpensIf (is_being_emptied rows x.cell) cells x o → m ≡ s ++ option_to_list o → Contains m y → Contains s y ⊎ IsRoomy rows cells (x ∷ got) y
+roomy_now : (rows : Rows) (cells : List CellRep) (x : Answer) (got : List Answer) (s m : List Answer)
+    (o : Option Answer) (y : Answer)
+    → OpensIf (is_being_emptied rows x.cell) cells x o → m ≡ s ++ option_to_list o → Contains m y
+    → Contains s y ⊎ IsRoomy rows cells (x ∷ got) y
 roomy_now rows cells x got s m None y opens more inside = inl (subst (λ xs. Contains xs y) (more ∙ append-nil s) inside)
 roomy_now rows cells x got s m (Some z) y opens more inside =
     ⊎_elim
@@ -48,12 +58,19 @@ roomy_now rows cells x got s m (Some z) y opens more inside =
     ⊎_elim
     (λ (is : z ≡ y).
     let told = heard_open (is_being_emptied rows x.cell) cells x z opens in
-    inr (record { answer = x; inside = inside_first x got; heard = subst (IsHeardFrom cells x.cell x.epoch) is told.0; kept = told.1 }))
+    inr (record {
+      answer = x;
+      inside = inside_first x got;
+      heard =
+          subst (IsHeardFrom cells x.cell x.epoch) is told.0;
+      kept = told.1;
+    }))
     (λ (rest : Contains [] y). absurd (omega (arith, rest.1)))
     (first_or_rest y z [] new))
     (Contains-append_cases s (z ∷ []) y (subst (λ xs. Contains xs y) more inside))
 
-roomy_from : (rows : Rows) (cells : List CellRep) (got : List Answer) (s t : List Answer) (y : Answer) → Each (OpensOne rows cells) got s t → Contains t y → Contains s y ⊎ IsRoomy rows cells got y
+roomy_from : (rows : Rows) (cells : List CellRep) (got : List Answer) (s t : List Answer) (y : Answer)
+    → Each (OpensOne rows cells) got s t → Contains t y → Contains s y ⊎ IsRoomy rows cells got y
 roomy_from rows cells [] s t y f inside = inl (subst (λ xs. Contains xs y) f inside)
 roomy_from rows cells (x ∷ got) s t y f inside =
     ⊎_elim
@@ -62,25 +79,32 @@ roomy_from rows cells (x ∷ got) s t y f inside =
     (roomy_from rows cells got f.0 t y f.2 inside)
 
 -- each roomy cell is one that answered
-pub is-roomy : (rows : Rows) (cells : List CellRep) (got roomy : List Answer) (y : Answer) → Each (OpensOne rows cells) got [] roomy → Contains roomy y → IsRoomy rows cells got y
+pub is-roomy : (rows : Rows) (cells : List CellRep) (got roomy : List Answer) (y : Answer)
+    → Each (OpensOne rows cells) got [] roomy → Contains roomy y → IsRoomy rows cells got y
 is-roomy rows cells got roomy y f inside =
-    ⊎_elim (λ (none : Contains [] y). absurd (omega (arith, none.1))) (λ (r : IsRoomy rows cells got y). r) (roomy_from rows cells got [] roomy y f inside)
+    ⊎_elim (λ (none : Contains [] y). absurd (omega (arith, none.1))) (λ (r : IsRoomy rows cells got y). r)
+    (roomy_from rows cells got [] roomy y f inside)
 
-pub heard_named : (cells : List CellRep) (cell : List ℕ) (epoch : ℕ) (y : Answer) → IsHeardFrom cells cell epoch y → Contains (names_of cells) cell
+pub heard_named : (cells : List CellRep) (cell : List ℕ) (epoch : ℕ) (y : Answer) → IsHeardFrom cells cell epoch y
+    → Contains (names_of cells) cell
 heard_named cells cell epoch y h =
-    subst (Contains (names_of cells)) h.stands.cell_is (inside_map (λ (r : CellRep). r.cell) cells h.rep (h.place, h.stands.within, sym h.stands.is))
+    subst (Contains (names_of cells)) h.stands.cell_is (inside_map (λ (r : CellRep). r.cell) cells h.rep
+    (h.place, h.stands.within, sym h.stands.is))
 
 -- a cell that is present is there under the epoch of its row
-shown_if : (now : Moment) (c d : CellRow) (b : Bool) → is_present c now ≡ b → cond b (Some c) None ≡ Some d → (c ≡ d) × (is_present c now ≡ true)
+shown_if : (now : Moment) (c d : CellRow) (b : Bool) → is_present c now ≡ b → cond b (Some c) None ≡ Some d
+    → (c ≡ d) × (is_present c now ≡ true)
 shown_if now c d true is e = (ap (λ (o : Option CellRow). option_map_or (λ x. x) o c) e, is)
 shown_if now c d false is e = absurd cc
 
-pub present-there : (rows : Rows) (now : Moment) (c : CellRow) → IsValid rows → Contains (present rows now) c → is_there rows now c.cell c.epoch ≡ true
+pub present-there : (rows : Rows) (now : Moment) (c : CellRow) → IsValid rows → Contains (present rows now) c
+    → is_there rows now c.cell c.epoch ≡ true
 present-there rows now c valid inside =
     let k = from_kept (present_at now) rows.cells c inside in
     let shown = shown_if now k.0 c (is_present k.0 now) refl k.2 in
     let here : Contains rows.cells c = subst (Contains rows.cells) shown.0 k.1 in
-    let found : find_cell rows c.cell ≡ Some c = find_row-Contains name_order cell_name_of IsKeyOrder-name_order c rows.cells valid.cells.rising here in
+    let found : find_cell rows c.cell ≡ Some c = find_row-Contains name_order cell_name_of IsKeyOrder-name_order c
+    rows.cells valid.cells.rising here in
     ap (λ (o : Option CellRow). option_map_or (λ (x : CellRow). x.epoch == c.epoch && is_present x now) o false) found
     ∙ ap (λ (b : Bool). b && is_present c now) (eq-eqb c.epoch c.epoch refl)
     ∙ ap (λ (x : CellRow). is_present x now) (sym shown.0) ∙ shown.1

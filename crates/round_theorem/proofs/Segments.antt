@@ -36,29 +36,37 @@ after-seen v z later = ap (drop (length v.seen)) later.seen.1 ∙ drop_front v.s
 pub seen-grows : (v z : PortView) → IsLater v z → length v.seen ≤ length z.seen
 seen-grows v z later = omega (arith, ap length later.seen.1, length-append v.seen later.seen.0)
 
-legal_split : (c : Command) (xs ys : List Command) (x : Verdict) → if_legal x (c ∷ (xs ++ ys)) (xs ++ ys) ≡ if_legal x (c ∷ xs) xs ++ ys
+legal_split : (c : Command) (xs ys : List Command) (x : Verdict)
+    → if_legal x (c ∷ (xs ++ ys)) (xs ++ ys) ≡ if_legal x (c ∷ xs) xs ++ ys
 legal_split c xs ys verdict.Ok = refl
 legal_split c xs ys verdict.Same = refl
 legal_split c xs ys (verdict.Refused why) = refl
 
-legal_append : (rows : Rows) (xs ys : List Command) → legal_ones rows (xs ++ ys) ≡ legal_ones rows xs ++ legal_ones (state_after_all rows xs) ys
+legal_append : (rows : Rows) (xs ys : List Command) → legal_ones rows (xs ++ ys) ≡ legal_ones rows xs
+    ++ legal_ones (state_after_all rows xs) ys
 legal_append rows [] ys = refl
 legal_append rows (c ∷ xs) ys =
     ap (λ zs. if_legal (verdict_of rows c) (c ∷ zs) zs) (legal_append (state_after rows c) xs ys)
-    ∙ legal_split c (legal_ones (state_after rows c) xs) (legal_ones (state_after_all (state_after rows c) xs) ys) (verdict_of rows c)
+    ∙ legal_split c (legal_ones (state_after rows c) xs) (legal_ones (state_after_all (state_after rows c) xs) ys)
+    (verdict_of rows c)
 
-pub after_append : (rows : Rows) (xs ys : List Command) → state_after_all rows (xs ++ ys) ≡ state_after_all (state_after_all rows xs) ys
+pub after_append : (rows : Rows) (xs ys : List Command)
+    → state_after_all rows (xs ++ ys) ≡ state_after_all (state_after_all rows xs) ys
 after_append rows [] ys = refl
 after_append rows (c ∷ xs) ys = after_append (state_after rows c) xs ys
 
-items_append : (by : ℕ) (rows : Rows) (xs ys : List Command) → items_of by rows (xs ++ ys) ≡ items_of by rows xs ++ items_of by (state_after_all rows xs) ys
-items_append by rows xs ys = ap (map (done_by by)) (legal_append rows xs ys) ∙ map-append (done_by by) (legal_ones rows xs) (legal_ones (state_after_all rows xs) ys)
+items_append : (by : ℕ) (rows : Rows) (xs ys : List Command)
+    → items_of by rows (xs ++ ys) ≡ items_of by rows xs ++ items_of by (state_after_all rows xs) ys
+items_append by rows xs ys = ap (map (done_by by)) (legal_append rows xs ys) ∙ map-append (done_by by)
+    (legal_ones rows xs) (legal_ones (state_after_all rows xs) ys)
 
-pub refused_append : (rows : Rows) (xs ys : List Command) → refused_of rows (xs ++ ys) ≡ refused_of rows xs ++ refused_of (state_after_all rows xs) ys
+pub refused_append : (rows : Rows) (xs ys : List Command)
+    → refused_of rows (xs ++ ys) ≡ refused_of rows xs ++ refused_of (state_after_all rows xs) ys
 refused_append rows [] ys = refl
 refused_append rows (c ∷ xs) ys =
     ap (λ zs. refusal_by c (verdict_of rows c) ++ zs) (refused_append (state_after rows c) xs ys)
-    ∙ sym (append_assoc (refusal_by c (verdict_of rows c)) (refused_of (state_after rows c) xs) (refused_of (state_after_all (state_after rows c) xs) ys))
+    ∙ sym (append_assoc (refusal_by c (verdict_of rows c)) (refused_of (state_after rows c) xs)
+    (refused_of (state_after_all (state_after rows c) xs) ys))
 
 -- a part of a round in which these commands are called
 pub record IsPart (by : ℕ) (cs : List Command) (s s' : Had) : Type 0 where
@@ -69,43 +77,59 @@ pub record IsPart (by : ℕ) (cs : List Command) (s s' : Had) : Type 0 where
 abbrev pub had_at : PortView → ℕ → List (Command × BoardRefusal) → Had
 had_at view own refused = record { view = view; own = own; refused = refused }
 
-pub part-looks : (by : ℕ) (v w : PortView) (own : ℕ) (refused : List (Command × BoardRefusal)) → Looks v w → IsPart by [] (had_at v own refused) (had_at w own refused)
+pub part-looks : (by : ℕ) (v w : PortView) (own : ℕ) (refused : List (Command × BoardRefusal)) → Looks v w
+    → IsPart by [] (had_at v own refused) (had_at w own refused)
 part-looks by v w own refused h = record {
   later = later_looks v w h;
   counted = λ few.
-      let seen : length w.seen ≡ length v.seen + length h.others = ap (λ (x : PortView). length x.seen) h.is ∙ length-append v.seen h.others in
+      let seen : length w.seen ≡ length v.seen + length h.others =
+      ap (λ (x : PortView). length x.seen) h.is ∙ length-append v.seen h.others in
       record { own = omega (arith, ap (λ (x : PortView). length x.mine) h.is); few = omega (arith, few, seen) };
   turns = λ q.
-      let seen : w.seen ≡ v.seen = ap (λ (x : PortView). x.seen) h.is ∙ ap (λ xs. v.seen ++ xs) (quiet_looks v w h q) ∙ append-nil v.seen in
+      let seen : w.seen ≡ v.seen = ap (λ (x : PortView). x.seen) h.is ∙ ap (λ xs. v.seen ++ xs)
+      (quiet_looks v w h q) ∙ append-nil v.seen in
       record {
         items = seen ∙ sym (append-nil v.seen);
         refused = sym (append-nil refused);
-        rows_are = ap (λ (b : Rows). replay_log b w.seen) (ap (λ (x : PortView). x.base) h.is) ∙ ap (replay_log v.base) seen;
+        rows_are = ap (λ (b : Rows). replay_log b w.seen) (ap (λ (x : PortView). x.base) h.is) ∙ ap
+            (replay_log v.base) seen;
       };
 }
 
 pub part-each : (by : ℕ) (cs : List Command) (s s' : Had) → Each (IsHad by) cs s s' → IsPart by cs s s'
-part-each by cs s s' f = record { later = later-had by cs s s' f; counted = counted-had by cs s s' f; turns = turns-had by cs s s' f }
+part-each by cs s s' f = record {
+  later = later-had by cs s s' f;
+  counted = counted-had by cs s s' f;
+  turns =
+      turns-had by cs s s' f;
+}
 
-turns_then : (by : ℕ) (xs ys : List Command) (a b c : Had) → AreTurns by xs a b → AreTurns by ys b c → AreTurns by (xs ++ ys) a c
+turns_then : (by : ℕ) (xs ys : List Command) (a b c : Had) → AreTurns by xs a b → AreTurns by ys b c
+    → AreTurns by (xs ++ ys) a c
 turns_then by xs ys a b c f g =
     let rows : Rows = rows_seen a.view in
     record {
-      items = g.items ∙ ap (λ (x : Rows). b.view.seen ++ items_of by x ys) f.rows_are ∙ ap (λ zs. zs ++ items_of by (state_after_all rows xs) ys) f.items
-          ∙ append_assoc a.view.seen (items_of by rows xs) (items_of by (state_after_all rows xs) ys) ∙ ap (λ zs. a.view.seen ++ zs) (sym (items_append by rows xs ys));
-      refused = g.refused ∙ ap (λ (x : Rows). b.refused ++ refused_of x ys) f.rows_are ∙ ap (λ zs. zs ++ refused_of (state_after_all rows xs) ys) f.refused
-          ∙ append_assoc a.refused (refused_of rows xs) (refused_of (state_after_all rows xs) ys) ∙ ap (λ zs. a.refused ++ zs) (sym (refused_append rows xs ys));
+      items = g.items ∙ ap (λ (x : Rows). b.view.seen ++ items_of by x ys) f.rows_are ∙ ap
+          (λ zs. zs ++ items_of by (state_after_all rows xs) ys) f.items
+          ∙ append_assoc a.view.seen (items_of by rows xs) (items_of by (state_after_all rows xs) ys) ∙ ap
+          (λ zs. a.view.seen ++ zs) (sym (items_append by rows xs ys));
+      refused = g.refused ∙ ap (λ (x : Rows). b.refused ++ refused_of x ys) f.rows_are ∙ ap
+          (λ zs. zs ++ refused_of (state_after_all rows xs) ys) f.refused
+          ∙ append_assoc a.refused (refused_of rows xs) (refused_of (state_after_all rows xs) ys) ∙ ap
+          (λ zs. a.refused ++ zs) (sym (refused_append rows xs ys));
       rows_are = g.rows_are ∙ ap (λ (x : Rows). state_after_all x ys) f.rows_are ∙ sym (after_append rows xs ys);
     }
 
-pub part-then : (by : ℕ) (xs ys : List Command) (a b c : Had) → IsPart by xs a b → IsPart by ys b c → IsPart by (xs ++ ys) a c
+pub part-then : (by : ℕ) (xs ys : List Command) (a b c : Had) → IsPart by xs a b → IsPart by ys b c
+    → IsPart by (xs ++ ys) a c
 part-then by xs ys a b c f g = record {
   later = later_then a.view b.view c.view f.later g.later;
   counted = λ few.
       let one = f.counted few in
       let two = g.counted one.few in
       record { own = omega (arith, one.own, two.own); few = two.few };
-  turns = λ q. turns_then by xs ys a b c (f.turns (quiet_first a.view b.view c.view f.later g.later q)) (g.turns (quiet_second a.view b.view c.view f.later g.later q));
+  turns = λ q. turns_then by xs ys a b c (f.turns (quiet_first a.view b.view c.view f.later g.later q))
+      (g.turns (quiet_second a.view b.view c.view f.later g.later q));
 }
 
 -- a part in which nothing is called adds no command

@@ -28,7 +28,8 @@ use Rattle.converge_round.specs.declared.tally.Tally.{Tally}
 use Rattle.round_theorem.proofs.Tallied.{IsTallied, mine_more, tallied-as, tallied-reply, tallied-then}
 
 -- a call that failed is counted as none
-failed : (by : ℕ) (v : PortView) (c : Command) (why : CallFault) (w : PortView) (t : Tally) → IsCalled by v c (Err why) w → IsTallied (calling v t) (calling w t)
+failed : (by : ℕ) (v : PortView) (c : Command) (why : CallFault) (w : PortView) (t : Tally)
+    → IsCalled by v c (Err why) w → IsTallied (calling v t) (calling w t)
 failed by v c why w t h = record {
   later = later_called by v c (Err why) w h;
   own = omega (arith, mine_more by v c (Err why) w h);
@@ -40,7 +41,8 @@ lost : (v w : PortView) (t : Tally) → w ≡ v → IsTallied (calling v t) (cal
 lost v w t e = subst (λ (x : PortView). IsTallied (calling v t) (calling x (lost_one t))) (sym e)
     (record { later = later_same v; own = omega arith; refused = λ x. x })
 
-delivered : (by : ℕ) (v : PortView) (c : Command) (e : CallEnd) (w : PortView) (t : Tally) → IsDelivered by v c e w → IsTallied (calling v t) (calling w (counted (Some c) e t))
+delivered : (by : ℕ) (v : PortView) (c : Command) (e : CallEnd) (w : PortView) (t : Tally) → IsDelivered by v c e w
+    → IsTallied (calling v t) (calling w (counted (Some c) e t))
 delivered by v c (Got r) w t h = tallied-reply by v c r w t h
 delivered by v c (Fault why) w t h = failed by v c why w t h
 delivered by v c CallLost w t h = lost v w t h
@@ -50,7 +52,8 @@ delivered by v c (ReplyLost (Err why)) w t h = failed by v c why w t h
 delivered by v c (Local why) w t h = absurd h
 delivered by v c Idle w t h = absurd h
 
-done : (by : ℕ) (cell : List ℕ) (ends : Option WireEnds) (x : Todo) (v w : PortView) (a : Called) (t : Tally) → IsAnswer x a → EndsOf by cell ends x v a w
+done : (by : ℕ) (cell : List ℕ) (ends : Option WireEnds) (x : Todo) (v w : PortView) (a : Called) (t : Tally)
+    → IsAnswer x a → EndsOf by cell ends x v a w
     → IsTallied (calling v t) (calling w (counted a.command a.end t))
 done by cell ends (todo.Call c) v w a t is h =
     subst (λ o. IsTallied (calling v t) (calling w (counted o a.end t))) (sym is) (delivered by v c a.end w t h.1)
@@ -59,20 +62,26 @@ done by cell ends todo.Idle v w a t is h =
 done by cell ends (todo.Local why) v w a t is h =
     subst (λ (x : Called). IsTallied (calling v t) (calling w (counted x.command x.end t))) (sym is) (lost v w t h)
 
-follows : (by : ℕ) (cell : List ℕ) (ends : Option WireEnds) (x : Todo) (rep rep' : CellRep) (v w : PortView) (a : Called) (t : Tally)
-    → Follows by cell ends (x ∷ []) rep v (a ∷ []) rep' w → IsTallied (calling v t) (calling w (counted a.command a.end t))
+follows : (by : ℕ) (cell : List ℕ) (ends : Option WireEnds) (x : Todo) (rep rep' : CellRep) (v w : PortView)
+    (a : Called) (t : Tally)
+    → Follows by cell ends (x ∷ []) rep v (a ∷ []) rep' w
+    → IsTallied (calling v t) (calling w (counted a.command a.end t))
 follows by cell ends x rep rep' v w a t h =
-    subst (λ (y : PortView). IsTallied (calling v t) (calling y (counted a.command a.end t))) (sym h.3.1) (done by cell ends x v h.0 a t h.1 h.2)
+    subst (λ (y : PortView). IsTallied (calling v t) (calling y (counted a.command a.end t))) (sym h.3.1)
+    (done by cell ends x v h.0 a t h.1 h.2)
 
 first_of : (a b : Called) → a ∷ [] ≡ b ∷ [] → a ≡ b
 first_of a b e = cc
 
 started : (by : ℕ) (job : Job) (now : Moment) (s s' : Serving) (wire : WireAt) (a : Called) (t : Tally)
-    → IsStarted by job now (stage s.rep s.view wire.ends wire.losses []) (stage s'.rep s'.view s'.wire.ends s'.wire.losses (a ∷ []))
+    → IsStarted by job now (stage s.rep s.view wire.ends wire.losses [])
+    (stage s'.rep s'.view s'.wire.ends s'.wire.losses (a ∷ []))
     → IsTallied (calling s.view t) (calling s'.view (counted a.command a.end t))
 started by job now s s' wire a t h = ⊎_elim
-    (λ p. follows by s.rep.cell wire.ends (job_todo job now s.rep.cell s.rep.joined) (job_begun job s.rep s.rep.joined) s'.rep s.view s'.view a t
-    (subst (λ out. Follows by s.rep.cell wire.ends (job_todo job now s.rep.cell s.rep.joined ∷ []) (job_begun job s.rep s.rep.joined) s.view out s'.rep s'.view) (sym p.out_is) p.follows))
+    (λ p. follows by s.rep.cell wire.ends (job_todo job now s.rep.cell s.rep.joined)
+    (job_begun job s.rep s.rep.joined) s'.rep s.view s'.view a t
+    (subst (λ out. Follows by s.rep.cell wire.ends (job_todo job now s.rep.cell s.rep.joined ∷ [])
+    (job_begun job s.rep s.rep.joined) s.view out s'.rep s'.view) (sym p.out_is) p.follows))
     (λ e. let is : a ≡ starved = first_of a starved (ap (λ (x : Stage). x.out) e) in
     subst (λ (x : Called). IsTallied (calling s.view t) (calling s'.view (counted x.command x.end t))) (sym is)
     (tallied-as (calling s.view t) (calling s'.view t) (ap (λ (x : Stage). calling x.view t) e)))
@@ -81,22 +90,28 @@ started by job now s s' wire a t h = ⊎_elim
 abbrev in_serving : Serving → Calling
 in_serving s = calling s.view s.tally
 
-taken : (b : Bool) (by : ℕ) (now : Moment) (job : Job) (wire : WireAt) (s s' : Serving) → TakesIf b by now job wire s s' → IsTallied (in_serving s) (in_serving s')
+taken : (b : Bool) (by : ℕ) (now : Moment) (job : Job) (wire : WireAt) (s s' : Serving) → TakesIf b by now job wire s s'
+    → IsTallied (in_serving s) (in_serving s')
 taken true by now job wire s s' h =
-    subst (λ (t : Tally). IsTallied (in_serving s) (calling s'.view t)) (sym h.counts) (started by job now s s' wire h.answer s.tally h.started)
+    subst (λ (t : Tally). IsTallied (in_serving s) (calling s'.view t)) (sym h.counts)
+    (started by job now s s' wire h.answer s.tally h.started)
 taken false by now job wire s s' h =
-    subst (λ (t : Tally). IsTallied (in_serving s) (calling s'.view t)) (sym h.counts) (lost s.view s'.view s.tally h.view)
+    subst (λ (t : Tally). IsTallied (in_serving s) (calling s'.view t)) (sym h.counts)
+    (lost s.view s'.view s.tally h.view)
 
-starts : (by : ℕ) (now : Moment) (jobs : List Job) (s s' : Serving) → Each (StartsOne by now) jobs s s' → IsTallied (in_serving s) (in_serving s')
+starts : (by : ℕ) (now : Moment) (jobs : List Job) (s s' : Serving) → Each (StartsOne by now) jobs s s'
+    → IsTallied (in_serving s) (in_serving s')
 starts by now [] s s' f = tallied-as (in_serving s) (in_serving s') (ap in_serving f)
 starts by now (job ∷ jobs) s s' f =
-    tallied-then (in_serving s) (in_serving f.0) (in_serving s') (taken f.1.reached by now job f.1.wire s f.0 f.1.takes) (starts by now jobs f.0 s' f.2)
+    tallied-then (in_serving s) (in_serving f.0) (in_serving s') (taken f.1.reached by now job f.1.wire s f.0 f.1.takes)
+    (starts by now jobs f.0 s' f.2)
 
 abbrev pub in_course : Course → Calling
 in_course s = calling s.view s.tally
 
 -- what is counted where each cell is served
-pub tallied-serves : (by : ℕ) (now : Moment) (p : Places) (xs : List Answer) (s s' : Course) → Each (ServesOne by now p) xs s s' → IsTallied (in_course s) (in_course s')
+pub tallied-serves : (by : ℕ) (now : Moment) (p : Places) (xs : List Answer) (s s' : Course)
+    → Each (ServesOne by now p) xs s s' → IsTallied (in_course s) (in_course s')
 tallied-serves by now p [] s s' f = tallied-as (in_course s) (in_course s') (ap in_course f)
 tallied-serves by now p (x ∷ xs) s s' f =
     tallied-then (in_course s) (in_course f.0) (in_course s')

@@ -51,7 +51,8 @@ pub record IsClaimMade (by : ℕ) (now : Moment) (job : Job) (s s' : Serving) : 
   pub claim : IsNoted by (next_claim now s.rep.cell job joined) (calling s.view s.tally) (calling s'.view s'.tally)
 
 -- a claim that isn't refused leaves the rep as it is
-kept_claim : (n : JobName) (cell : List ℕ) (i : Instance) (c : Command) (r : Reply) (t : Tally) (x : CellRep) → (noted c r t).refused ≡ [] → after_reply (claim_op cell n i) r x ≡ x
+kept_claim : (n : JobName) (cell : List ℕ) (i : Instance) (c : Command) (r : Reply) (t : Tally) (x : CellRep)
+    → (noted c r t).refused ≡ [] → after_reply (claim_op cell n i) r x ≡ x
 kept_claim (name.Lrp key) cell i c (reply.Ok place stamp) t x e = refl
 kept_claim (name.Lrp key) cell i c (reply.Same place) t x e = refl
 kept_claim (name.Lrp key) cell i c (reply.Refused why place) t x e = absurd (not_empty t.refused (c, why) e)
@@ -61,7 +62,8 @@ kept_claim (name.Task n) cell i c (reply.Refused why place) t x e = absurd (not_
 
 -- what is reserved is the next container
 reserved_as : (s store : StoreView) (n : JobName) (memory disk : ℕ) (a b c : Bool)
-    → cond a (Err NoMemoryLeft) (cond b (Err NoDiskLeft) (cond c (Err NoSlot) (Ok (reserved s n memory disk)))) ≡ Ok store
+    → cond a (Err NoMemoryLeft) (cond b (Err NoDiskLeft) (cond c (Err NoSlot) (Ok (reserved s n memory disk))))
+    ≡ Ok store
     → store ≡ reserved s n memory disk
 reserved_as s store n memory disk true b c e = absurd cc
 reserved_as s store n memory disk false true c e = absurd cc
@@ -69,7 +71,8 @@ reserved_as s store n memory disk false false true e = absurd cc
 reserved_as s store n memory disk false false false e =
     ap (λ (r : Result StoreView StoreRefusal). result_unwrap_or r store) (sym e)
 
-module _ (by : ℕ) (now : Moment) (job : Job) (s s' : Serving) (wire : WireAt) (a : Called) (ended : HasNoFault a.end) (counts : s'.tally ≡ counted a.command a.end s.tally)
+module _ (by : ℕ) (now : Moment) (job : Job) (s s' : Serving) (wire : WireAt) (a : Called) (ended : HasNoFault a.end)
+    (counts : s'.tally ≡ counted a.command a.end s.tally)
     (whole : s'.tally.lost ≡ 0) (taken : s'.tally.refused ≡ []) where
   lost_none : s'.tally ≡ lost_one s.tally → ⊥
   lost_none e = one_more-some s.tally.lost (sym (ap (λ (t : Tally). t.lost) e) ∙ whole)
@@ -87,54 +90,69 @@ module _ (by : ℕ) (now : Moment) (job : Job) (s s' : Serving) (wire : WireAt) 
     c = next_claim now s.rep.cell job j
 
     -- by the end of its call
-    made_by : (e : CallEnd) → a.end ≡ e → a.command ≡ Some c → IsDelivered by s.view c e s'.view → s'.rep ≡ left c.op e (with_next s.rep job j) → IsClaimMade by now job s s'
+    made_by : (e : CallEnd) → a.end ≡ e → a.command ≡ Some c → IsDelivered by s.view c e s'.view
+        → s'.rep ≡ left c.op e (with_next s.rep job j) → IsClaimMade by now job s s'
     made_by (Got r) is called h rep =
-        let tally : s'.tally ≡ noted c r s.tally = counts_as (record { command = Some c; end = Got r }) (λ i. record { command = called i; end = is i }) in
+        let tally : s'.tally ≡ noted c r s.tally = counts_as (record { command = Some c; end = Got r })
+        (λ i. record { command = called i; end = is i }) in
         record {
           joined = j;
           was = was;
-          rep_is = rep ∙ kept_claim job.job s.rep.cell (next_of j.store) c r s.tally (with_next s.rep job j) (sym (ap (λ (t : Tally). t.refused) tally) ∙ taken);
+          rep_is = rep ∙ kept_claim job.job s.rep.cell (next_of j.store) c r s.tally (with_next s.rep job j)
+              (sym (ap (λ (t : Tally). t.refused) tally) ∙ taken);
           claim = record { reply = r; called = h; tally_is = tally };
         }
     made_by (Fault why) is called h rep = absurd (subst HasNoFault is ended)
-    made_by CallLost is called h rep = absurd (lost_none (counts_as (record { command = Some c; end = CallLost }) (λ i. record { command = called i; end = is i })))
+    made_by CallLost is called h rep = absurd (lost_none (counts_as (record { command = Some c; end = CallLost })
+        (λ i. record { command = called i; end = is i })))
     made_by (ReplyLost (Ok r)) is called h rep =
-        absurd (lost_reply c r (counts_as (record { command = Some c; end = ReplyLost (Ok r) }) (λ i. record { command = called i; end = is i })))
+        absurd (lost_reply c r (counts_as (record { command = Some c; end = ReplyLost (Ok r) })
+        (λ i. record { command = called i; end = is i })))
     made_by (ReplyLost (Err why)) is called h rep = absurd (subst HasNoFault is ended)
     made_by (Local why) is called h rep = absurd h
     made_by Idle is called h rep = absurd h
 
     -- by whether there is room
     made_from : (x : Result StoreView StoreRefusal) → reserving j.store job.job job.memory job.disk ≡ x
-        → Follows by s.rep.cell wire.ends (claim_todo now (λ d. claim_op s.rep.cell job.job d.instance) (claimed_next (next_container j.store job.job job.memory job.disk) x) ∷ [])
-        (with_store s.rep j (store_claimed j.store (claimed_next (next_container j.store job.job job.memory job.disk) x))) s.view (a ∷ []) s'.rep s'.view
+        → Follows by s.rep.cell wire.ends (claim_todo now (λ d. claim_op s.rep.cell job.job d.instance)
+        (claimed_next (next_container j.store job.job job.memory job.disk) x) ∷ [])
+        (with_store s.rep j (store_claimed j.store (claimed_next
+        (next_container j.store job.job job.memory job.disk) x))) s.view (a ∷ []) s'.rep s'.view
         → IsClaimMade by now job s s'
     made_from (Ok store) is h =
         let room : store ≡ reserved j.store job.job job.memory job.disk =
-        reserved_as j.store store job.job job.memory job.disk (nat_lt (free_of j.store).memory job.memory) (nat_lt (free_of j.store).disk job.disk) (eqb (free_of j.store).containers 0) is in
+        reserved_as j.store store job.job job.memory job.disk (nat_lt (free_of j.store).memory job.memory)
+        (nat_lt (free_of j.store).disk job.disk) (eqb (free_of j.store).containers 0) is in
         made_by a.end refl h.1 (subst (λ (v : PortView). IsDelivered by s.view c a.end v) (sym h.3.1) h.2.1)
         (h.3.0 ∙ ap (λ (x : StoreView). left c.op a.end (with_store s.rep j x)) room)
     made_from (Err why) is h = absurd (lost_none (counts_as _ h.1))
 
   made_joined : (o : Option Joined) → s.rep.joined ≡ o
-      → Follows by s.rep.cell wire.ends (job_todo job now s.rep.cell o ∷ []) (job_begun job s.rep o) s.view (a ∷ []) s'.rep s'.view → IsClaimMade by now job s s'
+      → Follows by s.rep.cell wire.ends (job_todo job now s.rep.cell o ∷ []) (job_begun job s.rep o) s.view
+      (a ∷ []) s'.rep s'.view → IsClaimMade by now job s s'
   made_joined None is h = absurd (lost_none (counts_as _ h.1))
   made_joined (Some j) is h = made_from j is (reserving j.store job.job job.memory job.disk) refl h
 
   first_of : (x y : Called) → x ∷ [] ≡ y ∷ [] → x ≡ y
   first_of x y e = cc
 
-  made_started : IsStarted by job now (stage s.rep s.view wire.ends wire.losses []) (stage s'.rep s'.view s'.wire.ends s'.wire.losses (a ∷ [])) → IsClaimMade by now job s s'
+  made_started : IsStarted by job now (stage s.rep s.view wire.ends wire.losses [])
+      (stage s'.rep s'.view s'.wire.ends s'.wire.losses (a ∷ [])) → IsClaimMade by now job s s'
   made_started h = ⊎_elim
       (λ p. made_joined s.rep.joined refl
-      (subst (λ out. Follows by s.rep.cell wire.ends (job_todo job now s.rep.cell s.rep.joined ∷ []) (job_begun job s.rep s.rep.joined) s.view out s'.rep s'.view) (sym p.out_is) p.follows))
+      (subst (λ out. Follows by s.rep.cell wire.ends (job_todo job now s.rep.cell s.rep.joined ∷ [])
+      (job_begun job s.rep s.rep.joined) s.view out s'.rep s'.view) (sym p.out_is) p.follows))
       (λ e. absurd (subst (λ (x : Called). HasNoFault x.end) (first_of a starved (ap (λ (x : Stage). x.out) e)) ended))
       h
 
-made_if : (b : Bool) (by : ℕ) (now : Moment) (job : Job) (wire : WireAt) (s s' : Serving) → s'.tally.lost ≡ 0 → s'.tally.refused ≡ [] → TakesIf b by now job wire s s' → IsClaimMade by now job s s'
-made_if true by now job wire s s' whole taken h = made_started by now job s s' wire h.answer h.ended h.counts whole taken h.started
-made_if false by now job wire s s' whole taken h = absurd (one_more-some s.tally.lost (sym (ap (λ (t : Tally). t.lost) h.counts) ∙ whole))
+made_if : (b : Bool) (by : ℕ) (now : Moment) (job : Job) (wire : WireAt) (s s' : Serving) → s'.tally.lost ≡ 0
+    → s'.tally.refused ≡ [] → TakesIf b by now job wire s s' → IsClaimMade by now job s s'
+made_if true by now job wire s s' whole taken h = made_started by now job s s' wire h.answer h.ended h.counts whole
+    taken h.started
+made_if false by now job wire s s' whole taken h = absurd
+    (one_more-some s.tally.lost (sym (ap (λ (t : Tally). t.lost) h.counts) ∙ whole))
 
 -- a start that counts neither a loss nor a refusal made its claim
-pub claim-made : (by : ℕ) (now : Moment) (job : Job) (s s' : Serving) → s'.tally.lost ≡ 0 → s'.tally.refused ≡ [] → StartsOne by now job s s' → IsClaimMade by now job s s'
+pub claim-made : (by : ℕ) (now : Moment) (job : Job) (s s' : Serving) → s'.tally.lost ≡ 0 → s'.tally.refused ≡ []
+    → StartsOne by now job s s' → IsClaimMade by now job s s'
 claim-made by now job s s' whole taken h = made_if h.reached by now job h.wire s s' whole taken h.takes

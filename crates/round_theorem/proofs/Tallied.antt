@@ -42,11 +42,13 @@ tallied-looks v w t h =
     let mine : length w.mine ≡ length v.mine = ap (λ (x : PortView). length x.mine) h.is in
     record { later = later_looks v w h; own = omega (arith, mine); refused = λ e. e }
 
-pub mine_more : (by : ℕ) (v : PortView) (c : Command) (end : Result Reply CallFault) (w : PortView) → IsCalled by v c end w
+pub mine_more : (by : ℕ) (v : PortView) (c : Command) (end : Result Reply CallFault) (w : PortView)
+    → IsCalled by v c end w
     → length w.mine ≡ length v.mine + length (added end by c)
 mine_more by v c end w h = ap (λ (x : PortView). length x.mine) h.is ∙ length-append v.mine (added end by c)
 
-pub tallied-reply : (by : ℕ) (v : PortView) (c : Command) (r : Reply) (w : PortView) (t : Tally) → IsCalled by v c (Ok r) w → IsTallied (calling v t) (calling w (noted c r t))
+pub tallied-reply : (by : ℕ) (v : PortView) (c : Command) (r : Reply) (w : PortView) (t : Tally)
+    → IsCalled by v c (Ok r) w → IsTallied (calling v t) (calling w (noted c r t))
 tallied-reply by v c (reply.Ok place stamp) w t h = record {
   later = later_called by v c (Ok (reply.Ok place stamp)) w h;
   own = omega (arith, mine_more by v c (Ok (reply.Ok place stamp)) w h, one_more-least t.own);
@@ -66,7 +68,8 @@ tallied-reply by v c (reply.Refused why place) w t h = record {
 -- one call, with its reply
 pub tallied-noted : (by : ℕ) (c : Command) (s s' : Calling) → IsNoted by c s s' → IsTallied s s'
 tallied-noted by c s s' h =
-    subst (λ t. IsTallied s (calling s'.view t)) (sym h.tally_is) (tallied-reply by s.view c h.reply s'.view s.tally h.called)
+    subst (λ t. IsTallied s (calling s'.view t)) (sym h.tally_is)
+    (tallied-reply by s.view c h.reply s'.view s.tally h.called)
 
 -- many of them
 pub tallied-each : (by : ℕ) (cs : List Command) (s s' : Calling) → Each (IsNoted by) cs s s' → IsTallied s s'

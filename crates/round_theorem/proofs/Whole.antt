@@ -23,19 +23,23 @@ use Rattle.round_theorem.proofs.Starts.{in_course, tallied-serves}
 
 tallied_called : (by : ℕ) (table : Rows → List Command) (s s' : Calling) → AreCalledBy by table s s' → IsTallied s s'
 tallied_called by table s s' h =
-    tallied-then s (calling h.read s.tally) s' (tallied-looks s.view h.read s.tally h.looks) (tallied-each by (table (rows_seen h.read)) (calling h.read s.tally) s' h.calls)
+    tallied-then s (calling h.read s.tally) s' (tallied-looks s.view h.read s.tally h.looks)
+    (tallied-each by (table (rows_seen h.read)) (calling h.read s.tally) s' h.calls)
 
 -- what a table asks for at the rows that were seen is taken
-taken_called : (by : ℕ) (table : Rows → List Command) (s s' : Calling) → AreCalledBy by table s s' → IsQuiet s.view s'.view → s'.tally.refused ≡ []
+taken_called : (by : ℕ) (table : Rows → List Command) (s s' : Calling) → AreCalledBy by table s s'
+    → IsQuiet s.view s'.view → s'.tally.refused ≡ []
     → AreTaken (rows_seen s.view) (table (rows_seen s.view)) (rows_seen s'.view)
 taken_called by table s s' h q none =
     let looks = later_looks s.view h.read h.looks in
     let calls = tallied-each by (table (rows_seen h.read)) (calling h.read s.tally) s' h.calls in
     let same = rows-looks s.view h.read h.looks (quiet_first s.view h.read s'.view looks calls.later q) in
     subst (λ (x : Rows). AreTaken x (table x) (rows_seen s'.view)) same
-    (taken-each by (table (rows_seen h.read)) (calling h.read s.tally) s' h.calls (quiet_second s.view h.read s'.view looks calls.later q) none)
+    (taken-each by (table (rows_seen h.read)) (calling h.read s.tally) s' h.calls
+    (quiet_second s.view h.read s'.view looks calls.later q) none)
 
-module _ (by : ℕ) (now : Moment) (line : ℕ) (s s' : Standing) (r : Report) (h : IsRound by now line s s' r) (complete : IsComplete r) where
+module _ (by : ℕ) (now : Moment) (line : ℕ) (s s' : Standing) (r : Report) (h : IsRound by now line s s' r)
+    (complete : IsComplete r) where
   abbrev a : Calling
   a = calling h.first no_calls
 
@@ -76,10 +80,12 @@ module _ (by : ℕ) (now : Moment) (line : ℕ) (s s' : Standing) (r : Report) (
   ef = tallied-looks h.opens.third h.opened.view h.opens.planned.tally h.opens.looks_last
 
   pub fg : IsTallied f g
-  fg = subst (λ (t : Tally). IsTallied (calling h.opened.view t) g) h.opens.tally_is (tallied-serves by now h.opening_is.places h.opening_is.places.roomy h.opened h.served h.serves)
+  fg = subst (λ (t : Tally). IsTallied (calling h.opened.view t) g) h.opens.tally_is
+      (tallied-serves by now h.opening_is.places h.opening_is.places.roomy h.opened h.served h.serves)
 
   pub gz : IsTallied g z
-  gz = tallied-then g h.noted z (tallied-each by _ g h.noted h.notes) (tallied-looks h.noted.view s'.view h.noted.tally h.looks_last)
+  gz = tallied-then g h.noted z (tallied-each by _ g h.noted h.notes)
+      (tallied-looks h.noted.view s'.view h.noted.tally h.looks_last)
 
   fz : IsTallied f z
   fz = tallied-then f g z fg gz
@@ -103,7 +109,8 @@ module _ (by : ℕ) (now : Moment) (line : ℕ) (s s' : Standing) (r : Report) (
   none = sym h.reports.refused ∙ complete.refused
 
   alone : (length s'.view.seen - length h.first.seen) - h.noted.tally.own ≡ 0
-  alone = ap (λ n. (n - length h.first.seen) - h.noted.tally.own) (sym h.reports.end_is) ∙ sym h.reports.foreign ∙ complete.alone
+  alone = ap (λ n. (n - length h.first.seen) - h.noted.tally.own)
+      (sym h.reports.end_is) ∙ sym h.reports.foreign ∙ complete.alone
 
   quiet : IsQuiet h.first s'.view
   quiet = omega (arith, az.own, az.later.counts, alone)
@@ -125,28 +132,33 @@ module _ (by : ℕ) (now : Moment) (line : ℕ) (s s' : Standing) (r : Report) (
 
   worked : AreTaken (rows_seen a.view) (work (rows_seen a.view) now) (rows_seen c.view)
   worked = subst (λ (x : Rows). AreTaken x (work x now) (rows_seen c.view)) rows-b
-      (taken_called by (λ rows. work rows now) b c h.opens.work_called (quiet_first b.view c.view z.view bc.later cz.later quiet-b) (cz.refused none))
+      (taken_called by (λ rows. work rows now) b c h.opens.work_called
+      (quiet_first b.view c.view z.view bc.later cz.later quiet-b) (cz.refused none))
 
   planned : AreTaken (rows_seen c.view) (plan_of_answers (rows_seen c.view) h.opens.hearing.got now) (rows_seen d.view)
-  planned = taken_called by (λ rows. plan_of_answers rows h.opens.hearing.got now) c d h.opens.plan_called (quiet_first c.view d.view z.view cd.later dz.later quiet-c) (dz.refused none)
+  planned = taken_called by (λ rows. plan_of_answers rows h.opens.hearing.got now) c d h.opens.plan_called
+      (quiet_first c.view d.view z.view cd.later dz.later quiet-c) (dz.refused none)
 
   pub quiet-f : IsQuiet f.view z.view
   quiet-f = quiet_second e.view f.view z.view ef.later fz.later quiet-e
 
   -- the rows after work and plan
   pub rows-d : rows_seen d.view ≡ after_plan (rows_seen a.view) h.opens.hearing.got now
-  rows-d = planned.rows_are ∙ ap (λ (x : Rows). state_after_all x (plan_of_answers x h.opens.hearing.got now)) worked.rows_are
+  rows-d = planned.rows_are ∙ ap (λ (x : Rows). state_after_all x (plan_of_answers x h.opens.hearing.got now))
+      worked.rows_are
 
   pub rows-e : rows_seen e.view ≡ rows_seen d.view
   rows-e = rows-looks d.view e.view h.opens.looks_third (quiet_first d.view e.view z.view de.later ez.later quiet-d)
 
   pub rows-f : rows_seen f.view ≡ rows_seen d.view
-  rows-f = rows-looks e.view f.view h.opens.looks_last (quiet_first e.view f.view z.view ef.later fz.later quiet-e) ∙ rows-e
+  rows-f = rows-looks e.view f.view h.opens.looks_last (quiet_first e.view f.view z.view ef.later fz.later quiet-e) ∙
+      rows-e
 
   pub takes-all : HasTakenAll by now line s s' r h
   takes-all = record {
     quiet = quiet;
     worked = worked.accepted;
-    planned = subst (λ (x : Rows). AreAccepted x (plan_of_answers x h.opens.hearing.got now)) worked.rows_are planned.accepted;
+    planned = subst (λ (x : Rows). AreAccepted x (plan_of_answers x h.opens.hearing.got now)) worked.rows_are
+        planned.accepted;
     auctioned = h.opens.placed.rows_are ∙ rows-f ∙ rows-d;
   }

@@ -61,7 +61,8 @@ module _ (by : ℕ) (now : Moment) (line : ℕ) (s s' : Standing) (r : Report) (
   served = serves-had by now h.opening_is.places roomy h.opened h.served
       (λ y inside.
       let q = roomy_cell y inside in
-      subst (Contains (names_of h.opened.reps)) (sym (heard_cell h.opened.reps q.answer.cell q.answer.epoch y q.heard)) (heard_named h.opened.reps q.answer.cell q.answer.epoch y q.heard))
+      subst (Contains (names_of h.opened.reps)) (sym (heard_cell h.opened.reps q.answer.cell q.answer.epoch y q.heard))
+      (heard_named h.opened.reps q.answer.cell q.answer.epoch y q.heard))
       h.serves
 
   abbrev pub claims : List Command
@@ -84,20 +85,25 @@ module _ (by : ℕ) (now : Moment) (line : ℕ) (s s' : Standing) (r : Report) (
   h4 = had_at z h.noted.tally.own h.noted.tally.refused
 
   pub part1 : IsPart by [] h0 h1
-  part1 = part-then by [] [] h0 (had_at h.opens.first 0 []) h1 (part-looks by h.first h.opens.first 0 [] h.opens.looks) (part-looks by h.opens.first v1 0 [] h.opens.work_called.looks)
+  part1 = part-then by [] [] h0 (had_at h.opens.first 0 []) h1 (part-looks by h.first h.opens.first 0 [] h.opens.looks)
+      (part-looks by h.opens.first v1 0 [] h.opens.work_called.looks)
 
   pub part2 : IsPart by works h1 h2
-  part2 = part-end by works h1 (had h.opens.worked) h2 (part-each by works h1 (had h.opens.worked) (each-had by works (calling v1 no_calls) h.opens.worked h.opens.work_called.calls))
-      (part-looks by h.opens.worked.view v2 h.opens.worked.tally.own h.opens.worked.tally.refused h.opens.plan_called.looks)
+  part2 = part-end by works h1 (had h.opens.worked) h2 (part-each by works h1 (had h.opens.worked)
+      (each-had by works (calling v1 no_calls) h.opens.worked h.opens.work_called.calls))
+      (part-looks by h.opens.worked.view v2 h.opens.worked.tally.own h.opens.worked.tally.refused
+      h.opens.plan_called.looks)
 
   pub part3 : IsPart by plans h2 h3
   part3 =
       let planned : Calling = h.opens.planned in
       let t = planned.tally in
       let looks = part-then by [] [] (had planned) (had_at h.opens.third t.own t.refused) (had_at f t.own t.refused)
-      (part-looks by planned.view h.opens.third t.own t.refused h.opens.looks_third) (part-looks by h.opens.third f t.own t.refused h.opens.looks_last) in
+      (part-looks by planned.view h.opens.third t.own t.refused h.opens.looks_third)
+      (part-looks by h.opens.third f t.own t.refused h.opens.looks_last) in
       part-end by plans h2 (had planned) h3
-      (part-each by plans h2 (had planned) (each-had by plans (calling v2 h.opens.worked.tally) planned h.opens.plan_called.calls))
+      (part-each by plans h2 (had planned) (each-had by plans
+      (calling v2 h.opens.worked.tally) planned h.opens.plan_called.calls))
       (subst (λ x. IsPart by [] (had planned) (had (calling f x))) (sym h.opens.tally_is) looks)
 
   abbrev mid : Had
@@ -105,7 +111,8 @@ module _ (by : ℕ) (now : Moment) (line : ℕ) (s s' : Standing) (r : Report) (
 
   pub part4 : IsPart by (claims ++ notes) h3 h4
   part4 = part-end by (claims ++ notes) h3 (had h.noted) h4
-      (part-then by claims notes h3 mid (had h.noted) (part-each by claims h3 mid served.calls) (part-each by notes mid (had h.noted) (each-had by notes (in_course h.served) h.noted h.notes)))
+      (part-then by claims notes h3 mid (had h.noted) (part-each by claims h3 mid served.calls)
+      (part-each by notes mid (had h.noted) (each-had by notes (in_course h.served) h.noted h.notes)))
       (part-looks by h.noted.view z h.noted.tally.own h.noted.tally.refused h.looks_last)
 
   pub part34 : IsPart by (plans ++ (claims ++ notes)) h2 h4
@@ -128,7 +135,14 @@ module _ (by : ℕ) (now : Moment) (line : ℕ) (s s' : Standing) (r : Report) (
   first_later = later_then h.opens.first v1 z (later_looks h.opens.first v1 h.opens.work_called.looks) part24.later
 
   abbrev pub at : Readings
-  at = record { cells = length h.opens.first.seen; work = length v1.seen; plan = length v2.seen; strays = length h.opens.third.seen; auction = length f.seen }
+  at = record {
+    cells = length h.opens.first.seen;
+    work = length v1.seen;
+    plan = length v2.seen;
+    strays =
+        length h.opens.third.seen;
+    auction = length f.seen;
+  }
 
   -- each item, by what asked for it
   abbrev T : Rows → Command → Type 0
@@ -142,19 +156,24 @@ module _ (by : ℕ) (now : Moment) (line : ℕ) (s s' : Standing) (r : Report) (
 
   asked_works : AreAsked by T h.opens.first h.opens.worked.view
   asked_works = asked_weaker by OfWork T h.opens.first h.opens.worked.view (λ rows c x. inl x)
-      (asked_list by by (λ rows. work rows now) h.opens.first v1 h.opens.worked.view works refl h.opens.work_called.looks refl
-      (own-had by works h1 (had h.opens.worked) (each-had by works (calling v1 no_calls) h.opens.worked h.opens.work_called.calls)))
+      (asked_list by by (λ rows. work rows now) h.opens.first v1 h.opens.worked.view works refl
+      h.opens.work_called.looks refl
+      (own-had by works h1 (had h.opens.worked) (each-had by works
+      (calling v1 no_calls) h.opens.worked h.opens.work_called.calls)))
 
   asked_plans : AreAsked by T h.opens.worked.view h.opens.planned.view
   asked_plans = asked_weaker by OfPlan T h.opens.worked.view h.opens.planned.view (λ rows c x. inr (inl x))
-      (asked_list by by (λ rows. plan_of_answers rows got now) h.opens.worked.view v2 h.opens.planned.view plans refl h.opens.plan_called.looks refl
-      (own-had by plans h2 (had h.opens.planned) (each-had by plans (calling v2 h.opens.worked.tally) h.opens.planned h.opens.plan_called.calls)))
+      (asked_list by by (λ rows. plan_of_answers rows got now) h.opens.worked.view v2 h.opens.planned.view plans refl
+      h.opens.plan_called.looks refl
+      (own-had by plans h2 (had h.opens.planned) (each-had by plans
+      (calling v2 h.opens.worked.tally) h.opens.planned h.opens.plan_called.calls)))
 
   asked_claims : AreAsked by T f h.noted.view
   asked_claims = asked_here by T f h.noted.view (own_then by (T (rows_seen f)) f h.served.view h.noted.view
       (own_weaker by (Contains claims) (T (rows_seen f)) f h.served.view
       (λ c x. inr (inr (inl (claim_in now (rows_seen f) h.opened.reps got h.opening_is.places c h.opens.placed
-      (claim_from now h.opening_is.places.rows h.opening_is.places.placements roomy served.missing claims c served.are x)))))
+      (claim_from now h.opening_is.places.rows h.opening_is.places.placements roomy served.missing claims c served.are
+      x)))))
       (own-had by claims h3 mid served.calls))
       (own_weaker by (Contains notes) (T (rows_seen f)) h.served.view h.noted.view
       (λ c x. inr (inr (inr (fail_in now (rows_seen f) h.opened.reps got h.opening_is.places c h.opens.placed x))))
@@ -165,6 +184,7 @@ module _ (by : ℕ) (now : Moment) (line : ℕ) (s s' : Standing) (r : Report) (
       asked_then by T h.first h.opens.first z (asked_looks by T h.first h.opens.first h.opens.looks)
       (asked_then by T h.opens.first h.opens.worked.view z asked_works
       (asked_then by T h.opens.worked.view h.opens.planned.view z asked_plans
-      (asked_then by T h.opens.planned.view h.opens.third z (asked_looks by T h.opens.planned.view h.opens.third h.opens.looks_third)
+      (asked_then by T h.opens.planned.view h.opens.third z
+      (asked_looks by T h.opens.planned.view h.opens.third h.opens.looks_third)
       (asked_then by T h.opens.third f z (asked_looks by T h.opens.third f h.opens.looks_last)
       (asked_then by T f h.noted.view z asked_claims (asked_looks by T h.noted.view z h.looks_last))))))

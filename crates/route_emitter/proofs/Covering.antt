@@ -28,7 +28,8 @@ use Rattle.route_emitter.specs.Near.{Covers, IsFollowed, IsIndexed, WillCover, h
 use Rattle.route_emitter.specs.Routes.{is_running, routes_in}
 use Rattle.route_emitter.specs.declared.entry.RouteEntry.{RouteEntry}
 
-All-without : {K X : Type 0} (R : K → K → Ordering) (key : X → K) (P : X → Type 0) (q : K) (xs : List X) → All P xs → All P (without_row R key q xs)
+All-without : {K X : Type 0} (R : K → K → Ordering) (key : X → K) (P : X → Type 0) (q : K) (xs : List X) → All P xs
+    → All P (without_row R key q xs)
 All-without R key P q [] h = h
 All-without R key P q (x ∷ xs) h =
     let rest = All-without R key P q xs (All-tail P x xs h) in
@@ -38,14 +39,18 @@ All-without R key P q (x ∷ xs) h =
     ]
 
 -- an index that has what another has covers what that covers
-pub indexed-more : (some more : Key → Bool) → ((k : Key) → some k ≡ true → more k ≡ true) → (k : Key) → IsIndexed some k → IsIndexed more k
+pub indexed-more : (some more : Key → Bool) → ((k : Key) → some k ≡ true → more k ≡ true) → (k : Key) → IsIndexed some k
+    → IsIndexed more k
 indexed-more some more h k at = (h k at.0, at.1)
 
-pub covers-more : (some more : Key → Bool) (rs : List Actual) → ((k : Key) → some k ≡ true → more k ≡ true) → Covers some rs → Covers more rs
-covers-more some more rs h covers = All-weaker (λ (a : Actual). IsIndexed some a.key) (λ (a : Actual). IsIndexed more a.key) (λ a at. indexed-more some more h a.key at) rs covers
+pub covers-more : (some more : Key → Bool) (rs : List Actual) → ((k : Key) → some k ≡ true → more k ≡ true)
+    → Covers some rs → Covers more rs
+covers-more some more rs h covers = All-weaker (λ (a : Actual). IsIndexed some a.key)
+    (λ (a : Actual). IsIndexed more a.key) (λ a at. indexed-more some more h a.key at) rs covers
 
 -- and so is the table followed by more of an index
-pub followed-more : (some more : Key → Bool) (ds ds' : List Desired) (rs rs' : List Actual) (entries entries' : List RouteEntry) → ds' ≡ ds → rs' ≡ rs → entries' ≡ entries
+pub followed-more : (some more : Key → Bool) (ds ds' : List Desired) (rs rs' : List Actual)
+    (entries entries' : List RouteEntry) → ds' ≡ ds → rs' ≡ rs → entries' ≡ entries
     → ((k : Key) → some k ≡ true → more k ≡ true) → IsFollowed some ds rs entries → IsFollowed more ds' rs' entries'
 followed-more some more ds ds' rs rs' entries entries' same_ds same_rs same h was = record {
   table = same ∙ was.table ∙ sym (λ i. routes_in (same_ds i) (same_rs i));
@@ -53,11 +58,13 @@ followed-more some more ds ds' rs rs' entries entries' same_ds same_rs same h wa
 }
 
 module _ (indexed : Key → Bool) where
-  covers-change : (kind : Change) (r : Row) (rs : List Actual) → IfSome (key_put kind r) (IsIndexed indexed) → Covers indexed rs → Covers indexed (running_by kind r rs)
+  covers-change : (kind : Change) (r : Row) (rs : List Actual) → IfSome (key_put kind r) (IsIndexed indexed)
+      → Covers indexed rs → Covers indexed (running_by kind r rs)
   covers-change kind (row.Desired d) rs h covers = covers
   covers-change kind (row.Actual a) rs h covers =
       let P = λ (b : Actual). IsIndexed indexed b.key in
-      elim (stands kind && is_running a) as (λ b. IfSome (cond b (Some a.key) None) (IsIndexed indexed) → All P (cond b (put_row place_order place_of a rs) (without_row place_order place_of (place_of a) rs))) [
+      elim (stands kind && is_running a) as (λ b. IfSome (cond b (Some a.key) None) (IsIndexed indexed)
+      → All P (cond b (put_row place_order place_of a rs) (without_row place_order place_of (place_of a) rs))) [
         | true ↦ λ at. All-put_row place_order place_of P a rs at covers
         | false ↦ λ at. All-without place_order place_of P (place_of a) rs covers
       ] h
@@ -66,14 +73,17 @@ module _ (indexed : Key → Bool) where
   covers-change kind (row.Domain d) rs h covers = covers
 
   -- it has those that run after events
-  pub covers-after : (es : List Event) (rs : List Actual) → WillCover indexed es → Covers indexed rs → Covers indexed (running_after es rs)
+  pub covers-after : (es : List Event) (rs : List Actual) → WillCover indexed es → Covers indexed rs
+      → Covers indexed (running_after es rs)
   covers-after [] rs h covers = covers
   covers-after (e ∷ es) rs h covers =
       let P = λ (x : Event). IfSome (key_put x.change x.row) (IsIndexed indexed) in
-      covers-after es (running_by e.change e.row rs) (All-tail P e es h) (covers-change e.change e.row rs (All-head P e es h) covers)
+      covers-after es (running_by e.change e.row rs) (All-tail P e es h)
+      (covers-change e.change e.row rs (All-head P e es h) covers)
 
   -- the next row is covered if it runs
-  pub covers-next : (rows : List Actual) (i : ℕ) (d : Actual) → i < length rows → (is_running (get_or rows i d) ≡ true → IsIndexed indexed (get_or rows i d).key)
+  pub covers-next : (rows : List Actual) (i : ℕ) (d : Actual) → i < length rows
+      → (is_running (get_or rows i d) ≡ true → IsIndexed indexed (get_or rows i d).key)
       → Covers indexed (filter is_running (take i rows)) → Covers indexed (filter is_running (take (i + 1) rows))
   covers-next rows i d lt at covers =
       let P = λ (b : Actual). IsIndexed indexed b.key in
@@ -86,23 +96,28 @@ module _ (indexed : Key → Bool) where
       ] at))
 
 -- an index with one instance more has the others too
-pub indexed-one_more : (some more : Key → Bool) (key : Key) → ((k : Key) → more k ≡ cond (is_at (key_order key) k) true (some k)) → (k : Key) → some k ≡ true → more k ≡ true
+pub indexed-one_more : (some more : Key → Bool) (key : Key)
+    → ((k : Key) → more k ≡ cond (is_at (key_order key) k) true (some k)) → (k : Key) → some k ≡ true → more k ≡ true
 indexed-one_more some more key added k h =
     added k ∙ elim (is_at (key_order key) k) as (λ b. cond b true (some k) ≡ true) [
       | true ↦ refl
       | false ↦ h
     ]
 
-put-more : (some more : Key → Bool) → ((k : Key) → some k ≡ true → more k ≡ true) → (o : Option Key) → IfSome o (IsIndexed some) → IfSome o (IsIndexed more)
+put-more : (some more : Key → Bool) → ((k : Key) → some k ≡ true → more k ≡ true) → (o : Option Key)
+    → IfSome o (IsIndexed some) → IfSome o (IsIndexed more)
 put-more some more h None at = tt
 put-more some more h (Some k) at = indexed-more some more h k at
 
-put-covered : (indexed : Key → Bool) (o p : Option Key) → o ≡ p → IfSome o (IsIndexed indexed) → IfSome p (IsIndexed indexed)
+put-covered : (indexed : Key → Bool) (o p : Option Key) → o ≡ p → IfSome o (IsIndexed indexed)
+    → IfSome p (IsIndexed indexed)
 put-covered indexed o p same at = subst (λ x. IfSome x (IsIndexed indexed)) same at
 
 -- the next event is covered too
-pub will-next : (some more : Key → Bool) (es : List Event) (i : ℕ) (d : Event) (o : Option Key) → i < length es → ((k : Key) → some k ≡ true → more k ≡ true)
-    → o ≡ key_put (get_or es i d).change (get_or es i d).row → IfSome o (IsIndexed more) → WillCover some (take i es) → WillCover more (take (i + 1) es)
+pub will-next : (some more : Key → Bool) (es : List Event) (i : ℕ) (d : Event) (o : Option Key) → i < length es
+    → ((k : Key) → some k ≡ true → more k ≡ true)
+    → o ≡ key_put (get_or es i d).change (get_or es i d).row → IfSome o (IsIndexed more) → WillCover some (take i es)
+    → WillCover more (take (i + 1) es)
 will-next some more es i d o lt h put at covers =
     let P = λ (x : Event). IfSome (key_put x.change x.row) (IsIndexed some) in
     let Q = λ (x : Event). IfSome (key_put x.change x.row) (IsIndexed more) in
@@ -110,17 +125,21 @@ will-next some more es i d o lt h put at covers =
     (All-weaker P Q (λ x was. put-more some more h (key_put x.change x.row) was) (take i es) covers)
     (put-covered more o (key_put (get_or es i d).change (get_or es i d).row) put at)
 
-pub will-all : (indexed : Key → Bool) (es : List Event) (i : ℕ) → length es ≤ i → WillCover indexed (take i es) → WillCover indexed es
+pub will-all : (indexed : Key → Bool) (es : List Event) (i : ℕ) → length es ≤ i → WillCover indexed (take i es)
+    → WillCover indexed es
 will-all indexed es i le h = subst (λ xs. WillCover indexed xs) (take_all i es le) h
 
 -- an instance without rows has none of any presence
 no-row : (rs : List Actual) (k : Key) (p : Presence) → has_rows rs k ≡ false → has_row rs k p ≡ false
-no-row rs k Ordinary h = (or_parts (has_row rs k Ordinary) (has_row rs k Evacuating) (or_parts (has_row rs k Ordinary || has_row rs k Evacuating) (has_row rs k Suspect) h).0).0
-no-row rs k Evacuating h = (or_parts (has_row rs k Ordinary) (has_row rs k Evacuating) (or_parts (has_row rs k Ordinary || has_row rs k Evacuating) (has_row rs k Suspect) h).0).1
+no-row rs k Ordinary h = (or_parts (has_row rs k Ordinary) (has_row rs k Evacuating)
+    (or_parts (has_row rs k Ordinary || has_row rs k Evacuating) (has_row rs k Suspect) h).0).0
+no-row rs k Evacuating h = (or_parts (has_row rs k Ordinary) (has_row rs k Evacuating)
+    (or_parts (has_row rs k Ordinary || has_row rs k Evacuating) (has_row rs k Suspect) h).0).1
 no-row rs k Suspect h = (or_parts (has_row rs k Ordinary || has_row rs k Evacuating) (has_row rs k Suspect) h).1
 
 -- what goes from the index has no row
-pub covers-without : (some fewer : Key → Bool) (rs : List Actual) (key : Key) → IsRising place_order place_of rs → has_rows rs key ≡ false
+pub covers-without : (some fewer : Key → Bool) (rs : List Actual) (key : Key) → IsRising place_order place_of rs
+    → has_rows rs key ≡ false
     → ((k : Key) → fewer k ≡ cond (is_at (key_order key) k) false (some k)) → Covers some rs → Covers fewer rs
 covers-without some fewer rs key rising idle dropped covers i d lt =
     let a = get_or rs i d in
@@ -129,7 +148,8 @@ covers-without some fewer rs key rising idle dropped covers i d lt =
     elim (is_at (key_order key) a.key) as (λ b. is_at (key_order key) a.key ≡ b → b ≡ false) [
       | true ↦ λ tie.
           let one : key ≡ a.key = same_from_tie key_order IsKeyOrder-key_order key a.key tie in
-          let found : find_row place_order place_of (a.key, a.presence) rs ≡ Some a = find_row-Contains place_order place_of IsKeyOrder-place_order a rs rising (Contains-get_or rs i d lt) in
+          let found : find_row place_order place_of (a.key, a.presence) rs ≡ Some a =
+          find_row-Contains place_order place_of IsKeyOrder-place_order a rs rising (Contains-get_or rs i d lt) in
           let there : has_row rs key a.presence ≡ true = ap (λ k. has_row rs k a.presence) one ∙ ap is_some found in
           absurd (false≢true (sym (no-row rs key a.presence idle) ∙ there))
       | false ↦ λ tie. refl

@@ -37,7 +37,8 @@ module _ {X Y : Type 0} (f : X → Option Y) where
   pub Contains-filter_map : (x : X) (y : Y) (xs : List X) → Contains xs x → f x ≡ Some y → Contains (filter_map f xs) y
   Contains-filter_map x y [] h is = absurd (none_in_nothing x h)
   Contains-filter_map x y (z ∷ zs) h is = elim (first_or_later x z zs h) [
-    | (inl one) ↦ subst (λ o. Contains (cons_option o (filter_map f zs)) y) (sym (ap f one ∙ is)) (Contains-first y (filter_map f zs))
+    | (inl one) ↦ subst (λ o. Contains (cons_option o (filter_map f zs)) y) (sym (ap f one ∙ is))
+        (Contains-first y (filter_map f zs))
     | (inr later) ↦
         let rest = Contains-filter_map x y zs later is in
         elim (f z) as (λ o. Contains (cons_option o (filter_map f zs)) y) [
@@ -46,10 +47,12 @@ module _ {X Y : Type 0} (f : X → Option Y) where
         ]
   ]
 
-  pub Contains-from_filter_map : (y : Y) (xs : List X) → Contains (filter_map f xs) y → (x : X) × Contains xs x × (f x ≡ Some y)
+  pub Contains-from_filter_map : (y : Y) (xs : List X) → Contains (filter_map f xs) y
+      → (x : X) × Contains xs x × (f x ≡ Some y)
   Contains-from_filter_map y [] h = absurd (none_in_nothing y h)
   Contains-from_filter_map y (z ∷ zs) h =
-      elim (f z) as (λ o. f z ≡ o → Contains (cons_option o (filter_map f zs)) y → (x : X) × Contains (z ∷ zs) x × (f x ≡ Some y)) [
+      elim (f z) as (λ o. f z ≡ o → Contains (cons_option o (filter_map f zs)) y
+      → (x : X) × Contains (z ∷ zs) x × (f x ≡ Some y)) [
         | None ↦ λ is there.
             let rest = Contains-from_filter_map y zs there in
             (rest.0, Contains-later z rest.0 zs rest.1, rest.2)
@@ -69,7 +72,8 @@ module _ {X Y : Type 0} (f : X → List Y) where
     | (inr later) ↦ Contains-append_right (f z) (flat_map f zs) y (Contains-flat_map x y zs later is)
   ]
 
-  pub Contains-from_flat_map : (y : Y) (xs : List X) → Contains (flat_map f xs) y → (x : X) × Contains xs x × Contains (f x) y
+  pub Contains-from_flat_map : (y : Y) (xs : List X) → Contains (flat_map f xs) y
+      → (x : X) × Contains xs x × Contains (f x) y
   Contains-from_flat_map y [] h = absurd (none_in_nothing y h)
   Contains-from_flat_map y (z ∷ zs) h = elim (Contains-append_cases (f z) (flat_map f zs) y h) [
     | (inl here) ↦ (z, Contains-first z zs, here)
@@ -85,7 +89,9 @@ module _ {K : Type 0} (R : K → K → Ordering) (o : IsKeyOrder R) where
 
   pub Contains-found : (xs : List K) (q : K) → is_some (find_row R (λ p. p) q xs) ≡ true → Contains xs q
   Contains-found xs q h =
-      elim (find_row R (λ p. p) q xs) as (λ (s : Option K). find_row R (λ p. p) q xs ≡ s → is_some s ≡ true → Contains xs q) [
+      elim (find_row R (λ p. p) q xs) as (λ (s : Option K). find_row R (λ p. p) q xs ≡ s → is_some s ≡ true
+      → Contains xs q) [
         | None ↦ λ is some. absurd cc
-        | (Some x) ↦ λ is some. subst (λ y. Contains xs y) (key-find_row R (λ p. p) o q x xs is) (Contains-find_row R (λ p. p) q x xs is)
+        | (Some x) ↦ λ is some. subst (λ y. Contains xs y) (key-find_row R (λ p. p) o q x xs is)
+            (Contains-find_row R (λ p. p) q x xs is)
       ] refl h

@@ -48,10 +48,14 @@ module _ (rows : Rows) (g : IsRising name_order process_of rows.desired) where
   processes-rise Changed (row.Domain d) = g
   processes-rise Removed (row.Domain d) = g
 
-  desired-kept : (change : Change) (r : Row) → desired_by change r (filter has_route rows.desired) ≡ filter has_route (with_change change r rows).desired
-  desired-kept Created (row.Desired d) = filter-put_row name_order process_of IsKeyOrder-name_order has_route d rows.desired g
-  desired-kept Changed (row.Desired d) = filter-put_row name_order process_of IsKeyOrder-name_order has_route d rows.desired g
-  desired-kept Removed (row.Desired d) = filter-without_row name_order process_of IsKeyOrder-name_order has_route d.process rows.desired g
+  desired-kept : (change : Change) (r : Row) → desired_by change r (filter has_route rows.desired)
+      ≡ filter has_route (with_change change r rows).desired
+  desired-kept Created (row.Desired d) = filter-put_row name_order process_of IsKeyOrder-name_order has_route d
+      rows.desired g
+  desired-kept Changed (row.Desired d) = filter-put_row name_order process_of IsKeyOrder-name_order has_route d
+      rows.desired g
+  desired-kept Removed (row.Desired d) = filter-without_row name_order process_of IsKeyOrder-name_order has_route
+      d.process rows.desired g
   desired-kept Created (row.Actual a) = refl
   desired-kept Changed (row.Actual a) = refl
   desired-kept Removed (row.Actual a) = refl
@@ -83,10 +87,14 @@ module _ (rows : Rows) (g : IsRising place_order place_of rows.actual) where
   places-rise Changed (row.Domain d) = g
   places-rise Removed (row.Domain d) = g
 
-  running-kept : (change : Change) (r : Row) → running_by change r (filter is_running rows.actual) ≡ filter is_running (with_change change r rows).actual
-  running-kept Created (row.Actual a) = filter-put_row place_order place_of IsKeyOrder-place_order is_running a rows.actual g
-  running-kept Changed (row.Actual a) = filter-put_row place_order place_of IsKeyOrder-place_order is_running a rows.actual g
-  running-kept Removed (row.Actual a) = filter-without_row place_order place_of IsKeyOrder-place_order is_running (place_of a) rows.actual g
+  running-kept : (change : Change) (r : Row) → running_by change r (filter is_running rows.actual)
+      ≡ filter is_running (with_change change r rows).actual
+  running-kept Created (row.Actual a) = filter-put_row place_order place_of IsKeyOrder-place_order is_running a
+      rows.actual g
+  running-kept Changed (row.Actual a) = filter-put_row place_order place_of IsKeyOrder-place_order is_running a
+      rows.actual g
+  running-kept Removed (row.Actual a) = filter-without_row place_order place_of IsKeyOrder-place_order is_running
+      (place_of a) rows.actual g
   running-kept Created (row.Desired d) = refl
   running-kept Changed (row.Desired d) = refl
   running-kept Removed (row.Desired d) = refl
@@ -116,11 +124,13 @@ kept-event e rows desired running h = record {
   running = ap (running_by e.change e.row) h.running ∙ running-kept rows h.places e.change e.row;
 }
 
-kept-events : (es : List Event) (rows : Rows) (desired : List Desired) (running : List Actual) → IsKept rows desired running
+kept-events : (es : List Event) (rows : Rows) (desired : List Desired) (running : List Actual)
+    → IsKept rows desired running
     → IsKept (with_events es rows) (desired_after es desired) (running_after es running)
 kept-events [] rows desired running h = h
 kept-events (e ∷ es) rows desired running h =
-    kept-events es (with_event e rows) (desired_by e.change e.row desired) (running_by e.change e.row running) (kept-event e rows desired running h)
+    kept-events es (with_event e rows) (desired_by e.change e.row desired) (running_by e.change e.row running)
+    (kept-event e rows desired running h)
 
 -- a process without a route has no entry, and a row that isn't RUNNING neither
 unrouted : (s : LrpState) (key : Key) (d : Desired) → has_route d ≡ false → way_in s key d ≡ None
@@ -151,39 +161,48 @@ routed-entry (Some d) a =
       | false ↦ λ is. sym (unrouted a.state a.key d is)
     ] refl
 
-same-entry : (ds : List Desired) (a : Actual) → IsRising name_order process_of ds → entry_among (filter has_route ds) a ≡ entry_among ds a
+same-entry : (ds : List Desired) (a : Actual) → IsRising name_order process_of ds
+    → entry_among (filter has_route ds) a ≡ entry_among ds a
 same-entry ds a h =
     ap (λ o. entry_for o a) (find_row-filter name_order process_of IsKeyOrder-name_order has_route a.key.process ds h)
     ∙ routed-entry (find_row name_order process_of a.key.process ds) a
 
 -- rows that aren't RUNNING add nothing
-running-ways : (ds : List Desired) (as' : List Actual) → filter_map (entry_among ds) (filter is_running as') ≡ filter_map (entry_among ds) as'
+running-ways : (ds : List Desired) (as' : List Actual)
+    → filter_map (entry_among ds) (filter is_running as') ≡ filter_map (entry_among ds) as'
 running-ways ds [] = refl
 running-ways ds (a ∷ as') =
     let rest = running-ways ds as' in
     let kept = filter is_running as' in
-    elim (is_running a) as (λ b. is_running a ≡ b → filter_map (entry_among ds) (cond b (a ∷ kept) kept) ≡ filter_map (entry_among ds) (a ∷ as')) [
+    elim (is_running a) as (λ b. is_running a ≡ b → filter_map (entry_among ds) (cond b (a ∷ kept) kept)
+    ≡ filter_map (entry_among ds) (a ∷ as')) [
       | true ↦ λ is. ap (cons_option (entry_among ds a)) rest
-      | false ↦ λ is. rest ∙ ap (λ o. cons_option o (filter_map (entry_among ds) as')) (sym (resting-entry (find_row name_order process_of a.key.process ds) a is))
+      | false ↦ λ is. rest ∙ ap (λ o. cons_option o (filter_map (entry_among ds) as'))
+          (sym (resting-entry (find_row name_order process_of a.key.process ds) a is))
     ] refl
 
 pub routes-running : (ds : List Desired) (as' : List Actual) → routes_in ds (filter is_running as') ≡ routes_in ds as'
 routes-running ds as' = ap (table route_order itself) (running-ways ds as')
 
 -- nor do processes without a route
-routed-ways : (ds : List Desired) (as' : List Actual) → IsRising name_order process_of ds → filter_map (entry_among (filter has_route ds)) as' ≡ filter_map (entry_among ds) as'
+routed-ways : (ds : List Desired) (as' : List Actual) → IsRising name_order process_of ds
+    → filter_map (entry_among (filter has_route ds)) as' ≡ filter_map (entry_among ds) as'
 routed-ways ds [] h = refl
 routed-ways ds (a ∷ as') h =
     let rest = routed-ways ds as' h in
     (λ i. cons_option (same-entry ds a h i) (rest i))
 
 -- the routes of what is kept are those of the rows
-pub routes-kept : (rows : Rows) → IsRising name_order process_of rows.desired → routes_in (filter has_route rows.desired) (filter is_running rows.actual) ≡ routes rows
-routes-kept rows h = ap (table route_order itself) (running-ways (filter has_route rows.desired) rows.actual ∙ routed-ways rows.desired rows.actual h)
+pub routes-kept : (rows : Rows) → IsRising name_order process_of rows.desired
+    → routes_in (filter has_route rows.desired) (filter is_running rows.actual) ≡ routes rows
+routes-kept rows h = ap (table route_order itself) (running-ways
+    (filter has_route rows.desired) rows.actual ∙ routed-ways rows.desired rows.actual h)
 
 -- an emitter of rows that keeps what there is to keep
-pub is-routing : (rows : Rows) (e : Routing) → IsRising name_order process_of rows.desired → IsRising place_order place_of rows.actual
-    → e.desired ≡ filter has_route rows.desired → e.running ≡ filter is_running rows.actual → e.table ≡ routes_in e.desired e.running → IsRoutingOf rows e
+pub is-routing : (rows : Rows) (e : Routing) → IsRising name_order process_of rows.desired
+    → IsRising place_order place_of rows.actual
+    → e.desired ≡ filter has_route rows.desired → e.running ≡ filter is_running rows.actual
+    → e.table ≡ routes_in e.desired e.running → IsRoutingOf rows e
 is-routing rows e processes places desired running table' = record {
   processes = processes;
   places = places;
@@ -193,11 +212,14 @@ is-routing rows e processes places desired running table' = record {
 }
 
 -- and with the events taken in, it is one of the rows then
-pub follows-events : (es : List Event) (rows : Rows) (old new : Routing) → new.desired ≡ desired_after es old.desired → new.running ≡ running_after es old.running
+pub follows-events : (es : List Event) (rows : Rows) (old new : Routing) → new.desired ≡ desired_after es old.desired
+    → new.running ≡ running_after es old.running
     → new.table ≡ routes_in new.desired new.running → IsRoutingOf rows old → IsRoutingOf (with_events es rows) new
 follows-events es rows old new desired running table' h =
-    let kept = kept-events es rows old.desired old.running (record { processes = h.processes; places = h.places; desired = h.desired; running = h.running }) in
-    is-routing (with_events es rows) new kept.processes kept.places (desired ∙ kept.desired) (running ∙ kept.running) table'
+    let kept = kept-events es rows old.desired old.running
+    (record { processes = h.processes; places = h.places; desired = h.desired; running = h.running }) in
+    is-routing (with_events es rows) new kept.processes kept.places (desired ∙ kept.desired)
+    (running ∙ kept.running) table'
 
 -- the routes of any rows are sorted
 pub routes-rise : (ds : List Desired) (rs : List Actual) → IsRising route_order itself (routes_in ds rs)

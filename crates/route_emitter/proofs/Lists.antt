@@ -15,7 +15,8 @@ has-Contains xs e h = ap (λ o. is_some o) (found_itself route_order IsKeyOrder-
 
 pub Contains-has : (xs : List RouteEntry) (e : RouteEntry) → has xs e ≡ true → Contains xs e
 Contains-has xs e h =
-    elim (find_row route_order itself e xs) as (λ (o : Option RouteEntry). find_row route_order itself e xs ≡ o → is_some o ≡ true → Contains xs e) [
+    elim (find_row route_order itself e xs) as (λ (o : Option RouteEntry). find_row route_order itself e xs ≡ o
+    → is_some o ≡ true → Contains xs e) [
       | None ↦ λ is some. absurd cc
       | (Some x) ↦ λ is some.
           let one : x ≡ e = key-find_row route_order itself IsKeyOrder-route_order e x xs is in
@@ -53,7 +54,8 @@ module _ {X : Type 0} (p : X → Bool) where
   pub Contains-from_filter : (x : X) (xs : List X) → Contains (filter p xs) x → Contains xs x × (p x ≡ true)
   Contains-from_filter x [] (k, lt, at) = absurd (omega arith)
   Contains-from_filter x (y ∷ ys) h =
-      elim (p y) as (λ b. p y ≡ b → Contains (cond b (y ∷ filter p ys) (filter p ys)) x → Contains (y ∷ ys) x × (p x ≡ true)) [
+      elim (p y) as (λ b. p y ≡ b → Contains (cond b (y ∷ filter p ys) (filter p ys)) x
+      → Contains (y ∷ ys) x × (p x ≡ true)) [
         | true ↦ λ is at. elim (first_or_rest x y (filter p ys) at) [
           | (inl one) ↦ ((zero, omega arith, one), ap p (sym one) ∙ is)
           | (inr rest) ↦ let later = Contains-from_filter x ys rest in (Contains-cons x y ys later.0, later.1)

@@ -20,7 +20,8 @@ use Rattle.route_emitter.specs.Routing.{FollowsTheLog, IsRoutingOf}
 abbrev uncounted : Rows → Rows
 uncounted rows = record rows { next = 0 }
 
-uncounted-change : (change : Change) (r : Row) (rows : Rows) → uncounted (with_change change r rows) ≡ with_change change r (uncounted rows)
+uncounted-change : (change : Change) (r : Row) (rows : Rows)
+    → uncounted (with_change change r rows) ≡ with_change change r (uncounted rows)
 uncounted-change Created (row.Desired d) rows = refl
 uncounted-change Changed (row.Desired d) rows = refl
 uncounted-change Removed (row.Desired d) rows = refl
@@ -39,19 +40,23 @@ uncounted-change Removed (row.Domain d) rows = refl
 
 uncounted-events : (es : List Event) (rows : Rows) → uncounted (with_events es rows) ≡ with_events es (uncounted rows)
 uncounted-events [] rows = refl
-uncounted-events (e ∷ es) rows = uncounted-events es (with_event e rows) ∙ ap (with_events es) (uncounted-change e.change e.row rows)
+uncounted-events (e ∷ es) rows = uncounted-events es (with_event e rows) ∙ ap (with_events es)
+    (uncounted-change e.change e.row rows)
 
-with_events-append : (es more : List Event) (rows : Rows) → with_events (es ++ more) rows ≡ with_events more (with_events es rows)
+with_events-append : (es more : List Event) (rows : Rows)
+    → with_events (es ++ more) rows ≡ with_events more (with_events es rows)
 with_events-append [] more rows = refl
 with_events-append (e ∷ es) more rows = with_events-append es more (with_event e rows)
 
-both-each : (first : Event) (second : Option Event) → with_second first second ≡ each_event (Some (record { first = first; second = second }))
+both-each : (first : Event) (second : Option Event) → with_second first second
+    ≡ each_event (Some (record { first = first; second = second }))
 both-each first None = refl
 both-each first (Some second) = refl
 
 module _ (tells : (rows : Rows) (c : Command) → IsLegal rows c → TellsAll rows c) where
   -- what one item tells
-  told-item : (rows : Rows) (i : Item) (log : List Item) → IsLawful rows (i ∷ log) → uncounted (after_item rows i) ≡ with_events (each_event (told_by rows i)) (uncounted rows)
+  told-item : (rows : Rows) (i : Item) (log : List Item) → IsLawful rows (i ∷ log)
+      → uncounted (after_item rows i) ≡ with_events (each_event (told_by rows i)) (uncounted rows)
   told-item rows (Doubt by c) log lawful = refl
   told-item rows (Done by c) log lawful =
       let t = tells rows c lawful.0 in
@@ -62,18 +67,22 @@ module _ (tells : (rows : Rows) (c : Command) → IsLegal rows c → TellsAll ro
 
   -- what the first items tell
   told-first : (rows : Rows) (log : List Item) (max : ℕ) → IsLawful rows log
-      → with_events (flat_map each_event (take max (told_in rows log))) (uncounted rows) ≡ uncounted (replay_log rows (take max log))
+      → with_events (flat_map each_event (take max (told_in rows log))) (uncounted rows)
+      ≡ uncounted (replay_log rows (take max log))
   told-first rows [] zero lawful = refl
   told-first rows [] (suc max) lawful = refl
   told-first rows (i ∷ log) zero lawful = refl
   told-first rows (i ∷ log) (suc max) lawful =
-      with_events-append (each_event (told_by rows i)) (flat_map each_event (take max (told_in (after_item rows i) log))) (uncounted rows)
-      ∙ ap (with_events (flat_map each_event (take max (told_in (after_item rows i) log)))) (sym (told-item rows i log lawful))
+      with_events-append (each_event (told_by rows i)) (flat_map each_event
+      (take max (told_in (after_item rows i) log))) (uncounted rows)
+      ∙ ap (with_events (flat_map each_event (take max (told_in (after_item rows i) log))))
+      (sym (told-item rows i log lawful))
       ∙ told-first (after_item rows i) log max lawful.1
 
   -- what the items from a place on tell
   told-from : (rows : Rows) (log : List Item) (from max : ℕ) → IsLawful rows log
-      → with_events (flat_map each_event (take max (drop from (told_in rows log)))) (uncounted (replay_log rows (take from log))) ≡ uncounted (replay_log rows (take (from + max) log))
+      → with_events (flat_map each_event (take max (drop from (told_in rows log))))
+      (uncounted (replay_log rows (take from log))) ≡ uncounted (replay_log rows (take (from + max) log))
   told-from rows log zero max lawful =
       let all : max ≡ zero + max = omega arith in
       told-first rows log max lawful ∙ ap (λ n. uncounted (replay_log rows (take n log))) all
@@ -96,6 +105,21 @@ module _ (tells : (rows : Rows) (c : Command) → IsLegal rows c → TellsAll ro
       let at : uncounted (with_events heard there) ≡ uncounted (rows_at base log upto) =
       uncounted-events heard there ∙ told-from base log from (upto - from) lawful
       ∙ ap (λ n. uncounted (replay_log base (take n log))) all in
-      let bare : IsRoutingOf (uncounted (with_events heard there)) e = record { processes = h.processes; places = h.places; desired = h.desired; running = h.running; table = h.table } in
+      let bare : IsRoutingOf (uncounted (with_events heard there)) e =
+      record {
+        processes = h.processes;
+        places = h.places;
+        desired = h.desired;
+        running = h.running;
+        table =
+            h.table;
+      } in
       let moved : IsRoutingOf (uncounted (rows_at base log upto)) e = subst (λ (r : Rows). IsRoutingOf r e) at bare in
-      record { processes = moved.processes; places = moved.places; desired = moved.desired; running = moved.running; table = moved.table }
+      record {
+        processes = moved.processes;
+        places = moved.places;
+        desired = moved.desired;
+        running =
+            moved.running;
+        table = moved.table;
+      }

@@ -31,7 +31,8 @@ Contains-any : (ks : List Key) (k : Key) → list_any (is_at (key_order k)) ks �
 Contains-any [] k h = absurd cc
 Contains-any (x ∷ xs) k h =
     elim (or_cases (is_eq (key_order k x)) (list_any (is_at (key_order k)) xs) h) [
-      | (inl tie) ↦ subst (λ y. Contains (y ∷ xs) k) (same_from_tie key_order IsKeyOrder-key_order k x tie) (Contains-first k xs)
+      | (inl tie) ↦ subst (λ y. Contains (y ∷ xs) k) (same_from_tie key_order IsKeyOrder-key_order k x tie)
+          (Contains-first k xs)
       | (inr later) ↦ Contains-later x k xs (Contains-any xs k later)
     ]
 
@@ -43,15 +44,22 @@ upto-last : (m n : ℕ) → n ≤ m → is_lt (nat_cmp m n) ≡ false
 upto-last m n le = grind (arith, nat_tests)
 
 -- the keys of a process lie between its first and its last
-in-range : (key : Key) (process : List ℕ) → key.process ≡ process → key.index < 2 ^ 32 → range_contains key_order (Included (first_of process)) (Included (last_of process)) key ≡ true
+in-range : (key : Key) (process : List ℕ) → key.process ≡ process → key.index < 2 ^ 32
+    → range_contains key_order (Included (first_of process)) (Included (last_of process)) key ≡ true
 in-range key process same small =
-    let tie : name_order process key.process ≡ Equal = ap (name_order process) same ∙ tied_itself IsKeyOrder-name_order.total process in
-    let first : is_le (key_order (first_of process) key) ≡ true = ap (λ c. is_le (ordering_then c (nat_cmp 0 key.index))) tie ∙ from-zero key.index in
-    let last : is_lt (key_order (last_of process) key) ≡ false = ap (λ c. is_lt (ordering_then c (nat_cmp 4294967295 key.index))) tie ∙ upto-last 4294967295 key.index (omega (arith, small)) in
+    let tie : name_order process key.process ≡ Equal = ap
+    (name_order process) same ∙ tied_itself IsKeyOrder-name_order.total process in
+    let first : is_le (key_order (first_of process) key) ≡ true =
+    ap (λ c. is_le (ordering_then c (nat_cmp 0 key.index))) tie ∙ from-zero key.index in
+    let last : is_lt (key_order (last_of process) key) ≡ false =
+    ap (λ c. is_lt (ordering_then c (nat_cmp 4294967295 key.index))) tie ∙ upto-last 4294967295 key.index
+    (omega (arith, small)) in
     (λ i. first i && not (last i))
 
-named-row : (indexed : Key → Bool) (named : List Key) (r : Row) → ((k : Key) → key_in r ≡ Some k → is_among named k ≡ true)
-    → ((p : List ℕ) → process_in r ≡ Some p → (k : Key) → IsIndexed indexed k → k.process ≡ p → is_among named k ≡ true) → IsNamed indexed named r
+named-row : (indexed : Key → Bool) (named : List Key) (r : Row)
+    → ((k : Key) → key_in r ≡ Some k → is_among named k ≡ true)
+    → ((p : List ℕ) → process_in r ≡ Some p → (k : Key) → IsIndexed indexed k → k.process ≡ p → is_among named k ≡ true)
+    → IsNamed indexed named r
 named-row indexed named (row.Desired d) of_key of_process = of_process d.process refl
 named-row indexed named (row.Actual a) of_key of_process = of_key a.key refl
 named-row indexed named (row.Task t) of_key of_process = tt
@@ -60,7 +68,8 @@ named-row indexed named (row.Domain d) of_key of_process = tt
 
 -- the instances of the actual rows, and those that the index has of the desired rows' processes, are all that is named
 pub named-all : (set : BTreeSet Key) (es : List Event) (named : List Key)
-    → named ≡ table key_order (λ k. k) (filter_map (λ (e : Event). key_in e.row) es ++ flat_map (of_process set.keys) (table name_order (λ p. p) (filter_map (λ (e : Event). process_in e.row) es)))
+    → named ≡ table key_order (λ k. k) (filter_map (λ (e : Event). key_in e.row) es
+    ++ flat_map (of_process set.keys) (table name_order (λ p. p) (filter_map (λ (e : Event). process_in e.row) es)))
     → AreNamed (contains key_order set) named es
 named-all set es named is i d lt =
     let e = get_or es i d in
@@ -69,11 +78,17 @@ named-all set es named is i d lt =
     let names = filter_map (λ (x : Event). process_in x.row) es in
     let more = flat_map (of_process set.keys) (table name_order (λ p. p) names) in
     let among : (k : Key) → Contains (keys ++ more) k → is_among named k ≡ true = λ k h.
-    subst (λ ks. is_among ks k ≡ true) (sym is) (found-Contains key_order IsKeyOrder-key_order (table key_order (λ x. x) (keys ++ more)) k (Contains-table key_order IsKeyOrder-key_order (keys ++ more) k h)) in
+    subst (λ ks. is_among ks k ≡ true) (sym is) (found-Contains key_order IsKeyOrder-key_order
+    (table key_order (λ x. x) (keys ++ more)) k (Contains-table key_order IsKeyOrder-key_order (keys ++ more) k h))
+    in
     named-row (contains key_order set) named e.row
-    (λ k one. among k (Contains-append_left keys more k (Contains-filter_map (λ (x : Event). key_in x.row) e k es there one)))
+    (λ k one. among k (Contains-append_left keys more k (Contains-filter_map
+    (λ (x : Event). key_in x.row) e k es there one)))
     (λ p one k at same.
     let range = range_contains key_order (Included (first_of p)) (Included (last_of p)) in
-    let listed : Contains (of_process set.keys p) k = Contains-filter range k set.keys (Contains-any set.keys k at.0) (in-range k p same at.1) in
-    let process = Contains-table name_order IsKeyOrder-name_order names p (Contains-filter_map (λ (x : Event). process_in x.row) e p es there one) in
-    among k (Contains-append_right keys more k (Contains-flat_map (of_process set.keys) p k (table name_order (λ x. x) names) process listed)))
+    let listed : Contains (of_process set.keys p) k = Contains-filter range k set.keys (Contains-any set.keys k at.0)
+    (in-range k p same at.1) in
+    let process = Contains-table name_order IsKeyOrder-name_order names p
+    (Contains-filter_map (λ (x : Event). process_in x.row) e p es there one) in
+    among k (Contains-append_right keys more k (Contains-flat_map (of_process set.keys) p k
+    (table name_order (λ x. x) names) process listed)))

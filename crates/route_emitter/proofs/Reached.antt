@@ -31,10 +31,19 @@ use Rattle.route_emitter.proofs.Members.{Contains-from_table, Contains-table}
 use Rattle.route_emitter.proofs.Order.{IsKeyOrder-route_order}
 
 -- an entry has the key of its row
-key-way_to : (r : Option (List ℕ)) (d : Desired) (a : Actual) (instance : Instance) (cell : List ℕ) (e : RouteEntry) → way_to r d.port a.key instance cell ≡ Some e → key_of e ≡ a.key
+key-way_to : (r : Option (List ℕ)) (d : Desired) (a : Actual) (instance : Instance) (cell : List ℕ) (e : RouteEntry)
+    → way_to r d.port a.key instance cell ≡ Some e → key_of e ≡ a.key
 key-way_to None d a instance cell e is = absurd cc
 key-way_to (Some r) d a instance cell e is =
-    let one : record { route = r; process = a.key.process; index = a.key.index; instance = instance; cell = cell; port = d.port } ≡ e = cc in
+    let one : record {
+      route = r;
+      process = a.key.process;
+      index = a.key.index;
+      instance = instance;
+      cell = cell;
+      port =
+          d.port;
+    } ≡ e = cc in
     sym (ap key_of one)
 
 key-way_in : (s : LrpState) (d : Desired) (a : Actual) (e : RouteEntry) → way_in s a.key d ≡ Some e → key_of e ≡ a.key
@@ -63,18 +72,23 @@ module _ (ds : List Desired) (rs : List Actual) where
   has-reached e h =
       has-Contains (routes_in ds rs) e
       (Contains-table route_order IsKeyOrder-route_order (filter_map (entry_among ds) rs) e
-      (Contains-filter_map (entry_among ds) h.row e rs (Contains-find_row place_order place_of (key_of e, h.presence) h.row rs h.found) h.entry))
+      (Contains-filter_map (entry_among ds) h.row e rs (Contains-find_row place_order place_of
+      (key_of e, h.presence) h.row rs h.found) h.entry))
 
-  pub reached-has : IsRising place_order place_of rs → (e : RouteEntry) → has (routes_in ds rs) e ≡ true → IsReached ds rs e
+  pub reached-has : IsRising place_order place_of rs → (e : RouteEntry) → has (routes_in ds rs) e ≡ true
+      → IsReached ds rs e
   reached-has rising e h =
-      let there = Contains-from_table route_order IsKeyOrder-route_order (filter_map (entry_among ds) rs) e (Contains-has (routes_in ds rs) e h) in
+      let there = Contains-from_table route_order IsKeyOrder-route_order (filter_map (entry_among ds) rs) e
+      (Contains-has (routes_in ds rs) e h) in
       let from = Contains-from_filter_map (entry_among ds) e rs there in
       let a = from.0 in
-      let found : find_row place_order place_of (a.key, a.presence) rs ≡ Some a = find_row-Contains place_order place_of IsKeyOrder-place_order a rs rising from.1 in
+      let found : find_row place_order place_of (a.key, a.presence) rs ≡ Some a =
+      find_row-Contains place_order place_of IsKeyOrder-place_order a rs rising from.1 in
       record {
         presence = a.presence;
         row = a;
-        found = subst (λ k. find_row place_order place_of (k, a.presence) rs ≡ Some a) (sym (key-entry_among ds a e from.2)) found;
+        found = subst (λ k. find_row place_order place_of (k, a.presence) rs ≡ Some a)
+            (sym (key-entry_among ds a e from.2)) found;
         entry = from.2;
       }
 
@@ -82,28 +96,43 @@ module _ (ds : List Desired) (rs : List Actual) where
   at-reached : (e : RouteEntry) (h : IsReached ds rs e) → entry_at ds rs (key_of e) h.presence ≡ Some e
   at-reached e h = ap (λ o. option_and_then (entry_among ds) o) h.found ∙ h.entry
 
-  reached-at : (k : Key) (p : Presence) (e : RouteEntry) → entry_at ds rs k p ≡ Some e → (key_of e ≡ k) × IsReached ds rs e
+  reached-at : (k : Key) (p : Presence) (e : RouteEntry) → entry_at ds rs k p ≡ Some e
+      → (key_of e ≡ k) × IsReached ds rs e
   reached-at k p e is =
-      elim (find_row place_order place_of (k, p) rs) as (λ (o : Option Actual). find_row place_order place_of (k, p) rs ≡ o → option_and_then (entry_among ds) o ≡ Some e → (key_of e ≡ k) × IsReached ds rs e) [
+      elim (find_row place_order place_of (k, p) rs) as (λ (o : Option Actual). find_row place_order place_of (k, p) rs
+      ≡ o → option_and_then (entry_among ds) o ≡ Some e → (key_of e ≡ k) × IsReached ds rs e) [
         | None ↦ λ found entry. absurd cc
         | (Some a) ↦ λ found entry.
-            let place : place_of a ≡ (k, p) = key-find_row place_order place_of IsKeyOrder-place_order (k, p) a rs found in
-            let one : key_of e ≡ k = key-entry_among ds a e entry ∙ ap (λ (q : Key × Presence). q.0) place in
-            (one, record { presence = p; row = a; found = subst (λ q. find_row place_order place_of (q, p) rs ≡ Some a) (sym one) found; entry = entry })
+            let place : place_of a ≡ (k, p) = key-find_row place_order place_of IsKeyOrder-place_order
+            (k, p) a rs found in
+            let one : key_of e ≡ k = key-entry_among ds a e entry ∙ ap (λ (q : Key × Presence). q.0) place in (
+              one,
+              record {
+                presence = p;
+                row = a;
+                found = subst (λ q. find_row place_order place_of (q, p) rs ≡ Some a)
+                    (sym one) found;
+                entry = entry;
+              },
+            )
       ] refl is
 
   each-at : (k : Key) (p : Presence) (e : RouteEntry) → entry_at ds rs k p ≡ Some e → Contains (entries_at ds rs k) e
   each-at k Ordinary e is =
       let at = λ (p : Presence). option_to_list (entry_at ds rs k p) in
-      Contains-append_left (at Ordinary ++ at Evacuating) (at Suspect) e (Contains-append_left (at Ordinary) (at Evacuating) e (Contains-option (entry_at ds rs k Ordinary) e is))
+      Contains-append_left (at Ordinary ++ at Evacuating) (at Suspect) e
+      (Contains-append_left (at Ordinary) (at Evacuating) e (Contains-option (entry_at ds rs k Ordinary) e is))
   each-at k Evacuating e is =
       let at = λ (p : Presence). option_to_list (entry_at ds rs k p) in
-      Contains-append_left (at Ordinary ++ at Evacuating) (at Suspect) e (Contains-append_right (at Ordinary) (at Evacuating) e (Contains-option (entry_at ds rs k Evacuating) e is))
+      Contains-append_left (at Ordinary ++ at Evacuating) (at Suspect) e
+      (Contains-append_right (at Ordinary) (at Evacuating) e (Contains-option (entry_at ds rs k Evacuating) e is))
   each-at k Suspect e is =
       let at = λ (p : Presence). option_to_list (entry_at ds rs k p) in
-      Contains-append_right (at Ordinary ++ at Evacuating) (at Suspect) e (Contains-option (entry_at ds rs k Suspect) e is)
+      Contains-append_right (at Ordinary ++ at Evacuating) (at Suspect) e
+      (Contains-option (entry_at ds rs k Suspect) e is)
 
-  some-at : (k : Key) (e : RouteEntry) → Contains (entries_at ds rs k) e → (p : Presence) × (entry_at ds rs k p ≡ Some e)
+  some-at : (k : Key) (e : RouteEntry) → Contains (entries_at ds rs k) e
+      → (p : Presence) × (entry_at ds rs k p ≡ Some e)
   some-at k e h =
       let at = λ (p : Presence). option_to_list (entry_at ds rs k p) in
       elim (Contains-append_cases (at Ordinary ++ at Evacuating) (at Suspect) e h) [
@@ -115,20 +144,25 @@ module _ (ds : List Desired) (rs : List Actual) where
       ]
 
   -- the entries of some instances are those of the table that lead to one of them
-  pub has-entries_of : IsRising place_order place_of rs → (keys : List Key) (e : RouteEntry) → has (entries_of ds rs keys) e ≡ (is_among keys (key_of e) && has (routes_in ds rs) e)
+  pub has-entries_of : IsRising place_order place_of rs → (keys : List Key) (e : RouteEntry)
+      → has (entries_of ds rs keys) e ≡ (is_among keys (key_of e) && has (routes_in ds rs) e)
   has-entries_of rising keys e =
       let all = flat_map (entries_at ds rs) keys in
       both_ways (has (entries_of ds rs keys) e) (is_among keys (key_of e) && has (routes_in ds rs) e)
       (λ h.
-      let there = Contains-from_flat_map (entries_at ds rs) e keys (Contains-from_table route_order IsKeyOrder-route_order all e (Contains-has (entries_of ds rs keys) e h)) in
+      let there = Contains-from_flat_map (entries_at ds rs) e keys
+      (Contains-from_table route_order IsKeyOrder-route_order all e (Contains-has (entries_of ds rs keys) e h)) in
       let at = some-at there.0 e there.2 in
       let reached = reached-at there.0 at.0 e at.1 in
       and_from (is_among keys (key_of e)) (has (routes_in ds rs) e)
-      (subst (λ k. is_among keys k ≡ true) (sym reached.0) (found-Contains key_order IsKeyOrder-key_order keys there.0 there.1))
+      (subst (λ k. is_among keys k ≡ true) (sym reached.0)
+      (found-Contains key_order IsKeyOrder-key_order keys there.0 there.1))
       (has-reached e reached.1))
       (λ h.
       let both = and_parts (is_among keys (key_of e)) (has (routes_in ds rs) e) h in
       let reached = reached-has rising e both.1 in
       has-Contains (entries_of ds rs keys) e
       (Contains-table route_order IsKeyOrder-route_order all e
-      (Contains-flat_map (entries_at ds rs) (key_of e) e keys (Contains-found key_order IsKeyOrder-key_order keys (key_of e) both.0) (each-at (key_of e) reached.presence e (at-reached e reached)))))
+      (Contains-flat_map (entries_at ds rs) (key_of e) e keys
+      (Contains-found key_order IsKeyOrder-key_order keys (key_of e) both.0)
+      (each-at (key_of e) reached.presence e (at-reached e reached)))))

@@ -20,7 +20,8 @@ use Rattle.route_emitter.proofs.Near.{rising-after}
 use Rattle.route_emitter.proofs.Order.{IsKeyOrder-route_order}
 use Rattle.route_emitter.proofs.Reached.{has-entries_of}
 
-pub entries-rise : (ds : List Desired) (rs : List Actual) (keys : List Key) → IsRising route_order itself (entries_of ds rs keys)
+pub entries-rise : (ds : List Desired) (rs : List Actual) (keys : List Key)
+    → IsRising route_order itself (entries_of ds rs keys)
 entries-rise ds rs keys = IsRising-table route_order itself IsKeyOrder-route_order (flat_map (entries_at ds rs) keys)
 
 pub minus-no_more : (xs ys : List RouteEntry) → length (minus xs ys) ≤ length xs
@@ -28,31 +29,43 @@ minus-no_more xs ys =
     let p = λ (x : RouteEntry). not (has ys x) in
     omega (arith, length-filter p xs, count_by-le-length p xs)
 
-module _ (named : List Key) (es : List Event) (ds : List Desired) (rs : List Actual) (old : List RouteEntry) (was : old ≡ routes_in ds rs)
-    (rising : IsRising place_order place_of rs) (others : KeepsOthers named old (routes_in (desired_after es ds) (running_after es rs))) where
+module _ (named : List Key) (es : List Event) (ds : List Desired) (rs : List Actual) (old : List RouteEntry)
+    (was : old ≡ routes_in ds rs)
+    (rising : IsRising place_order place_of rs) (others : KeepsOthers named old
+    (routes_in (desired_after es ds) (running_after es rs))) where
   of_old : (e : RouteEntry) → has (entries_of ds rs named) e ≡ (is_among named (key_of e) && has old e)
   of_old e = has-entries_of ds rs rising named e ∙ ap (λ xs. is_among named (key_of e) && has xs e) (sym was)
 
-  of_new : (e : RouteEntry) → has (entries_of (desired_after es ds) (running_after es rs) named) e ≡ (is_among named (key_of e) && has (routes_in (desired_after es ds) (running_after es rs)) e)
+  of_new : (e : RouteEntry) → has (entries_of (desired_after es ds) (running_after es rs) named) e
+      ≡ (is_among named (key_of e) && has (routes_in (desired_after es ds) (running_after es rs)) e)
   of_new e = has-entries_of (desired_after es ds) (running_after es rs) (rising-after es rs rising) named e
 
   pub old-rises : IsRising route_order itself old
   old-rises = subst (λ xs. IsRising route_order itself xs) (sym was) (routes-rise ds rs)
 
-  pub comes : minus (entries_of (desired_after es ds) (running_after es rs) named) (entries_of ds rs named) ≡ minus (routes_in (desired_after es ds) (running_after es rs)) old
+  pub comes : minus (entries_of (desired_after es ds) (running_after es rs) named) (entries_of ds rs named)
+      ≡ minus (routes_in (desired_after es ds) (running_after es rs)) old
   comes =
-      comes_is named old (routes_in (desired_after es ds) (running_after es rs)) (entries_of ds rs named) (entries_of (desired_after es ds) (running_after es rs) named)
-      old-rises (routes-rise (desired_after es ds) (running_after es rs)) (entries-rise ds rs named) (entries-rise (desired_after es ds) (running_after es rs) named) of_old of_new others
+      comes_is named old (routes_in (desired_after es ds) (running_after es rs)) (entries_of ds rs named)
+      (entries_of (desired_after es ds) (running_after es rs) named)
+      old-rises (routes-rise (desired_after es ds) (running_after es rs)) (entries-rise ds rs named)
+      (entries-rise (desired_after es ds) (running_after es rs) named) of_old of_new others
 
-  pub goes : minus (entries_of ds rs named) (entries_of (desired_after es ds) (running_after es rs) named) ≡ minus old (routes_in (desired_after es ds) (running_after es rs))
+  pub goes : minus (entries_of ds rs named) (entries_of (desired_after es ds) (running_after es rs) named)
+      ≡ minus old (routes_in (desired_after es ds) (running_after es rs))
   goes =
-      goes_is named old (routes_in (desired_after es ds) (running_after es rs)) (entries_of ds rs named) (entries_of (desired_after es ds) (running_after es rs) named)
-      old-rises (routes-rise (desired_after es ds) (running_after es rs)) (entries-rise ds rs named) (entries-rise (desired_after es ds) (running_after es rs) named) of_old of_new others
+      goes_is named old (routes_in (desired_after es ds) (running_after es rs)) (entries_of ds rs named)
+      (entries_of (desired_after es ds) (running_after es rs) named)
+      old-rises (routes-rise (desired_after es ds) (running_after es rs)) (entries-rise ds rs named)
+      (entries-rise (desired_after es ds) (running_after es rs) named) of_old of_new others
 
   pub renewed : (changed : List RouteEntry)
-      → IsSwitched (minus (entries_of (desired_after es ds) (running_after es rs) named) (entries_of ds rs named)) (minus (entries_of ds rs named) (entries_of (desired_after es ds) (running_after es rs) named)) old changed
+      → IsSwitched (minus (entries_of (desired_after es ds) (running_after es rs) named) (entries_of ds rs named))
+      (minus (entries_of ds rs named) (entries_of (desired_after es ds) (running_after es rs) named)) old changed
       → changed ≡ routes_in (desired_after es ds) (running_after es rs)
   renewed changed switched =
-      table_is named old (routes_in (desired_after es ds) (running_after es rs)) (entries_of ds rs named) (entries_of (desired_after es ds) (running_after es rs) named)
-      old-rises (routes-rise (desired_after es ds) (running_after es rs)) (entries-rise ds rs named) (entries-rise (desired_after es ds) (running_after es rs) named) of_old of_new others
+      table_is named old (routes_in (desired_after es ds) (running_after es rs)) (entries_of ds rs named)
+      (entries_of (desired_after es ds) (running_after es rs) named)
+      old-rises (routes-rise (desired_after es ds) (running_after es rs)) (entries-rise ds rs named)
+      (entries-rise (desired_after es ds) (running_after es rs) named) of_old of_new others
       changed switched

@@ -42,7 +42,8 @@ flips (c ∷ cs) e = flip (eq_by_cmp route_order e c) (flips cs e)
 
 flips-append : (xs ys : List RouteEntry) (e : RouteEntry) → flips (xs ++ ys) e ≡ flip (flips xs e) (flips ys e)
 flips-append [] ys e = refl
-flips-append (x ∷ xs) ys e = ap (flip (eq_by_cmp route_order e x)) (flips-append xs ys e) ∙ sym (flip-assoc (eq_by_cmp route_order e x) (flips xs e) (flips ys e))
+flips-append (x ∷ xs) ys e = ap (flip (eq_by_cmp route_order e x)) (flips-append xs ys e) ∙ sym
+    (flip-assoc (eq_by_cmp route_order e x) (flips xs e) (flips ys e))
 
 -- in sorted entries each stands once
 flips-rising : (xs : List RouteEntry) (e : RouteEntry) → IsRising route_order itself xs → flips xs e ≡ has xs e
@@ -51,14 +52,17 @@ flips-rising (x ∷ xs) e h =
     let rest = flips-rising xs e (IsRising-tail route_order itself x xs h) in
     elim (eq_by_cmp route_order e x) as (λ b. eq_by_cmp route_order e x ≡ b → flip b (flips xs e) ≡ has (x ∷ xs) e) [
       | true ↦ λ tie.
-          let none : has xs e ≡ false = ap is_some (none_behind route_order itself IsKeyOrder-route_order e x xs h tie) in
+          let none : has xs e ≡ false = ap is_some (none_behind route_order itself IsKeyOrder-route_order e x xs h tie)
+          in
           ap not (rest ∙ none) ∙ sym (has-cons x xs e ∙ ap (λ b. cond b true (has xs e)) tie)
       | false ↦ λ tie. rest ∙ sym (has-cons x xs e ∙ ap (λ b. cond b true (has xs e)) tie)
     ] refl
 
-has-toggled : (c : RouteEntry) (xs : List RouteEntry) (e : RouteEntry) → has (toggle c xs) e ≡ flip (eq_by_cmp route_order e c) (has xs e)
+has-toggled : (c : RouteEntry) (xs : List RouteEntry) (e : RouteEntry)
+    → has (toggle c xs) e ≡ flip (eq_by_cmp route_order e c) (has xs e)
 has-toggled c xs e =
-    has-toggle c xs e ∙ elim (eq_by_cmp route_order e c) as (λ b. eq_by_cmp route_order e c ≡ b → cond b (not (has xs c)) (has xs e) ≡ flip b (has xs e)) [
+    has-toggle c xs e ∙ elim (eq_by_cmp route_order e c) as
+    (λ b. eq_by_cmp route_order e c ≡ b → cond b (not (has xs c)) (has xs e) ≡ flip b (has xs e)) [
       | true ↦ λ tie. ap (λ x. not (has xs x)) (sym (same_from_tie route_order IsKeyOrder-route_order e c tie))
       | false ↦ λ tie. refl
     ] refl
@@ -67,11 +71,13 @@ has-toggled_each : (cs xs : List RouteEntry) (e : RouteEntry) → has (toggle_ea
 has-toggled_each [] xs e = refl
 has-toggled_each (c ∷ cs) xs e =
     let tie = eq_by_cmp route_order e c in
-    has-toggled_each cs (toggle c xs) e ∙ ap (flip (flips cs e)) (has-toggled c xs e) ∙ sym (flip-assoc (flips cs e) tie (has xs e))
+    has-toggled_each cs (toggle c xs) e ∙ ap (flip (flips cs e)) (has-toggled c xs e) ∙ sym
+    (flip-assoc (flips cs e) tie (has xs e))
     ∙ ap (λ b. flip b (has xs e)) (flip-comm (flips cs e) tie)
 
 -- the same for pairs, of which one goes and one comes
-has-exchanged : (os ns xs : List RouteEntry) (e : RouteEntry) → length os ≡ length ns → has (exchange_each os ns xs) e ≡ flip (flip (flips ns e) (flips os e)) (has xs e)
+has-exchanged : (os ns xs : List RouteEntry) (e : RouteEntry) → length os ≡ length ns
+    → has (exchange_each os ns xs) e ≡ flip (flip (flips ns e) (flips os e)) (has xs e)
 has-exchanged [] [] xs e same = refl
 has-exchanged [] (n ∷ ns) xs e same = absurd (omega (arith, same))
 has-exchanged (o ∷ os) [] xs e same = absurd (omega (arith, same))
@@ -79,18 +85,24 @@ has-exchanged (o ∷ os) (n ∷ ns) xs e same =
     let go = eq_by_cmp route_order e o in
     let come = eq_by_cmp route_order e n in
     has-exchanged os ns (toggle n (toggle o xs)) e (omega (arith, same))
-    ∙ ap (flip (flip (flips ns e) (flips os e))) (has-toggled n (toggle o xs) e ∙ ap (flip come) (has-toggled o xs e) ∙ sym (flip-assoc come go (has xs e)))
+    ∙ ap (flip (flip (flips ns e) (flips os e))) (has-toggled n (toggle o xs) e ∙ ap (flip come)
+    (has-toggled o xs e) ∙ sym (flip-assoc come go (has xs e)))
     ∙ sym (flip-assoc (flip (flips ns e) (flips os e)) (flip come go) (has xs e))
-    ∙ ap (λ b. flip b (has xs e)) (flip-middle (flips ns e) (flips os e) come go ∙ (λ i. flip (flip-comm (flips ns e) come i) (flip-comm (flips os e) go i)))
+    ∙ ap (λ b. flip b (has xs e)) (flip-middle (flips ns e) (flips os e) come go ∙
+    (λ i. flip (flip-comm (flips ns e) come i) (flip-comm (flips os e) go i)))
 
-pub IsRising-exchanged : (os ns xs : List RouteEntry) → IsRising route_order itself xs → IsRising route_order itself (exchange_each os ns xs)
+pub IsRising-exchanged : (os ns xs : List RouteEntry) → IsRising route_order itself xs
+    → IsRising route_order itself (exchange_each os ns xs)
 IsRising-exchanged [] ns xs h = h
 IsRising-exchanged (o ∷ os) [] xs h = h
-IsRising-exchanged (o ∷ os) (n ∷ ns) xs h = IsRising-exchanged os ns (toggle n (toggle o xs)) (IsRising-toggle n (toggle o xs) (IsRising-toggle o xs h))
+IsRising-exchanged (o ∷ os) (n ∷ ns) xs h = IsRising-exchanged os ns (toggle n (toggle o xs))
+    (IsRising-toggle n (toggle o xs) (IsRising-toggle o xs h))
 
 -- one pair more
-pub exchanged-more : (os ns xs : List RouteEntry) (i : ℕ) (o n : RouteEntry) → i < length os → i < length ns → o ≡ get_or os i o → n ≡ get_or ns i n
-    → exchange_each (take (i + 1) os) (take (i + 1) ns) xs ≡ toggle n (toggle o (exchange_each (take i os) (take i ns) xs))
+pub exchanged-more : (os ns xs : List RouteEntry) (i : ℕ) (o n : RouteEntry) → i < length os → i < length ns
+    → o ≡ get_or os i o → n ≡ get_or ns i n
+    → exchange_each (take (i + 1) os) (take (i + 1) ns) xs
+    ≡ toggle n (toggle o (exchange_each (take i os) (take i ns) xs))
 exchanged-more [] ns xs i o n low high old new = absurd (omega (arith, low))
 exchanged-more (x ∷ os) [] xs i o n low high old new = absurd (omega (arith, high))
 exchanged-more (x ∷ os) (y ∷ ns) xs zero o n low high old new = λ k. toggle (sym new k) (toggle (sym old k) xs)
@@ -110,14 +122,18 @@ or-true false = refl
 
 later-has : (xs : List RouteEntry) (n : ℕ) (e : RouteEntry) → has (drop n xs) e ≡ true → has xs e ≡ true
 later-has xs n e h =
-    ap (λ ys. has ys e) (sym (take-append-drop n xs)) ∙ has-append (take n xs) (drop n xs) e ∙ ap (λ b. has (take n xs) e || b) h ∙ or-true (has (take n xs) e)
+    ap (λ ys. has ys e) (sym (take-append-drop n xs)) ∙ has-append (take n xs) (drop n xs) e ∙ ap
+    (λ b. has (take n xs) e || b) h ∙ or-true (has (take n xs) e)
 
-length-both : (xs ys : List RouteEntry) (n : ℕ) → n ≤ length xs → n ≤ length ys → length (take n xs) ≡ length (take n ys)
+length-both : (xs ys : List RouteEntry) (n : ℕ) → n ≤ length xs → n ≤ length ys
+    → length (take n xs) ≡ length (take n ys)
 length-both xs ys n le le_too = length-take-le n xs le ∙ sym (length-take-le n ys le_too)
 
 -- the first pairs of what goes and what comes are exchanged, and the rest is taken in and out: so each is
-pub switched : (comes goes old : List RouteEntry) → AreApart comes goes → IsRising route_order itself old → (n : ℕ) → n ≤ length goes → n ≤ length comes
-    → IsSwitched comes goes old (toggle_each (table route_order itself (drop n comes ++ drop n goes)) (exchange_each (take n goes) (take n comes) old))
+pub switched : (comes goes old : List RouteEntry) → AreApart comes goes → IsRising route_order itself old → (n : ℕ)
+    → n ≤ length goes → n ≤ length comes
+    → IsSwitched comes goes old (toggle_each (table route_order itself (drop n comes ++ drop n goes))
+    (exchange_each (take n goes) (take n comes) old))
 switched comes goes old lists rising n in_goes in_comes =
     let first = exchange_each (take n goes) (take n comes) old in
     let later = drop n comes ++ drop n goes in
@@ -134,18 +150,24 @@ switched comes goes old lists rising n in_goes in_comes =
           let late_too = flips-rising (drop n goes) e (IsRising-drop n goes lists.goes_rise) in
           let apart : b ≡ true → d ≡ false = λ h.
           elim d as (λ x. d ≡ x → x ≡ false) [
-            | true ↦ λ is. sym (later-has goes n e (sym late_too ∙ is)) ∙ lists.apart e (later-has comes n e (sym late ∙ h))
+            | true ↦ λ is. sym (later-has goes n e (sym late_too ∙ is)) ∙ lists.apart e
+                (later-has comes n e (sym late ∙ h))
             | false ↦ λ is. refl
           ] refl in
           let of_later : flips changes e ≡ flip b d =
-          flips-rising changes e (IsRising-table route_order itself IsKeyOrder-route_order later) ∙ has-table later e ∙ has-append (drop n comes) (drop n goes) e
+          flips-rising changes e (IsRising-table route_order itself IsKeyOrder-route_order later) ∙ has-table later e ∙
+          has-append (drop n comes) (drop n goes) e
           ∙ (λ i. sym late i || sym late_too i) ∙ or-apart b d apart in
           let of_comes : flip a b ≡ has comes e =
-          sym (flips-append (take n comes) (drop n comes) e) ∙ ap (λ xs. flips xs e) (take-append-drop n comes) ∙ flips-rising comes e lists.comes_rise in
+          sym (flips-append (take n comes) (drop n comes) e) ∙ ap (λ xs. flips xs e)
+          (take-append-drop n comes) ∙ flips-rising comes e lists.comes_rise in
           let of_goes : flip c d ≡ has goes e =
-          sym (flips-append (take n goes) (drop n goes) e) ∙ ap (λ xs. flips xs e) (take-append-drop n goes) ∙ flips-rising goes e lists.goes_rise in
+          sym (flips-append (take n goes) (drop n goes) e) ∙ ap (λ xs. flips xs e)
+          (take-append-drop n goes) ∙ flips-rising goes e lists.goes_rise in
           has-toggled_each changes first e
-          ∙ (λ i. flip (of_later i) (has-exchanged (take n goes) (take n comes) old e (length-both goes comes n in_goes in_comes) i))
+          ∙ (λ i. flip (of_later i) (has-exchanged (take n goes) (take n comes) old e
+          (length-both goes comes n in_goes in_comes) i))
           ∙ sym (flip-assoc (flip b d) (flip a c) t)
-          ∙ ap (λ x. flip x t) (flip-middle b d a c ∙ (λ i. flip (flip-comm b a i) (flip-comm d c i)) ∙ (λ i. flip (of_comes i) (of_goes i)) ∙ sym (or-apart (has comes e) (has goes e) (lists.apart e)));
+          ∙ ap (λ x. flip x t) (flip-middle b d a c ∙ (λ i. flip (flip-comm b a i) (flip-comm d c i)) ∙
+          (λ i. flip (of_comes i) (of_goes i)) ∙ sym (or-apart (has comes e) (has goes e) (lists.apart e)));
     }

@@ -34,24 +34,29 @@ module _ (base : Rows) (log : List Item) (from : ℕ) where
   stands_behind law lawful within emitter is =
       subst (λ (xs : List Item). IsRoutingOf (replay_log base xs) emitter) (take_all (length log) log (omega arith))
       (law base log from (length log) lawful within emitter
-      (subst (λ (events : List Event). IsRoutingOf (with_events events (replay_log base (take from log))) emitter) (sym heard_to_end) is))
+      (subst (λ (events : List Event). IsRoutingOf (with_events events (replay_log base (take from log))) emitter)
+      (sym heard_to_end) is))
 
   -- so does what takes in just these events
-  pub stands_after : EmittersFollow → IsLawful base log → from ≤ length log → (events : List Event) → events ≡ events_from base log from
+  pub stands_after : EmittersFollow → IsLawful base log → from ≤ length log → (events : List Event)
+      → events ≡ events_from base log from
       → (old new : Routing) → IsRoutingOf (replay_log base (take from log)) old
       → ((rows : Rows) → IsRoutingOf rows old → IsRoutingOf (with_events events rows) new)
       → IsRoutingOf (replay_log base log) new
   stands_after law lawful within events all old new first follows =
       stands_behind law lawful within new
-      (subst (λ (es : List Event). IsRoutingOf (with_events es (replay_log base (take from log))) new) all (follows (replay_log base (take from log)) first))
+      (subst (λ (es : List Event). IsRoutingOf (with_events es (replay_log base (take from log))) new) all
+      (follows (replay_log base (take from log)) first))
 
   -- what is told of a change from the one table to the other
   abbrev pub words : List RouteEntry → List RouteEntry → List ℕ
   words old new = lines false (minus old new) ++ lines true (minus new old)
 
   -- the change of the tables is that of the board's routes
-  pub told_by : (old new : Routing) → IsRoutingOf (replay_log base (take from log)) old → IsRoutingOf (replay_log base log) new
-      → (register unregister : List RouteEntry) → register ≡ minus new.table old.table → unregister ≡ minus old.table new.table
+  pub told_by : (old new : Routing) → IsRoutingOf (replay_log base (take from log)) old
+      → IsRoutingOf (replay_log base log) new
+      → (register unregister : List RouteEntry) → register ≡ minus new.table old.table
+      → unregister ≡ minus old.table new.table
       → (text : List ℕ) → text ≡ lines false unregister ++ lines true register
       → text ≡ words (routes_behind base (take from log)) (routes_behind base log)
   told_by old new first last register unregister came went text is =

@@ -57,13 +57,17 @@ module _ {K X : Type 0} (R : K → K → Ordering) (key : X → K) where
       ] e
 
   -- and a row that is in the table is found at its key
-  pub find_row-Contains : IsKeyOrder R → (x : X) (xs : List X) → IsRising R key xs → Contains xs x → find_row R key (key x) xs ≡ Some x
+  pub find_row-Contains : IsKeyOrder R → (x : X) (xs : List X) → IsRising R key xs → Contains xs x
+      → find_row R key (key x) xs ≡ Some x
   find_row-Contains o x [] h (k, lt, at) = absurd (omega arith)
   find_row-Contains o x (y ∷ ys) h (zero, lt, at) =
       ap (λ z. cond (eq_by_cmp R (key x) (key z)) (Some z) (find_row R key (key x) ys)) at
       ∙ ap (λ b. cond b (Some x) (find_row R key (key x) ys)) (ties_itself R o (key x))
   find_row-Contains o x (y ∷ ys) h (suc k, lt, at) =
       let inside : Contains ys x = (k, omega arith, at) in
-      let above : R (key y) (key x) ≡ Less = All-contains (λ z. R (key y) (key z) ≡ Less) ys x (All-above (key y) ys (below_rest R key y ys h)) inside in
-      let apart : eq_by_cmp R (key x) (key y) ≡ false = ap is_eq (o.total.antisymm (key x) (key y) ∙ ap ordering_reverse above) in
-      ap (λ b. cond b (Some y) (find_row R key (key x) ys)) apart ∙ find_row-Contains o x ys (IsRising-tail R key y ys h) inside
+      let above : R (key y) (key x) ≡ Less = All-contains (λ z. R (key y) (key z) ≡ Less) ys x
+      (All-above (key y) ys (below_rest R key y ys h)) inside in
+      let apart : eq_by_cmp R (key x) (key y) ≡ false = ap is_eq
+      (o.total.antisymm (key x) (key y) ∙ ap ordering_reverse above) in
+      ap (λ b. cond b (Some y) (find_row R key (key x) ys)) apart ∙ find_row-Contains o x ys
+      (IsRising-tail R key y ys h) inside

@@ -38,20 +38,26 @@ module _ {K X : Type 0} (R : K → K → Ordering) (key : X → K) where
   find_row-keyed q [] = refl
   find_row-keyed q (x ∷ xs) = ap (cond (eq_by_cmp R q (key x)) (Some x)) (find_row-keyed q xs)
 
-  pub keyed-put_row : IsKeyOrder R → (r : X) (xs : List X) → keyed R key (put_row R key r xs) ≡ put R (key r) r (keyed R key xs)
+  pub keyed-put_row : IsKeyOrder R → (r : X) (xs : List X)
+      → keyed R key (put_row R key r xs) ≡ put R (key r) r (keyed R key xs)
   keyed-put_row o r [] = refl
   keyed-put_row o r (x ∷ xs) =
-      elim (R (key r) (key x)) as (λ c. R (key r) (key x) ≡ c → keyed R key (by_order c (r ∷ x ∷ xs) (r ∷ xs) (x ∷ put_row R key r xs)) ≡ by_order c ((key r, r) ∷ keyed R key (x ∷ xs)) ((key x, r) ∷ keyed R key xs) ((key x, x) ∷ put R (key r) r (keyed R key xs))) [
+      elim (R (key r) (key x)) as (λ c. R (key r) (key x) ≡ c
+      → keyed R key (by_order c (r ∷ x ∷ xs) (r ∷ xs) (x ∷ put_row R key r xs))
+      ≡ by_order c ((key r, r) ∷ keyed R key (x ∷ xs)) ((key x, r) ∷ keyed R key xs)
+      ((key x, x) ∷ put R (key r) r (keyed R key xs))) [
         | Less ↦ λ p. refl
         | Equal ↦ λ p. λ i. (o.exact _ _ p i, r) ∷ keyed R key xs
         | Greater ↦ λ p. ap (λ es. (key x, x) ∷ es) (keyed-put_row o r xs)
       ] refl
 
-  pub keyed-without_row : (k : K) (xs : List X) → keyed R key (without_row R key k xs) ≡ where_key R (λ q. not (eq_by_cmp R k q)) (keyed R key xs)
+  pub keyed-without_row : (k : K) (xs : List X) → keyed R key (without_row R key k xs)
+      ≡ where_key R (λ q. not (eq_by_cmp R k q)) (keyed R key xs)
   keyed-without_row k [] = refl
   keyed-without_row k (x ∷ xs) =
       let left = where_key R (λ q. not (eq_by_cmp R k q)) (keyed R key xs) in
-      elim (eq_by_cmp R k (key x)) as (λ b. keyed R key (cond b (without_row R key k xs) (x ∷ without_row R key k xs)) ≡ cond (not b) ((key x, x) ∷ left) left) [
+      elim (eq_by_cmp R k (key x)) as (λ b. keyed R key (cond b (without_row R key k xs) (x ∷ without_row R key k xs))
+      ≡ cond (not b) ((key x, x) ∷ left) left) [
         | true ↦ keyed-without_row k xs
         | false ↦ ap (λ es. (key x, x) ∷ es) (keyed-without_row k xs)
       ]

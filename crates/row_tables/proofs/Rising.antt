@@ -26,24 +26,30 @@ module _ {K X : Type 0} (R : K → K → Ordering) (key : X → K) where
 
   pub IsRising-put_row : IsKeyOrder R → (r : X) (xs : List X) → IsRising R key xs → IsRising R key (put_row R key r xs)
   IsRising-put_row o r xs h =
-      subst (λ es. T (is_sorted R es)) (sym (keyed-put_row R key o r xs)) (is_sorted-put R o.total (key r) r (keyed R key xs) h)
+      subst (λ es. T (is_sorted R es)) (sym (keyed-put_row R key o r xs))
+      (is_sorted-put R o.total (key r) r (keyed R key xs) h)
 
   pub IsRising-without_row : (k : K) (xs : List X) → IsRising R key xs → IsRising R key (without_row R key k xs)
   IsRising-without_row k xs h =
-      subst (λ es. T (is_sorted R es)) (sym (keyed-without_row R key k xs)) (is_sorted-where_key R (λ q. not (eq_by_cmp R k q)) (keyed R key xs) h)
+      subst (λ es. T (is_sorted R es)) (sym (keyed-without_row R key k xs))
+      (is_sorted-where_key R (λ q. not (eq_by_cmp R k q)) (keyed R key xs) h)
 
   -- nothing is found at a key below all rows
   pub find_row-below_all : (q : K) (xs : List X) → T (below_all R q (keyed R key xs)) → find_row R key q xs ≡ None
   find_row-below_all q [] h = refl
   find_row-below_all q (x ∷ xs) h =
-      let less : R q (key x) ≡ Less = less_from_test (R q (key x)) (first_of_both (is_lt (R q (key x))) (below_all R q (keyed R key xs)) h) in
+      let less : R q (key x) ≡ Less = less_from_test (R q (key x))
+      (first_of_both (is_lt (R q (key x))) (below_all R q (keyed R key xs)) h) in
       ap (λ c. cond (is_eq c) (Some x) (find_row R key q xs)) less
       ∙ find_row-below_all q xs (second_of_both (is_lt (R q (key x))) (below_all R q (keyed R key xs)) h)
 
   -- nor at one below the first row
-  pub find_row-below_first : IsKeyOrder R → (q : K) (x : X) (xs : List X) → R q (key x) ≡ Less → T (below_all R (key x) (keyed R key xs)) → find_row R key q xs ≡ None
+  pub find_row-below_first : IsKeyOrder R → (q : K) (x : X) (xs : List X) → R q (key x) ≡ Less
+      → T (below_all R (key x) (keyed R key xs)) → find_row R key q xs ≡ None
   find_row-below_first o q x [] p h = refl
   find_row-below_first o q x (y ∷ ys) p h =
-      let above : R (key x) (key y) ≡ Less = less_from_test (R (key x) (key y)) (first_of_both (is_lt (R (key x) (key y))) (below_all R (key x) (keyed R key ys)) h) in
+      let above : R (key x) (key y) ≡ Less = less_from_test (R (key x) (key y))
+      (first_of_both (is_lt (R (key x) (key y))) (below_all R (key x) (keyed R key ys)) h) in
       ap (λ c. cond (is_eq c) (Some y) (find_row R key q ys)) (o.total.trans q (key x) (key y) p above)
-      ∙ find_row-below_first o q x ys p (second_of_both (is_lt (R (key x) (key y))) (below_all R (key x) (keyed R key ys)) h)
+      ∙ find_row-below_first o q x ys p (second_of_both (is_lt (R (key x) (key y)))
+      (below_all R (key x) (keyed R key ys)) h)

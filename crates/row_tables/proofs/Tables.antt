@@ -43,14 +43,16 @@ module _ {K X : Type 0} (R : K → K → Ordering) (key : X → K) (o : IsKeyOrd
         | false ↦ λ is. absent_row x ys is (k, omega arith, at)
       ] e
 
-  alike_at : (q : K) (xs ys : List X) → IsRising R key ys → IsPermutation xs ys → find_row R key q ys ≡ find_row R key q xs
+  alike_at : (q : K) (xs ys : List X) → IsRising R key ys → IsPermutation xs ys
+      → find_row R key q ys ≡ find_row R key q xs
   alike_at q xs ys h p =
       elim (find_row R key q xs) as (λ (s : Option X). find_row R key q xs ≡ s → find_row R key q ys ≡ s) [
         | None ↦ λ none. elim (find_row R key q ys) as (λ (s : Option X). find_row R key q ys ≡ s → s ≡ None) [
           | None ↦ λ e. refl
           | (Some y) ↦ λ e.
               let has : key y ≡ q = key-find_row R key o q y ys e in
-              let inside : Contains xs y = Contains-permutation ys xs y (IsPermutation-sym xs ys p) (Contains-find_row R key q y ys e) in
+              let inside : Contains xs y = Contains-permutation ys xs y (IsPermutation-sym xs ys p)
+              (Contains-find_row R key q y ys e) in
               absurd (absent_row y xs (subst (λ k. find_row R key k xs ≡ None) (sym has) none) inside)
         ] refl
         | (Some x) ↦ λ e.
@@ -62,14 +64,17 @@ module _ {K X : Type 0} (R : K → K → Ordering) (key : X → K) (o : IsKeyOrd
   -- the same rows in rising order are the table
   pub table-from_rising : (xs ys : List X) → IsRising R key ys → IsPermutation xs ys → ys ≡ table R key xs
   table-from_rising xs ys h p =
-      same_rows R key o ys (table R key xs) h (IsRising-table xs) (λ q. alike_at q xs ys h p ∙ sym (find_row-table q xs))
+      same_rows R key o ys (table R key xs) h (IsRising-table xs)
+      (λ q. alike_at q xs ys h p ∙ sym (find_row-table q xs))
 
 module _ {K X : Type 0} (R : K → K → Ordering) (key : X → K) where
   -- keys of which each is below those after it rise
-  below_all-from_each : (k : K) (xs : List X) → ((j : ℕ) (d : X) → j < length xs → R k (key (get_or xs j d)) ≡ Less) → T (below_all R k (keyed R key xs))
+  below_all-from_each : (k : K) (xs : List X) → ((j : ℕ) (d : X) → j < length xs → R k (key (get_or xs j d)) ≡ Less)
+      → T (below_all R k (keyed R key xs))
   below_all-from_each k [] h = tt
   below_all-from_each k (x ∷ xs) h =
-      both_parts (is_lt (R k (key x))) (below_all R k (keyed R key xs)) (subst (λ c. T (is_lt c)) (sym (h 0 x (omega arith))) tt)
+      both_parts (is_lt (R k (key x))) (below_all R k (keyed R key xs))
+      (subst (λ c. T (is_lt c)) (sym (h 0 x (omega arith))) tt)
       (below_all-from_each k xs (λ j d below. h (suc j) d (omega arith)))
 
   pub IsRising-from_pairs : (xs : List X) → AllPairs (λ x y. R (key x) (key y) ≡ Less) xs → IsRising R key xs
@@ -90,17 +95,26 @@ module _ {K X : Type 0} (R : K → K → Ordering) (key : X → K) (o : IsKeyOrd
   tie_decides a b = (λ e. same_from_tie R o a b e, λ e. subst (λ k. eq_by_cmp R a k ≡ true) e (ties_itself R o a))
 
   -- rows of unlike keys rise after a sort
-  IsRising-from_sorted : (xs ys : List X) → AllPairs (λ a b. a ≢ b) (map key xs) → IsSortedByKey key R ys → IsPermutation xs ys → IsRising R key ys
+  IsRising-from_sorted : (xs ys : List X) → AllPairs (λ a b. a ≢ b) (map key xs) → IsSortedByKey key R ys
+      → IsPermutation xs ys → IsRising R key ys
   IsRising-from_sorted xs ys differ sorted p =
       let before : IsDistinct (eq_by_cmp R) (map key xs) = IsDistinct-from_AllPairs tie_decides (map key xs) differ in
-      let after : IsDistinct (eq_by_cmp R) (map key ys) = IsDistinct-IsPermutation (eq_by_cmp R) ((eq_by_cmp_equiv o.total).symm) (map key xs) (map key ys) (IsPermutation-map key xs ys p) before in
+      let after : IsDistinct (eq_by_cmp R) (map key ys) = IsDistinct-IsPermutation (eq_by_cmp R)
+      ((eq_by_cmp_equiv o.total).symm) (map key xs) (map key ys) (IsPermutation-map key xs ys p) before in
       let apart : AllPairs (λ a b. a ≢ b) (map key ys) = AllPairs-from_IsDistinct tie_decides (map key ys) after in
       IsRising-from_pairs R key ys (λ i j d lt below.
-      let far : is_lt (R (key (get_or ys j d)) (key (get_or ys i d))) ≡ false = sorted_far (λ x y. is_lt (R (key x) (key y))) (ranks_by o.total key) ys sorted i j d (omega arith) below in
-      let turned : is_lt (ordering_reverse (R (key (get_or ys i d)) (key (get_or ys j d)))) ≡ false = ap is_lt (sym (o.total.antisymm (key (get_or ys j d)) (key (get_or ys i d)))) ∙ far in
+      let far : is_lt (R (key (get_or ys j d)) (key (get_or ys i d))) ≡ false =
+      sorted_far (λ x y. is_lt (R (key x) (key y))) (ranks_by o.total key) ys sorted i j d (omega arith) below in
+      let turned : is_lt (ordering_reverse (R (key (get_or ys i d)) (key (get_or ys j d)))) ≡ false =
+      ap is_lt (sym (o.total.antisymm (key (get_or ys j d)) (key (get_or ys i d)))) ∙ far in
       let here : j < length (map key ys) = simp length-map below in
-      let unlike : key (get_or ys i d) ≢ key (get_or ys j d) = λ e. apart i j (key d) lt here (get_or-map key ys i d (key d) (omega arith) ∙ e ∙ sym (get_or-map key ys j d (key d) below)) in
-      less_left (R (key (get_or ys i d)) (key (get_or ys j d))) turned (λ e. unlike (o.exact (key (get_or ys i d)) (key (get_or ys j d)) e)))
+      let unlike : key (get_or ys i d) ≢ key (get_or ys j d) = λ e.
+      apart i j (key d) lt here (get_or-map key ys i d (key d) (omega arith) ∙ e ∙ sym
+      (get_or-map key ys j d (key d) below)) in
+      less_left (R (key (get_or ys i d)) (key (get_or ys j d))) turned
+      (λ e. unlike (o.exact (key (get_or ys i d)) (key (get_or ys j d)) e)))
 
-  pub table-from_sorted : (xs ys : List X) → AllPairs (λ a b. a ≢ b) (map key xs) → IsSortedByKey key R ys → IsPermutation xs ys → ys ≡ table R key xs
-  table-from_sorted xs ys differ sorted p = table-from_rising R key o xs ys (IsRising-from_sorted xs ys differ sorted p) p
+  pub table-from_sorted : (xs ys : List X) → AllPairs (λ a b. a ≢ b) (map key xs) → IsSortedByKey key R ys
+      → IsPermutation xs ys → ys ≡ table R key xs
+  table-from_sorted xs ys differ sorted p = table-from_rising R key o xs ys
+      (IsRising-from_sorted xs ys differ sorted p) p

@@ -25,7 +25,8 @@ use Rattle.run_function.proofs.TurnsAlone.{later_turns, turns_are_alone}
 no_lines : (by n : ℕ) (lines : List Line) → AreLinesOf by lines → by ≢ n → lines_by n lines ≡ []
 no_lines by n [] are ne = refl
 no_lines by n (l ∷ ls) are ne =
-    ap (λ (b : Bool). cond b (l ∷ lines_by n ls) (lines_by n ls)) (ne_eqb l.actor n (λ e. ne (sym (are l (inside_first l ls)) ∙ e)))
+    ap (λ (b : Bool). cond b (l ∷ lines_by n ls) (lines_by n ls))
+    (ne_eqb l.actor n (λ e. ne (sym (are l (inside_first l ls)) ∙ e)))
     ∙ no_lines by n ls (λ x inside. are x (inside_rest x l ls inside)) ne
 
 pub no_turns : (by n : ℕ) (lines : List Line) → AreLinesOf by lines → by ≢ n → turns_in n lines ≡ []
@@ -43,23 +44,29 @@ module _ (base : Rows) (now : Moment) (lines : List Line) (before fresh : List I
     pub none : answers ≡ []
     pub items : by_number n fresh ≡ []
 
-  pub idle_part : (n : ℕ) (a a' : ActorState) (answers : List Answered) → turns_in n lines ≡ [] → PartRan base now lines before fresh n a a' answers → IsIdle n a a' answers
+  pub idle_part : (n : ℕ) (a a' : ActorState) (answers : List Answered) → turns_in n lines ≡ []
+      → PartRan base now lines before fresh n a a' answers → IsIdle n a a' answers
   idle_part n a a' answers none ran =
       let taken = subst (λ (ts : List Turn). TakesTurns n now ts a ran.first answers a' ran.last) none ran.taken in
       record {
         same = taken.1.0;
         none = taken.0;
-        items = none_behind ran.first.mine (by_number n fresh) ran.last.mine (ap (λ (x : PortView). x.mine) taken.1.1) ran.sees.own;
+        items = none_behind ran.first.mine (by_number n fresh) ran.last.mine
+            (ap (λ (x : PortView). x.mine) taken.1.1) ran.sees.own;
       }
 
   -- each actor from that number on ran
   abbrev pub Each_ran : ℕ → List ActorState → List ActorState → List (List Answered) → Type 0
-  Each_ran from olds mids parts = (k n : ℕ) (a a' : ActorState) (answers : List Answered) → n ≡ from + k → slice_get olds k ≡ Some a
-      → slice_get mids k ≡ Some a' → slice_get parts k ≡ Some answers → PartRan base now lines before fresh n a a' answers
+  Each_ran from olds mids parts = (k n : ℕ) (a a' : ActorState) (answers : List Answered) → n ≡ from + k
+      → slice_get olds k ≡ Some a
+      → slice_get mids k ≡ Some a' → slice_get parts k ≡ Some answers
+      → PartRan base now lines before fresh n a a' answers
 
-  ran_rest : (from : ℕ) (a a' : ActorState) (part : List Answered) (olds mids : List ActorState) (parts : List (List Answered))
+  ran_rest : (from : ℕ) (a a' : ActorState) (part : List Answered) (olds mids : List ActorState)
+      (parts : List (List Answered))
       → Each_ran from (a ∷ olds) (a' ∷ mids) (part ∷ parts) → Each_ran (suc from) olds mids parts
-  ran_rest from a a' part olds mids parts ran = λ k n x x' answers is old mid there. ran (suc k) n x x' answers (omega (arith, is)) old mid there
+  ran_rest from a a' part olds mids parts ran = λ k n x x' answers is old mid there.
+      ran (suc k) n x x' answers (omega (arith, is)) old mid there
 
   -- none of these has lines: nothing is done
   pub record AreIdle (from : ℕ) (olds mids : List ActorState) (parts : List (List Answered)) : Type 0 where
@@ -67,13 +74,15 @@ module _ (base : Rows) (now : Moment) (lines : List Line) (before fresh : List I
     pub alone : (b : SoleBoard) → actors_alone from now lines olds b ≡ sole_actors mids b parts
     pub items : (k : ℕ) → k < length olds → by_number (from + k) fresh ≡ []
 
-  idle_before : (from : ℕ) (a a' : ActorState) (part : List Answered) (olds mids : List ActorState) (parts : List (List Answered)) → turns_in from lines ≡ []
+  idle_before : (from : ℕ) (a a' : ActorState) (part : List Answered) (olds mids : List ActorState)
+      (parts : List (List Answered)) → turns_in from lines ≡ []
       → IsIdle from a a' part → AreIdle (suc from) olds mids parts → AreIdle from (a ∷ olds) (a' ∷ mids) (part ∷ parts)
   idle_before from a a' part olds mids parts none idle rest = record {
     same = λ i. idle.same i ∷ rest.same i;
     alone = λ b.
         let first : actor_alone from now lines a b ≡ sole_actor a' b part =
-        ap (λ (ts : List Turn). turns_alone from now ts (sole_actor a b [])) none ∙ (λ i. sole_actor (sym idle.same i) b (sym idle.none i)) in
+        ap (λ (ts : List Turn). turns_alone from now ts (sole_actor a b [])) none ∙
+        (λ i. sole_actor (sym idle.same i) b (sym idle.none i)) in
         ap (λ (x : SoleActor). in_front x (actors_alone (suc from) now lines olds x.board)) first
         ∙ ap (λ (x : SoleActors). in_front (sole_actor a' b part) x) (rest.alone b);
     items = items_at;
@@ -81,11 +90,19 @@ module _ (base : Rows) (now : Moment) (lines : List Line) (before fresh : List I
     where
       items_at : (k : ℕ) → k < length (a ∷ olds) → by_number (from + k) fresh ≡ []
       items_at zero lt = let same : from + 0 ≡ from = omega arith in ap (λ (n : ℕ). by_number n fresh) same ∙ idle.items
-      items_at (suc k) lt = let same : from + suc k ≡ suc from + k = omega arith in ap (λ (n : ℕ). by_number n fresh) same ∙ rest.items k (omega arith)
+      items_at (suc k) lt = let same : from + suc k ≡ suc from + k = omega arith in
+          ap (λ (n : ℕ). by_number n fresh) same ∙ rest.items k (omega arith)
 
-  pub all_idle : (from : ℕ) (olds mids : List ActorState) (parts : List (List Answered)) → length mids ≡ length olds → length parts ≡ length olds
-      → Each_ran from olds mids parts → ((n : ℕ) → from ≤ n → n < from + length olds → turns_in n lines ≡ []) → AreIdle from olds mids parts
-  all_idle from [] [] [] m p ran none = record { same = refl; alone = λ b. refl; items = λ k lt. absurd (omega (arith, lt)) }
+  pub all_idle : (from : ℕ) (olds mids : List ActorState) (parts : List (List Answered)) → length mids ≡ length olds
+      → length parts ≡ length olds
+      → Each_ran from olds mids parts → ((n : ℕ) → from ≤ n → n < from + length olds → turns_in n lines ≡ [])
+      → AreIdle from olds mids parts
+  all_idle from [] [] [] m p ran none = record {
+    same = refl;
+    alone = λ b. refl;
+    items = λ k lt.
+        absurd (omega (arith, lt));
+  }
   all_idle from [] [] (part ∷ parts) m p ran none = absurd (omega (arith, p))
   all_idle from [] (a' ∷ mids) parts m p ran none = absurd (omega (arith, m))
   all_idle from (a ∷ olds) [] parts m p ran none = absurd (omega (arith, m))
@@ -94,13 +111,16 @@ module _ (base : Rows) (now : Moment) (lines : List Line) (before fresh : List I
       let here = none from (omega arith) (omega arith) in
       idle_before from a a' part olds mids parts here
       (idle_part from a a' part here (ran 0 from a a' part (omega arith) refl refl refl))
-      (all_idle (suc from) olds mids parts (omega (arith, m)) (omega (arith, p)) (ran_rest from a a' part olds mids parts ran) (λ n le lt. none n (omega (arith, le)) (omega (arith, lt))))
+      (all_idle (suc from) olds mids parts (omega (arith, m)) (omega (arith, p))
+      (ran_rest from a a' part olds mids parts ran) (λ n le lt. none n (omega (arith, le)) (omega (arith, lt))))
 
   -- one of these has lines, and did them alone
   pub one_busy : (by : ℕ) → AreLinesOf by lines → NoOthers by fresh → doubts_in (before ++ fresh) ≡ 0
-      → (from : ℕ) (olds mids : List ActorState) (parts : List (List Answered)) → length mids ≡ length olds → length parts ≡ length olds
+      → (from : ℕ) (olds mids : List ActorState) (parts : List (List Answered)) → length mids ≡ length olds
+      → length parts ≡ length olds
       → Each_ran from olds mids parts → from ≤ by → by < from + length olds
-      → actors_alone from now lines olds (sole_board base before) ≡ sole_actors mids (sole_board base (before ++ fresh)) parts
+      → actors_alone from now lines olds (sole_board base before)
+      ≡ sole_actors mids (sole_board base (before ++ fresh)) parts
   one_busy by are none calm from [] mids parts m p ran low high = absurd (omega (arith, low, high))
   one_busy by are none calm from (a ∷ olds) [] parts m p ran low high = absurd (omega (arith, m))
   one_busy by are none calm from (a ∷ olds) (a' ∷ mids) [] m p ran low high = absurd (omega (arith, p))
@@ -110,19 +130,27 @@ module _ (base : Rows) (now : Moment) (lines : List Line) (before fresh : List I
       ⊎_elim
       (λ (same : from ≡ by).
       let all = subst (λ (n : ℕ). by_number n fresh ≡ fresh) (sym same) (all_by by fresh none) in
-      let sees = sees_all base before fresh from one.first one.last one.sees (later_turns from now (turns_in from lines) a a' one.first one.last part one.taken) all in
-      let turn = turns_are_alone from now (turns_in from lines) a a' one.first one.last part one.taken (undisturbed base before fresh one.first one.last sees calm) one.fed in
-      let first : actor_alone from now lines a (sole_board base before) ≡ sole_actor a' (sole_board base (before ++ fresh)) part =
-      ap (λ (b : SoleBoard). actor_alone from now lines a b) (sym sees.first) ∙ turn ∙ ap (λ (b : SoleBoard). sole_actor a' b part) sees.last in
-      let rest = all_idle (suc from) olds mids parts (omega (arith, m)) (omega (arith, p)) rest_ran (λ n le lt. no_turns by n lines are (λ e. absurd (omega (arith, le, same, e)))) in
+      let sees = sees_all base before fresh from one.first one.last one.sees
+      (later_turns from now (turns_in from lines) a a' one.first one.last part one.taken) all in
+      let turn = turns_are_alone from now (turns_in from lines) a a' one.first one.last part one.taken
+      (undisturbed base before fresh one.first one.last sees calm) one.fed in
+      let first : actor_alone from now lines a (sole_board base before)
+      ≡ sole_actor a' (sole_board base (before ++ fresh)) part =
+      ap (λ (b : SoleBoard). actor_alone from now lines a b) (sym sees.first) ∙ turn ∙ ap
+      (λ (b : SoleBoard). sole_actor a' b part) sees.last in
+      let rest = all_idle (suc from) olds mids parts (omega (arith, m)) (omega (arith, p)) rest_ran
+      (λ n le lt. no_turns by n lines are (λ e. absurd (omega (arith, le, same, e)))) in
       ap (λ (x : SoleActor). in_front x (actors_alone (suc from) now lines olds x.board)) first
-      ∙ ap (λ (x : SoleActors). in_front (sole_actor a' (sole_board base (before ++ fresh)) part) x) (rest.alone (sole_board base (before ++ fresh))))
+      ∙ ap (λ (x : SoleActors). in_front (sole_actor a' (sole_board base (before ++ fresh)) part) x)
+      (rest.alone (sole_board base (before ++ fresh))))
       (λ (other : from ≢ by).
       let here = no_turns by from lines are (λ e. other (sym e)) in
       let idle = idle_part from a a' part here one in
       let first : actor_alone from now lines a (sole_board base before) ≡ sole_actor a' (sole_board base before) part =
-      ap (λ (ts : List Turn). turns_alone from now ts (sole_actor a (sole_board base before) [])) here ∙ (λ i. sole_actor (sym idle.same i) (sole_board base before) (sym idle.none i)) in
+      ap (λ (ts : List Turn). turns_alone from now ts (sole_actor a (sole_board base before) [])) here ∙
+      (λ i. sole_actor (sym idle.same i) (sole_board base before) (sym idle.none i)) in
       ap (λ (x : SoleActor). in_front x (actors_alone (suc from) now lines olds x.board)) first
       ∙ ap (λ (x : SoleActors). in_front (sole_actor a' (sole_board base before) part) x)
-      (one_busy by are none calm (suc from) olds mids parts (omega (arith, m)) (omega (arith, p)) rest_ran (omega (arith, low, other)) (omega (arith, high))))
+      (one_busy by are none calm (suc from) olds mids parts (omega (arith, m)) (omega (arith, p)) rest_ran
+      (omega (arith, low, other)) (omega (arith, high))))
       (cases_eq from by)

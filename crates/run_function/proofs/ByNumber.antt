@@ -28,7 +28,8 @@ all_by by (i ∷ is) none =
     (λ (same : by_of i ≡ by).
     let rest : NoOthers by is = λ n ne. sym (none_of n i is (λ e. ne (sym e ∙ same))) ∙ none n ne in
     one_of by i is same ∙ ap (λ (xs : List Item). i ∷ xs) (all_by by is rest))
-    (λ (other : by_of i ≢ by). absurd (not_empty i (by_number (by_of i) is) (sym (one_of (by_of i) i is refl) ∙ none (by_of i) other)))
+    (λ (other : by_of i ≢ by). absurd (not_empty i (by_number (by_of i) is)
+    (sym (one_of (by_of i) i is refl) ∙ none (by_of i) other)))
     (cases_eq (by_of i) by)
 
 -- where those of that caller are none either, there is none
@@ -46,7 +47,8 @@ inside_at [] k x e = absurd cc
 inside_at (y ∷ ys) zero x e = let same : y ≡ x = cc in subst (Contains (y ∷ ys)) same (inside_first y ys)
 inside_at (y ∷ ys) (suc k) x e = inside_rest x y ys (inside_at ys k x e)
 
-pub place_of : {X : Type 0} (xs : List X) (x : X) → Contains xs x → (k : ℕ) × (k < length xs) × (slice_get xs k ≡ Some x)
+pub place_of : {X : Type 0} (xs : List X) (x : X) → Contains xs x
+    → (k : ℕ) × (k < length xs) × (slice_get xs k ≡ Some x)
 place_of [] x inside = absurd (omega (arith, inside.1))
 place_of (y ∷ ys) x (zero, lt, at) = (0, omega arith, ap (λ z. Some z) at)
 place_of (y ∷ ys) x (suc k, lt, at) = let r = place_of ys x (k, omega arith, at) in (suc r.0, omega (arith, r.1), r.2)

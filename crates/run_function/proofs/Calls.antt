@@ -26,13 +26,15 @@ doubts_both (Done by c ∷ xs) ys = doubts_both xs ys
 doubts_both (Doubt by c ∷ xs) ys = omega (arith, doubts_both xs ys)
 
 -- a call that adds no doubt had no fault of the disk
-no_fault : (end : Result Reply CallFault) (by : ℕ) (c : Command) → doubts_in (added end by c) ≡ 0 → is_disk_fault end ≡ false
+no_fault : (end : Result Reply CallFault) (by : ℕ) (c : Command) → doubts_in (added end by c) ≡ 0
+    → is_disk_fault end ≡ false
 no_fault (Ok r) by c none = refl
 no_fault (Err (fault.Disk place)) by c none = absurd (omega (arith, none))
 no_fault (Err fault.OutOfMemory) by c none = refl
 
 -- it ends with the reply of its verdict
-reply_due : (x : Verdict) (place stamp : ℕ) (end : Result Reply CallFault) → Ends x place stamp end → is_disk_fault end ≡ false → is_starved end ≡ false
+reply_due : (x : Verdict) (place stamp : ℕ) (end : Result Reply CallFault) → Ends x place stamp end
+    → is_disk_fault end ≡ false → is_starved end ≡ false
     → end ≡ Ok (reply_by x place stamp)
 reply_due verdict.Ok place stamp end ends stores fed = ⊎_elim
     (λ is. is)
@@ -45,26 +47,37 @@ reply_due verdict.Same place stamp end ends stores fed = ends
 reply_due (verdict.Refused why) place stamp end ends stores fed = ends
 
 -- where nobody else called, and neither the disk nor memory failed
-pub call_due : (by : ℕ) (v : PortView) (c : Command) (end : Result Reply CallFault) (w : PortView) → IsCalled by v c end w
+pub call_due : (by : ℕ) (v : PortView) (c : Command) (end : Result Reply CallFault) (w : PortView)
+    → IsCalled by v c end w
     → IsQuiet v w → is_disk_fault end ≡ false → is_starved end ≡ false → IsCallAlone by v c end w
 call_due by v c end w h quiet stores fed =
-    let seen : v.seen ++ h.others ≡ v.seen = ap (λ (xs : List Item). v.seen ++ xs) (quiet_called by v c end w h quiet) ∙ append-nil v.seen in
-    let ends = subst (λ (xs : List Item). Ends (verdict_of (replay_log v.base xs) c) (length xs) (replay_log v.base xs).next end) seen h.ends in
+    let seen : v.seen ++ h.others ≡ v.seen = ap (λ (xs : List Item). v.seen ++ xs)
+    (quiet_called by v c end w h quiet) ∙ append-nil v.seen in
+    let ends = subst (λ (xs : List Item). Ends (verdict_of (replay_log v.base xs) c) (length xs)
+    (replay_log v.base xs).next end) seen h.ends in
     let items : w.seen ≡ v.seen ++ added end by c =
     ap (λ (x : PortView). x.seen) h.is ∙ ap (λ (xs : List Item). xs ++ added end by c) seen in
-    let is = reply_due (verdict_of (replay_log v.base v.seen) c) (length v.seen) (replay_log v.base v.seen).next end ends stores fed in
+    let is = reply_due (verdict_of (replay_log v.base v.seen) c) (length v.seen)
+    (replay_log v.base v.seen).next end ends stores fed in
     let base : w.base ≡ v.base = ap (λ (x : PortView). x.base) h.is in
     let log : w.seen ≡ v.seen ++ added (Ok (reply_alone (board_seen v) c)) by c =
     items ∙ ap (λ (e : Result Reply CallFault). v.seen ++ added e by c) is in
     record { reply = is; board = λ i. record { base = base i; log = log i } }
 
 -- nothing that is seen in the end is in doubt, so the disk didn't fail
-pub call_stored : (by : ℕ) (v : PortView) (c : Command) (end : Result Reply CallFault) (w : PortView) → IsCalled by v c end w
+pub call_stored : (by : ℕ) (v : PortView) (c : Command) (end : Result Reply CallFault) (w : PortView)
+    → IsCalled by v c end w
     → doubts_in w.seen ≡ 0 → is_disk_fault end ≡ false
 call_stored by v c end w h calm =
     no_fault end by c
-    (omega (arith, doubts_both (v.seen ++ h.others) (added end by c), ap (λ (x : PortView). doubts_in x.seen) h.is, calm))
+    (omega (
+      arith,
+      doubts_both (v.seen ++ h.others) (added end by c),
+      ap (λ (x : PortView). doubts_in x.seen) h.is,
+      calm,
+    ))
 
-pub call_alone : (by : ℕ) (v : PortView) (c : Command) (end : Result Reply CallFault) (w : PortView) → IsCalled by v c end w
+pub call_alone : (by : ℕ) (v : PortView) (c : Command) (end : Result Reply CallFault) (w : PortView)
+    → IsCalled by v c end w
     → StaysCalm v w → is_starved end ≡ false → IsCallAlone by v c end w
 call_alone by v c end w h alone fed = call_due by v c end w h alone.quiet (call_stored by v c end w h alone.calm) fed

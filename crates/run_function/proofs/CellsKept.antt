@@ -98,7 +98,8 @@ begun_cell act.Die rep = refl
 -- what stands in a list in which one was put in the place of another
 from_set : (xs : List CellRep) (at : ℕ) (y x : CellRep) → Contains (set xs at y) x → (y ≡ x) ⊎ Contains xs x
 from_set [] at y x inside = absurd (omega (arith, inside.1))
-from_set (z ∷ zs) zero y x inside = ⊎_elim (λ is. inl is) (λ rest. inr (inside_rest x z zs rest)) (first_or_rest x y zs inside)
+from_set (z ∷ zs) zero y x inside = ⊎_elim (λ is. inl is) (λ rest. inr (inside_rest x z zs rest))
+    (first_or_rest x y zs inside)
 from_set (z ∷ zs) (suc k) y x inside =
     ⊎_elim
     (λ is. inr (subst (Contains (z ∷ zs)) is (inside_first z zs)))
@@ -106,8 +107,10 @@ from_set (z ∷ zs) (suc k) y x inside =
     (first_or_rest x z (set zs k y) inside)
 
 -- a rep that keeps its name and has a store may take its place again
-pub are_set : (reps : List CellRep) (cell : List ℕ) (at : ℕ) (rep q : CellRep) → AreReps reps → StandsFor reps cell at rep → q.cell ≡ rep.cell → HasStore q.joined → AreReps (set reps at q)
+pub are_set : (reps : List CellRep) (cell : List ℕ) (at : ℕ) (rep q : CellRep) → AreReps reps
+    → StandsFor reps cell at rep → q.cell ≡ rep.cell → HasStore q.joined → AreReps (set reps at q)
 are_set reps cell at rep q are h same store = record {
   apart = subst StandApart (sym (names_set reps at rep q h.within h.is same)) are.apart;
-  stores = λ r inside. ⊎_elim (λ (is : q ≡ r). subst (λ (x : CellRep). HasStore x.joined) is store) (λ rest. are.stores r rest) (from_set reps at q r inside);
+  stores = λ r inside. ⊎_elim (λ (is : q ≡ r). subst (λ (x : CellRep). HasStore x.joined) is store)
+      (λ rest. are.stores r rest) (from_set reps at q r inside);
 }

@@ -20,7 +20,8 @@ use Rattle.phase_actors.specs.Runs.{is_starved_end}
 use Rattle.run_function.proofs.Calls.{call_due, call_stored}
 
 -- a call over a wire has the end that is due, and leaves the board that is due
-pub record IsSentAlone (d : Delivery) (by : ℕ) (v : PortView) (c : Command) (end : CallEnd) (w : PortView) : Type 0 where
+pub record IsSentAlone (d : Delivery) (by : ℕ) (v : PortView) (c : Command) (end : CallEnd)
+    (w : PortView) : Type 0 where
   pub end_is : end ≡ end_under d (reply_alone (board_seen v) c)
   pub board : board_seen w ≡ delivered_alone d by c (board_seen v)
 
@@ -37,16 +38,19 @@ module _ (by : ℕ) (v : PortView) (c : Command) (w : PortView) (quiet : IsQuiet
       subst (λ (x : Delivery). IsSentAlone x by v c (Got r) w) (sym is)
       (record { end_is = ap Got (same_reply r (reply_alone (board_seen v) c) one.reply); board = one.board })
 
-  reply_lost : (d : Delivery) (r : Reply) → d ≡ wire.ReplyLost → IsCalled by v c (Ok r) w → IsSentAlone d by v c (ReplyLost (Ok r)) w
+  reply_lost : (d : Delivery) (r : Reply) → d ≡ wire.ReplyLost → IsCalled by v c (Ok r) w
+      → IsSentAlone d by v c (ReplyLost (Ok r)) w
   reply_lost d r is h =
       let one = call_due by v c (Ok r) w h quiet refl refl in
       subst (λ (x : Delivery). IsSentAlone x by v c (ReplyLost (Ok r)) w) (sym is)
       (record { end_is = ap ReplyLost one.reply; board = one.board })
 
   call_lost : (d : Delivery) → d ≡ wire.CallLost → w ≡ v → IsSentAlone d by v c CallLost w
-  call_lost d is h = subst (λ (x : Delivery). IsSentAlone x by v c CallLost w) (sym is) (record { end_is = refl; board = ap board_seen h })
+  call_lost d is h = subst (λ (x : Delivery). IsSentAlone x by v c CallLost w) (sym is)
+      (record { end_is = refl; board = ap board_seen h })
 
-  pub sent_due : (d : Delivery) (end : CallEnd) → EndFits (Some d) end → IsDelivered by v c end w → HasNoFault end → IsSentAlone d by v c end w
+  pub sent_due : (d : Delivery) (end : CallEnd) → EndFits (Some d) end → IsDelivered by v c end w → HasNoFault end
+      → IsSentAlone d by v c end w
   sent_due d (Got r) fits h none = through d r fits h
   sent_due d (Fault why) fits h none = absurd none
   sent_due d CallLost fits h none = call_lost d fits h
@@ -60,21 +64,25 @@ not_faulty : (why : CallFault) → is_disk_fault (Err why) ≡ false → is_star
 not_faulty (fault.Disk place) stores fed = let bad : true ≡ false = stores in absurd cc
 not_faulty fault.OutOfMemory stores fed = let bad : true ≡ false = fed in absurd cc
 
-pub sent_stored : (by : ℕ) (v : PortView) (c : Command) (end : CallEnd) (w : PortView) → IsDelivered by v c end w → doubts_in w.seen ≡ 0
+pub sent_stored : (by : ℕ) (v : PortView) (c : Command) (end : CallEnd) (w : PortView) → IsDelivered by v c end w
+    → doubts_in w.seen ≡ 0
     → is_starved_end end ≡ false → HasNoFault end
 sent_stored by v c (Got r) w h calm fed = tt
 sent_stored by v c (Fault why) w h calm fed = absurd (not_faulty why (call_stored by v c (Err why) w h calm) fed)
 sent_stored by v c CallLost w h calm fed = tt
 sent_stored by v c (ReplyLost (Ok r)) w h calm fed = tt
-sent_stored by v c (ReplyLost (Err why)) w h calm fed = absurd (not_faulty why (call_stored by v c (Err why) w h calm) fed)
+sent_stored by v c (ReplyLost (Err why)) w h calm fed =
+    absurd (not_faulty why (call_stored by v c (Err why) w h calm) fed)
 sent_stored by v c (Local why) w h calm fed = absurd h
 sent_stored by v c Idle w h calm fed = absurd h
 
 pub sent_alone : (by : ℕ) (v : PortView) (c : Command) (w : PortView) → StaysCalm v w → (d : Delivery) (end : CallEnd)
     → EndFits (Some d) end → IsDelivered by v c end w → is_starved_end end ≡ false → IsSentAlone d by v c end w
-sent_alone by v c w alone d end fits h fed = sent_due by v c w alone.quiet d end fits h (sent_stored by v c end w h alone.calm fed)
+sent_alone by v c w alone d end fits h fed = sent_due by v c w alone.quiet d end fits h
+    (sent_stored by v c end w h alone.calm fed)
 
-pub later_delivered : (by : ℕ) (v : PortView) (c : Command) (end : CallEnd) (w : PortView) → IsDelivered by v c end w → IsLater v w
+pub later_delivered : (by : ℕ) (v : PortView) (c : Command) (end : CallEnd) (w : PortView) → IsDelivered by v c end w
+    → IsLater v w
 later_delivered by v c (Got r) w h = later_called by v c (Ok r) w h
 later_delivered by v c (Fault why) w h = later_called by v c (Err why) w h
 later_delivered by v c CallLost w h = subst (IsLater v) (sym h) (later_same v)

@@ -37,27 +37,38 @@ leads_looks v w h = record {
   later = later_looks v w h;
   holds = λ q.
       ap board_seen h.is
-      ∙ ap (λ (xs : List Item). record { base = v.base; log = xs }) (ap (λ (xs : List Item). v.seen ++ xs) (quiet_looks v w h q) ∙ append-nil v.seen);
+      ∙ ap (λ (xs : List Item). record { base = v.base; log = xs })
+      (ap (λ (xs : List Item). v.seen ++ xs) (quiet_looks v w h q) ∙ append-nil v.seen);
 }
 
 -- what was seen of the board and counted of the calls
 abbrev pub calls_in : Calling → SoleCalls
 calls_in s = sole_calls (board_seen s.view) s.tally
 
-one_noted : (by : ℕ) (c : Command) (s s' : Calling) (h : IsNoted by c s s') → IsQuiet s.view s'.view → calls_in s' ≡ notes_alone by (c ∷ []) (calls_in s)
+one_noted : (by : ℕ) (c : Command) (s s' : Calling) (h : IsNoted by c s s') → IsQuiet s.view s'.view
+    → calls_in s' ≡ notes_alone by (c ∷ []) (calls_in s)
 one_noted by c s s' h q =
     let one = call_due by s.view c (Ok h.reply) s'.view h.called q refl refl in
-    let reply : h.reply ≡ reply_alone (board_seen s.view) c = same_reply h.reply (reply_alone (board_seen s.view) c) one.reply in
-    let tally : s'.tally ≡ noted c (reply_alone (board_seen s.view) c) s.tally = h.tally_is ∙ ap (λ (r : Reply). noted c r s.tally) reply in
+    let reply : h.reply ≡ reply_alone (board_seen s.view) c =
+    same_reply h.reply (reply_alone (board_seen s.view) c) one.reply in
+    let tally : s'.tally ≡ noted c (reply_alone (board_seen s.view) c) s.tally =
+    h.tally_is ∙ ap (λ (r : Reply). noted c r s.tally) reply in
     λ i. sole_calls (one.board i) (tally i)
 
-leads_noted : (by : ℕ) (c : Command) (s s' : Calling) → IsNoted by c s s' → Leads s.view s'.view (calls_in s' ≡ notes_alone by (c ∷ []) (calls_in s))
-leads_noted by c s s' h = record { later = later_called by s.view c (Ok h.reply) s'.view h.called; holds = one_noted by c s s' h }
+leads_noted : (by : ℕ) (c : Command) (s s' : Calling) → IsNoted by c s s'
+    → Leads s.view s'.view (calls_in s' ≡ notes_alone by (c ∷ []) (calls_in s))
+leads_noted by c s s' h = record {
+  later = later_called by s.view c (Ok h.reply) s'.view h.called;
+  holds =
+      one_noted by c s s' h;
+}
 
 -- commands that are called one after another
-pub leads_calls : (by : ℕ) (cs : List Command) (s s' : Calling) → Each (IsNoted by) cs s s' → Leads s.view s'.view (calls_in s' ≡ notes_alone by cs (calls_in s))
+pub leads_calls : (by : ℕ) (cs : List Command) (s s' : Calling) → Each (IsNoted by) cs s s'
+    → Leads s.view s'.view (calls_in s' ≡ notes_alone by cs (calls_in s))
 leads_calls by [] s s' f =
-    subst (λ (x : Calling). Leads s.view x.view (calls_in x ≡ calls_in s)) (sym f) (leads_same s.view (calls_in s ≡ calls_in s) refl)
+    subst (λ (x : Calling). Leads s.view x.view (calls_in x ≡ calls_in s)) (sym f)
+    (leads_same s.view (calls_in s ≡ calls_in s) refl)
 leads_calls by (c ∷ cs) s s' f =
     let One : Type 0 = calls_in f.0 ≡ notes_alone by (c ∷ []) (calls_in s) in
     let Rest : Type 0 = calls_in s' ≡ notes_alone by cs (calls_in f.0) in

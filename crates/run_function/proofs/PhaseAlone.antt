@@ -42,21 +42,26 @@ doubted (Done n d ∷ xs) by c (suc k, lt, at) calm = doubted xs by c (k, omega 
 doubted (Doubt n d ∷ xs) by c (suc k, lt, at) calm = omega (arith, calm)
 
 -- the round of a phase in which nobody else did anything
-round_at : (base : Rows) (before fresh : List Item) (now : Moment) (line : RoundLine) (mids news : List ActorState) (parts : List (List Answered)) (o : Option Report)
-    → HasRound base before fresh now line mids news o → by_number 0 fresh ≡ fresh → doubts_in (before ++ fresh) ≡ 0 → AreReps (reps_of mids)
-    → phase_round (Some line) now (sole_actors mids (sole_board base before) parts) ≡ sole_phase news (sole_board base (before ++ fresh)) parts o
+round_at : (base : Rows) (before fresh : List Item) (now : Moment) (line : RoundLine) (mids news : List ActorState)
+    (parts : List (List Answered)) (o : Option Report)
+    → HasRound base before fresh now line mids news o → by_number 0 fresh ≡ fresh → doubts_in (before ++ fresh) ≡ 0
+    → AreReps (reps_of mids)
+    → phase_round (Some line) now (sole_actors mids (sole_board base before) parts)
+    ≡ sole_phase news (sole_board base (before ++ fresh)) parts o
 round_at base before fresh now line mids news parts None h all calm are =
     absurd (doubted fresh 0 h.told.0 h.told.1 (omega (arith, doubts_both before fresh, calm)))
 round_at base before fresh now line mids news parts (Some r) h all calm are =
     let later = later_round now line (reps_of mids) h.reps h.first h.last r h.told are in
     let sees = sees_all base before fresh 0 h.first h.last h.sees later all in
-    let one = ap (round_alone line 0 now (reps_of mids)) (sym sees.first) ∙ round_is_alone now line (reps_of mids) h.reps h.first h.last r h.told sees.quiet are in
+    let one = ap (round_alone line 0 now (reps_of mids)) (sym sees.first) ∙ round_is_alone now line
+    (reps_of mids) h.reps h.first h.last r h.told sees.quiet are in
     let news_are = sym h.news_are in
     let board = sees.last in
     ap (λ (x : SoleRound). behind_round (sole_actors mids (sole_board base before) parts) x) one
     ∙ (λ i. sole_phase (news_are i) (board i) parts (Some r))
 
-module _ {D : Type 0} (told : D → Option Past) (phase : Phase) (olds news : List ActorState) (parts : List (List Answered)) (report : Option Report)
+module _ {D : Type 0} (told : D → Option Past) (phase : Phase) (olds news : List ActorState)
+    (parts : List (List Answered)) (report : Option Report)
     (v w : View D) (h : PhaseRan told phase olds news parts report v w) (calm : doubts_in w.log ≡ 0) where
   abbrev fresh : List Item
   fresh = h.fresh
@@ -79,7 +84,8 @@ module _ {D : Type 0} (told : D → Option Past) (phase : Phase) (olds news : Li
   ran_from : Each_ran v.base phase.at phase.lines v.log fresh 1 olds h.mids parts
   ran_from = λ k n a a' answers is old mid there.
       let same : suc k ≡ n = omega (arith, is) in
-      subst (λ (m : ℕ). PartRan v.base phase.at phase.lines v.log fresh m a a' answers) same (h.ran k a a' answers old mid there)
+      subst (λ (m : ℕ). PartRan v.base phase.at phase.lines v.log fresh m a a' answers) same
+      (h.ran k a a' answers old mid there)
 
   -- the items of an actor that has no lines
   no_items : (k : ℕ) → turns_in (suc k) phase.lines ≡ [] → by_number (suc k) fresh ≡ []
@@ -88,7 +94,8 @@ module _ {D : Type 0} (told : D → Option Past) (phase : Phase) (olds news : Li
       let old = at_there olds k lt in
       let mid = at_there h.mids k (omega (arith, lt, many_mids)) in
       let part = at_there parts k (omega (arith, lt, h.count_is)) in
-      (idle_part v.base phase.at phase.lines v.log fresh (suc k) old.0 mid.0 part.0 none (h.ran k old.0 mid.0 part.0 old.1 mid.1 part.1)).items)
+      (idle_part v.base phase.at phase.lines v.log fresh (suc k) old.0 mid.0 part.0 none
+      (h.ran k old.0 mid.0 part.0 old.1 mid.1 part.1)).items)
       (λ (ge : length olds ≤ k). h.others (suc k) (omega (arith, ge)))
       (cases_lt k (length olds))
 
@@ -100,34 +107,44 @@ module _ {D : Type 0} (told : D → Option Past) (phase : Phase) (olds news : Li
   abbrev NoRound : Type 0
   NoRound = (by_number 0 fresh ≡ []) × ((news ≡ h.mids) × (report ≡ None))
 
-  idle_but : (by : ℕ) → AreLinesOf by phase.lines → ((n : ℕ) → 1 ≤ n → n < 1 + length olds → by ≢ n) → AreIdle v.base phase.at phase.lines v.log fresh 1 olds h.mids parts
-  idle_but by are out = all_idle v.base phase.at phase.lines v.log fresh 1 olds h.mids parts many_mids h.count_is ran_from
+  idle_but : (by : ℕ) → AreLinesOf by phase.lines → ((n : ℕ) → 1 ≤ n → n < 1 + length olds → by ≢ n)
+      → AreIdle v.base phase.at phase.lines v.log fresh 1 olds h.mids parts
+  idle_but by are out = all_idle v.base phase.at phase.lines v.log fresh 1 olds h.mids parts many_mids h.count_is
+      ran_from
       (λ n low high. no_turns by n phase.lines are (out n low high))
 
   -- nobody did anything
-  nothing_done : (by : ℕ) → AreLinesOf by phase.lines → NoRound → by_number by fresh ≡ [] → ((n : ℕ) → 1 ≤ n → n < 1 + length olds → by ≢ n)
+  nothing_done : (by : ℕ) → AreLinesOf by phase.lines → NoRound → by_number by fresh ≡ []
+      → ((n : ℕ) → 1 ≤ n → n < 1 + length olds → by ≢ n)
       → actors_alone 1 phase.at phase.lines olds b ≡ sole_actors h.mids b' parts
   nothing_done by are none own out =
       let empty = none_at_all by fresh (others_none by are (λ ne. none.0)) own in
-      let same : b ≡ b' = ap (λ (xs : List Item). sole_board v.base xs) (sym (append-nil v.log)) ∙ ap (λ (xs : List Item). sole_board v.base (v.log ++ xs)) (sym empty) in
+      let same : b ≡ b' = ap (λ (xs : List Item). sole_board v.base xs) (sym (append-nil v.log)) ∙ ap
+      (λ (xs : List Item). sole_board v.base (v.log ++ xs)) (sym empty) in
       (idle_but by are out).alone b ∙ ap (λ (x : SoleBoard). sole_actors h.mids x parts) same
 
   -- one actor did its lines, or there is none with that number
-  actors_are : (by : ℕ) → AreLinesOf by phase.lines → NoRound → actors_alone 1 phase.at phase.lines olds b ≡ sole_actors h.mids b' parts
+  actors_are : (by : ℕ) → AreLinesOf by phase.lines → NoRound
+      → actors_alone 1 phase.at phase.lines olds b ≡ sole_actors h.mids b' parts
   actors_are by are none = ⊎_elim
       (λ (low : 0 < by). ⊎_elim
-      (λ (high : length olds < by). nothing_done by are none (h.others by high) (λ n l k e. absurd (omega (arith, high, k, e))))
-      (λ (high : by ≤ length olds). one_busy v.base phase.at phase.lines v.log fresh by are (others_none by are (λ ne. none.0)) calm_all 1 olds h.mids parts
+      (λ (high : length olds < by). nothing_done by are none (h.others by high)
+      (λ n l k e. absurd (omega (arith, high, k, e))))
+      (λ (high : by ≤ length olds). one_busy v.base phase.at phase.lines v.log fresh by are
+      (others_none by are (λ ne. none.0)) calm_all 1 olds h.mids parts
       many_mids h.count_is ran_from (omega (arith, low)) (omega (arith, high)))
       (cases_lt (length olds) by))
       (λ (low : by ≤ 0).
       let zero : 0 ≡ by = omega (arith, low) in
-      nothing_done by are none (subst (λ (n : ℕ). by_number n fresh ≡ []) zero none.0) (λ n l k e. absurd (omega (arith, low, l, e))))
+      nothing_done by are none (subst (λ (n : ℕ). by_number n fresh ≡ []) zero none.0)
+      (λ n l k e. absurd (omega (arith, low, l, e))))
       (cases_lt 0 by)
 
-  without_round : (by : ℕ) → AreLinesOf by phase.lines → phase.round ≡ None → phase_alone phase olds (board_at v) ≡ sole_phase news (board_at w) parts report
+  without_round : (by : ℕ) → AreLinesOf by phase.lines → phase.round ≡ None
+      → phase_alone phase olds (board_at v) ≡ sole_phase news (board_at w) parts report
   without_round by are is =
-      let none : NoRound = subst (λ (o : Option RoundLine). RoundRan o v.base v.log fresh phase.at h.mids news report) is h.round in
+      let none : NoRound = subst (λ (o : Option RoundLine). RoundRan o v.base v.log fresh phase.at h.mids news report)
+      is h.round in
       let news_are = sym none.1.0 in
       let report_is = sym none.1.1 in
       ap (λ (o : Option RoundLine). phase_round o phase.at (actors_alone 1 phase.at phase.lines olds b)) is
@@ -135,7 +152,8 @@ module _ {D : Type 0} (told : D → Option Past) (phase : Phase) (olds news : Li
       ∙ (λ i. sole_phase (news_are i) (after_is i) parts (report_is i))
 
   nobodys : phase.lines ≡ [] → AreLinesOf 0 phase.lines
-  nobodys empty = λ l inside. let there = subst (λ (ls : List Line). Contains ls l) empty inside in absurd (omega (arith, there.1))
+  nobodys empty = λ l inside. let there = subst (λ (ls : List Line). Contains ls l) empty inside in
+      absurd (omega (arith, there.1))
 
   round_only : phase.lines ≡ [] → (line : RoundLine) → phase.round ≡ Some line → AreReps (reps_of olds)
       → phase_alone phase olds (board_at v) ≡ sole_phase news (board_at w) parts report
@@ -151,14 +169,20 @@ module _ {D : Type 0} (told : D → Option Past) (phase : Phase) (olds news : Li
       ∙ round_at v.base v.log fresh phase.at line h.mids news parts report round all calm_all are_mids
       ∙ ap (λ (x : SoleBoard). sole_phase news x parts report) after_is
 
-  by_round : phase.lines ≡ [] → AreReps (reps_of olds) → (o : Option RoundLine) → phase.round ≡ o → phase_alone phase olds (board_at v) ≡ sole_phase news (board_at w) parts report
+  by_round : phase.lines ≡ [] → AreReps (reps_of olds) → (o : Option RoundLine) → phase.round ≡ o
+      → phase_alone phase olds (board_at v) ≡ sole_phase news (board_at w) parts report
   by_round empty are None is = without_round 0 (nobodys empty) is
   by_round empty are (Some line) is = round_only empty line is are
 
-  pub serial_phase : IsSerial phase → AreReps (reps_of olds) → phase_alone phase olds (board_at v) ≡ sole_phase news (board_at w) parts report
-  serial_phase serial are = ⊎_elim (λ one. without_round one.1 one.2 one.0) (λ empty. by_round empty are phase.round refl) serial
+  pub serial_phase : IsSerial phase → AreReps (reps_of olds)
+      → phase_alone phase olds (board_at v) ≡ sole_phase news (board_at w) parts report
+  serial_phase serial are = ⊎_elim (λ one. without_round one.1 one.2 one.0)
+      (λ empty. by_round empty are phase.round refl) serial
 
-pub phase_is_alone : {D : Type 0} (told : D → Option Past) (phase : Phase) (olds news : List ActorState) (parts : List (List Answered)) (report : Option Report)
-    (v w : View D) → IsSerial phase → PhaseRan told phase olds news parts report v w → doubts_in w.log ≡ 0 → AreReps (reps_of olds)
+pub phase_is_alone : {D : Type 0} (told : D → Option Past) (phase : Phase) (olds news : List ActorState)
+    (parts : List (List Answered)) (report : Option Report)
+    (v w : View D) → IsSerial phase → PhaseRan told phase olds news parts report v w → doubts_in w.log ≡ 0
+    → AreReps (reps_of olds)
     → phase_alone phase olds (board_at v) ≡ sole_phase news (board_at w) parts report
-phase_is_alone told phase olds news parts report v w serial h calm are = serial_phase told phase olds news parts report v w h calm serial are
+phase_is_alone told phase olds news parts report v w serial h calm are =
+    serial_phase told phase olds news parts report v w h calm serial are

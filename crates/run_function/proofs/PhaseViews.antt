@@ -23,7 +23,8 @@ no_length : {X : Type 0} (xs : List X) → length xs ≡ 0 → xs ≡ []
 no_length [] e = refl
 no_length (x ∷ xs) e = absurd (omega (arith, e))
 
-pub sees_all : (base : Rows) (before fresh : List Item) (by : ℕ) (v w : PortView) → SeesPhase base before fresh by v w → IsLater v w
+pub sees_all : (base : Rows) (before fresh : List Item) (by : ℕ) (v w : PortView) → SeesPhase base before fresh by v w
+    → IsLater v w
     → by_number by fresh ≡ fresh → SeesAll base before fresh v w
 sees_all base before fresh by v w sees later all =
     let x1 : List Item = sees.from.0 in
@@ -38,7 +39,8 @@ sees_all base before fresh by v w sees later all =
     let none1 : x1 ≡ [] = no_length x1 (omega (arith, n1, n2, n3, n4, later.counts)) in
     let none3 : x3 ≡ [] = no_length x3 (omega (arith, n1, n2, n3, n4, later.counts)) in
     let seen_v : v.seen ≡ before = sees.from.1 ∙ ap (λ (xs : List Item). before ++ xs) none1 ∙ append-nil before in
-    let seen_w : w.seen ≡ before ++ fresh = sym (sees.upto.1 ∙ ap (λ (xs : List Item). w.seen ++ xs) none3 ∙ append-nil w.seen) in
+    let seen_w : w.seen ≡ before ++ fresh = sym (sees.upto.1 ∙ ap
+    (λ (xs : List Item). w.seen ++ xs) none3 ∙ append-nil w.seen) in
     let base_w : w.base ≡ base = later.base ∙ sees.base_is in
     record {
       first = λ i. sole_board (sees.base_is i) (seen_v i);
@@ -46,6 +48,7 @@ sees_all base before fresh by v w sees later all =
       quiet = omega (arith, n1, n2, n3, n4, later.counts);
     }
 
-pub undisturbed : (base : Rows) (before fresh : List Item) (v w : PortView) → SeesAll base before fresh v w → doubts_in (before ++ fresh) ≡ 0 → StaysCalm v w
+pub undisturbed : (base : Rows) (before fresh : List Item) (v w : PortView) → SeesAll base before fresh v w
+    → doubts_in (before ++ fresh) ≡ 0 → StaysCalm v w
 undisturbed base before fresh v w sees calm =
     record { quiet = sees.quiet; calm = ap (λ (b : SoleBoard). doubts_in b.log) sees.last ∙ calm }

@@ -25,21 +25,26 @@ neither_second true b e = let bad : true ≡ false = e in absurd cc
 neither_second false b e = e
 
 -- of none in both lists, none in the first, and none in the second
-any_both : {X : Type 0} (test : X → Bool) (xs ys : List X) → list_any test (xs ++ ys) ≡ (list_any test xs || list_any test ys)
+any_both : {X : Type 0} (test : X → Bool) (xs ys : List X)
+    → list_any test (xs ++ ys) ≡ (list_any test xs || list_any test ys)
 any_both test [] ys = refl
-any_both test (x ∷ xs) ys = ap (λ (b : Bool). test x || b) (any_both test xs ys) ∙ sym (or_assoc (test x) (list_any test xs) (list_any test ys))
+any_both test (x ∷ xs) ys = ap (λ (b : Bool). test x || b) (any_both test xs ys) ∙ sym
+    (or_assoc (test x) (list_any test xs) (list_any test ys))
   where
     or_assoc : (a b c : Bool) → ((a || b) || c) ≡ (a || (b || c))
     or_assoc true b c = refl
     or_assoc false b c = refl
 
-pub none_first : {X : Type 0} (test : X → Bool) (xs ys : List X) → list_any test (xs ++ ys) ≡ false → list_any test xs ≡ false
+pub none_first : {X : Type 0} (test : X → Bool) (xs ys : List X) → list_any test (xs ++ ys) ≡ false
+    → list_any test xs ≡ false
 none_first test xs ys e = neither_first (list_any test xs) (list_any test ys) (sym (any_both test xs ys) ∙ e)
 
-pub none_second : {X : Type 0} (test : X → Bool) (xs ys : List X) → list_any test (xs ++ ys) ≡ false → list_any test ys ≡ false
+pub none_second : {X : Type 0} (test : X → Bool) (xs ys : List X) → list_any test (xs ++ ys) ≡ false
+    → list_any test ys ≡ false
 none_second test xs ys e = neither_second (list_any test xs) (list_any test ys) (sym (any_both test xs ys) ∙ e)
 
 -- of none in a list that is made from another, none in that one
-pub none_mapped : {X Y : Type 0} (f : X → Y) (test : Y → Bool) (xs : List X) → list_any test (map f xs) ≡ list_any (λ x. test (f x)) xs
+pub none_mapped : {X Y : Type 0} (f : X → Y) (test : Y → Bool) (xs : List X)
+    → list_any test (map f xs) ≡ list_any (λ x. test (f x)) xs
 none_mapped f test [] = refl
 none_mapped f test (x ∷ xs) = ap (λ (b : Bool). test (f x) || b) (none_mapped f test xs)

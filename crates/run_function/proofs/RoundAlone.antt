@@ -32,7 +32,8 @@ use Rattle.run_function.proofs.ServesAlone.{AreServedAlone, cells_in, served_all
 use Rattle.run_function.proofs.Steady.{IsOf}
 use Rattle.run_function.proofs.StopsAlone.{AreStopsAlone, stopped_all}
 
-module _ (line : RoundLine) (by : ℕ) (now : Moment) (s s' : Standing) (r : Report) (h : IsRound by now line.line s s' r) (are : AreReps s.reps) (of : IsOf line s.wire) where
+module _ (line : RoundLine) (by : ℕ) (now : Moment) (s s' : Standing) (r : Report) (h : IsRound by now line.line s s' r)
+    (are : AreReps s.reps) (of : IsOf line s.wire) where
   abbrev b : SoleBoard
   b = board_seen s.view
 
@@ -61,10 +62,13 @@ module _ (line : RoundLine) (by : ℕ) (now : Moment) (s s' : Standing) (r : Rep
   R = roomy_alone rows h.opened.reps got
 
   heard : (got ≡ got_alone line s.reps (rows_seen h.opens.first) now) × IsOf line h.opens.wire
-  heard = asked_all line s.reps are (present (rows_seen h.opens.first) now) (questions s.wire []) (questions h.opens.wire got) h.opens.heard.got of
+  heard = asked_all line s.reps are (present (rows_seen h.opens.first) now) (questions s.wire [])
+      (questions h.opens.wire got) h.opens.heard.got of
 
-  stops : AreStopsAlone line (strays (rows_seen h.opens.third) got) (so_far (stops_at h.opens.wire s.reps) []) (so_far (stops_at h.opened.wire h.opened.reps) h.opens.stops.stopped)
-  stops = stopped_all line (strays (rows_seen h.opens.third) got) (so_far (stops_at h.opens.wire s.reps) []) (so_far (stops_at h.opened.wire h.opened.reps) h.opens.stops.stopped)
+  stops : AreStopsAlone line (strays (rows_seen h.opens.third) got) (so_far (stops_at h.opens.wire s.reps) [])
+      (so_far (stops_at h.opened.wire h.opened.reps) h.opens.stops.stopped)
+  stops = stopped_all line (strays (rows_seen h.opens.third) got) (so_far (stops_at h.opens.wire s.reps) [])
+      (so_far (stops_at h.opened.wire h.opened.reps) h.opens.stops.stopped)
       are h.opens.stopped.each heard.1
 
   roomy_is : p.roomy ≡ R
@@ -95,7 +99,8 @@ module _ (line : RoundLine) (by : ℕ) (now : Moment) (s s' : Standing) (r : Rep
   E4 = board_seen v2 ≡ board_seen h.opens.worked.view
 
   abbrev E5 : Type 0
-  E5 = calls_in h.opens.planned ≡ notes_alone by (plan_of_answers (rows_seen v2) got now) (sole_calls (board_seen v2) h.opens.worked.tally)
+  E5 = calls_in h.opens.planned ≡ notes_alone by (plan_of_answers (rows_seen v2) got now)
+      (sole_calls (board_seen v2) h.opens.worked.tally)
 
   abbrev E6 : Type 0
   E6 = board_seen h.opens.third ≡ board_seen h.opens.planned.view
@@ -128,7 +133,8 @@ module _ (line : RoundLine) (by : ℕ) (now : Moment) (s s' : Standing) (r : Rep
   l4 = leads_looks h.opens.worked.view v2 h.opens.plan_called.looks
 
   l5 : Leads v2 h.opens.planned.view E5
-  l5 = leads_calls by (plan_of_answers (rows_seen v2) got now) (calling v2 h.opens.worked.tally) h.opens.planned h.opens.plan_called.calls
+  l5 = leads_calls by (plan_of_answers (rows_seen v2) got now)
+      (calling v2 h.opens.worked.tally) h.opens.planned h.opens.plan_called.calls
 
   l6 : Leads h.opens.planned.view h.opens.third E6
   l6 = leads_looks h.opens.planned.view h.opens.third h.opens.looks_third
@@ -171,11 +177,13 @@ module _ (line : RoundLine) (by : ℕ) (now : Moment) (s s' : Standing) (r : Rep
 
   m7 : Leads h.opens.third s'.view A7
   m7 = leads_then h.opens.third f s'.view E7 A8 l7
-      (leads_then f h.served.view s'.view E8 A9 served.leads (leads_then h.served.view h.noted.view s'.view E9 E10 l9 l10))
+      (leads_then f h.served.view s'.view E8 A9 served.leads
+      (leads_then h.served.view h.noted.view s'.view E9 E10 l9 l10))
 
   m4 : Leads h.opens.worked.view s'.view A4
   m4 = leads_then h.opens.worked.view v2 s'.view E4 A5 l4
-      (leads_then v2 h.opens.planned.view s'.view E5 A6 l5 (leads_then h.opens.planned.view h.opens.third s'.view E6 A7 l6 m7))
+      (leads_then v2 h.opens.planned.view s'.view E5 A6 l5
+      (leads_then h.opens.planned.view h.opens.third s'.view E6 A7 l6 m7))
 
   m1 : Leads h.first s'.view A1
   m1 = leads_then h.first h.opens.first s'.view E1 A2 l1
@@ -193,9 +201,11 @@ module _ (line : RoundLine) (by : ℕ) (now : Moment) (s s' : Standing) (r : Rep
 
   planned_is : E0 → E1 → E2 → E3 → E4 → E5 → calls_in h.opens.planned ≡ planned_alone by now got b
   planned_is e0 e1 e2 e3 e4 e5 =
-      let worked = e3 ∙ ap (λ (x : SoleBoard). notes_alone by (work (rows_on x) now) (sole_calls x no_calls)) (e2 ∙ first_is e0 e1) in
+      let worked = e3 ∙ ap (λ (x : SoleBoard). notes_alone by (work (rows_on x) now) (sole_calls x no_calls))
+      (e2 ∙ first_is e0 e1) in
       e5
-      ∙ ap (λ (x : SoleBoard). notes_alone by (plan_of_answers (rows_on x) got now) (sole_calls x h.opens.worked.tally)) e4
+      ∙ ap (λ (x : SoleBoard). notes_alone by (plan_of_answers (rows_on x) got now) (sole_calls x h.opens.worked.tally))
+      e4
       ∙ ap (λ (x : SoleCalls). notes_alone by (plan_of_answers (rows_on x.board) got now) x) worked
 
   opened_is : E0 → E1 → E2 → E3 → E4 → E5 → E6 → E7 → C ≡ planned_alone by now got b
@@ -204,8 +214,10 @@ module _ (line : RoundLine) (by : ℕ) (now : Moment) (s s' : Standing) (r : Rep
       let tally : h.opened.tally ≡ h.opens.planned.tally = h.opens.tally_is in
       (λ i. sole_calls (board i) (tally i)) ∙ planned_is e0 e1 e2 e3 e4 e5
 
-  stopped_is : C ≡ planned_alone by now got b → E7 → sole_stops h.opened.reps h.opens.stops.stopped ≡ stopped_alone line got s.reps (planned_alone by now got b).board
-  stopped_is opened e7 = stops.same ∙ ap (λ (x : SoleBoard). stopped_alone line got s.reps x) (sym e7 ∙ ap (λ (x : SoleCalls). x.board) opened)
+  stopped_is : C ≡ planned_alone by now got b → E7 → sole_stops h.opened.reps h.opens.stops.stopped
+      ≡ stopped_alone line got s.reps (planned_alone by now got b).board
+  stopped_is opened e7 = stops.same ∙ ap (λ (x : SoleBoard). stopped_alone line got s.reps x)
+      (sym e7 ∙ ap (λ (x : SoleCalls). x.board) opened)
 
   rows_are : p.rows ≡ rows
   rows_are = h.opens.placed.rows_are
@@ -216,12 +228,15 @@ module _ (line : RoundLine) (by : ℕ) (now : Moment) (s s' : Standing) (r : Rep
   served_is : E8 → cells_in h.served ≡ served_cells
   served_is e8 = e8 ∙ (λ i. serves_alone line by now (rows_are i) (places_are i) (roomy_is i) (cells_in h.opened))
 
-  last_is : E8 → E9 → sole_cells (calls_in h.noted) h.served.reps ≡ placed_alone line by now rows R (sole_cells C h.opened.reps)
+  last_is : E8 → E9 → sole_cells (calls_in h.noted) h.served.reps
+      ≡ placed_alone line by now rows R (sole_cells C h.opened.reps)
   last_is e8 e9 =
-      let noted : calls_in h.noted ≡ notes_alone by (fails_of rows now (unplaced (placements rows R))) (cells_in h.served).calls =
+      let noted : calls_in h.noted ≡ notes_alone by (fails_of rows now (unplaced (placements rows R)))
+      (cells_in h.served).calls =
       e9 ∙ (λ i. notes_alone by (fails_of (rows_are i) now (unplaced (places_are i))) (cells_in h.served).calls) in
       (λ i. sole_cells (noted i) h.served.reps)
-      ∙ ap (λ (x : SoleCells). sole_cells (notes_alone by (fails_of rows now (unplaced (placements rows R))) x.calls) x.reps) (served_is e8)
+      ∙ ap (λ (x : SoleCells). sole_cells (notes_alone by (fails_of rows now (unplaced (placements rows R))) x.calls)
+      x.reps) (served_is e8)
 
   abbrev asked : ℕ
   asked = length (present (rows_on b) now)
@@ -230,25 +245,31 @@ module _ (line : RoundLine) (by : ℕ) (now : Moment) (s s' : Standing) (r : Rep
   lost = lost_alone asked got (board_seen f) (sole_stops h.opened.reps h.opens.stops.stopped)
 
   asked_is : E0 → E1 → h.opening_is.asked ≡ asked
-  asked_is e0 e1 = h.opens.asked_is ∙ h.opens.heard.asked ∙ ap (λ (x : SoleBoard). length (present (rows_on x) now)) (first_is e0 e1)
+  asked_is e0 e1 = h.opens.asked_is ∙ h.opens.heard.asked ∙ ap (λ (x : SoleBoard). length (present (rows_on x) now))
+      (first_is e0 e1)
 
   lost_is : E0 → E1 → E7 → h.opening_is.lost ≡ lost
   lost_is e0 e1 e7 =
-      let n : h.opens.hearing.asked ≡ asked = h.opens.heard.asked ∙ ap (λ (x : SoleBoard). length (present (rows_on x) now)) (first_is e0 e1) in
+      let n : h.opens.hearing.asked ≡ asked = h.opens.heard.asked ∙ ap
+      (λ (x : SoleBoard). length (present (rows_on x) now)) (first_is e0 e1) in
       let m : h.opens.stops.lost ≡ length (strays rows got) - length h.opens.stops.stopped =
-      h.opens.stopped.lost ∙ ap (λ (x : SoleBoard). length (strays (rows_on x) got) - length h.opens.stops.stopped) (sym e7) in
+      h.opens.stopped.lost ∙ ap (λ (x : SoleBoard). length (strays (rows_on x) got) - length h.opens.stops.stopped)
+      (sym e7) in
       h.opens.lost_is ∙ (λ i. min ((n i - length got) + m i) (2 ^ 64 - 1))
 
-  report_is : E0 → E1 → E7 → E10 → r ≡ report_alone line.line (length b.log) asked lost h.opens.stops.stopped (placements rows R) (sole_cells (calls_in h.noted) h.served.reps)
+  report_is : E0 → E1 → E7 → E10 → r ≡ report_alone line.line (length b.log) asked lost h.opens.stops.stopped
+      (placements rows R) (sole_cells (calls_in h.noted) h.served.reps)
   report_is e0 e1 e7 e10 =
       let q = h.reports in
       let start : length h.first.seen ≡ length b.log = ap (λ (x : SoleBoard). length x.log) e0 in
       let end : r.end ≡ length h.noted.view.seen = q.end_is ∙ ap (λ (x : SoleBoard). length x.log) e10 in
       let r_start : r.start ≡ length b.log = q.start_is ∙ start in
       let r_asked : r.asked ≡ asked = q.asked ∙ asked_is e0 e1 in
-      let r_lost : r.lost ≡ min (lost + h.noted.tally.lost) (2 ^ 64 - 1) = q.lost ∙ ap (λ (n : ℕ). min (n + h.noted.tally.lost) (2 ^ 64 - 1)) (lost_is e0 e1 e7) in
+      let r_lost : r.lost ≡ min (lost + h.noted.tally.lost) (2 ^ 64 - 1) =
+      q.lost ∙ ap (λ (n : ℕ). min (n + h.noted.tally.lost) (2 ^ 64 - 1)) (lost_is e0 e1 e7) in
       let r_unplaced : r.unplaced ≡ unplaced (placements rows R) = q.without_room ∙ ap unplaced places_are in
-      let r_foreign : r.foreign ≡ (length h.noted.view.seen - length b.log) - h.noted.tally.own = q.foreign ∙ (λ i. (end i - start i) - h.noted.tally.own) in
+      let r_foreign : r.foreign ≡ (length h.noted.view.seen - length b.log) - h.noted.tally.own =
+      q.foreign ∙ (λ i. (end i - start i) - h.noted.tally.own) in
       let r_stopped : r.stopped ≡ h.opens.stops.stopped = q.stopped ∙ h.opens.stopped_is in
       let r_stores : r.stores ≡ filter_map answer_of h.served.reps = q.stores ∙ ap (filter_map answer_of) h.reps_are in
       λ i. record {
@@ -266,15 +287,18 @@ module _ (line : RoundLine) (by : ℕ) (now : Moment) (s s' : Standing) (r : Rep
       }
 
   auctioned_is : E0 → E1 → E7 → E8 → E9 → E10
-      → auctioned_alone line by now (length b.log) asked got C (sole_stops h.opened.reps h.opens.stops.stopped) ≡ sole_round r (board_seen s'.view) s'.reps
+      → auctioned_alone line by now (length b.log) asked got C (sole_stops h.opened.reps h.opens.stops.stopped)
+      ≡ sole_round r (board_seen s'.view) s'.reps
   auctioned_is e0 e1 e7 e8 e9 e10 =
       let report = sym (report_is e0 e1 e7 e10) in
       let board = sym e10 in
       let reps = sym h.reps_are in
-      ap (λ (x : SoleCells). sole_round (report_alone line.line (length b.log) asked lost h.opens.stops.stopped (placements rows R) x) x.calls.board x.reps) (sym (last_is e8 e9))
+      ap (λ (x : SoleCells). sole_round (report_alone line.line (length b.log) asked lost h.opens.stops.stopped
+      (placements rows R) x) x.calls.board x.reps) (sym (last_is e8 e9))
       ∙ (λ i. sole_round (report i) (board i) (reps i))
 
-  all_is : E0 → E1 → E2 → E3 → E4 → E5 → E6 → E7 → E8 → E9 → E10 → round_alone line by now s.reps b ≡ sole_round r (board_seen s'.view) s'.reps
+  all_is : E0 → E1 → E2 → E3 → E4 → E5 → E6 → E7 → E8 → E9 → E10
+      → round_alone line by now s.reps b ≡ sole_round r (board_seen s'.view) s'.reps
   all_is e0 e1 e2 e3 e4 e5 e6 e7 e8 e9 e10 =
       let opened = opened_is e0 e1 e2 e3 e4 e5 e6 e7 in
       let planned = sym opened in
@@ -296,17 +320,23 @@ module _ (line : RoundLine) (by : ℕ) (now : Moment) (s s' : Standing) (r : Rep
       let a8 = a7.1 in
       all_is a.0 a1.0 a2.0 a3.0 a4.0 a5.0 a6.0 a7.0 a8.0 a8.1.0 a8.1.1
 
-pub round_is_alone : (now : Moment) (line : RoundLine) (reps reps' : List CellRep) (v w : PortView) (r : Report) → RoundOf now line reps reps' v w r
+pub round_is_alone : (now : Moment) (line : RoundLine) (reps reps' : List CellRep) (v w : PortView) (r : Report)
+    → RoundOf now line reps reps' v w r
     → IsQuiet v w → AreReps reps → round_alone line 0 now reps (board_seen v) ≡ sole_round r (board_seen w) reps'
 round_is_alone now line reps reps' v w r h quiet are =
-    round_is line 0 now (standing v reps (wire_at (Some (round_ends line)) 0)) (standing w reps' (wire_at h.ends h.losses)) r h.round are refl quiet
+    round_is line 0 now (standing v reps (wire_at (Some (round_ends line)) 0))
+    (standing w reps' (wire_at h.ends h.losses)) r h.round are refl quiet
 
-pub reps_are_after : (now : Moment) (line : RoundLine) (reps reps' : List CellRep) (v w : PortView) (r : Report) → RoundOf now line reps reps' v w r
+pub reps_are_after : (now : Moment) (line : RoundLine) (reps reps' : List CellRep) (v w : PortView) (r : Report)
+    → RoundOf now line reps reps' v w r
     → AreReps reps → AreReps reps'
 reps_are_after now line reps reps' v w r h are =
-    reps_after line 0 now (standing v reps (wire_at (Some (round_ends line)) 0)) (standing w reps' (wire_at h.ends h.losses)) r h.round are refl
+    reps_after line 0 now (standing v reps (wire_at (Some (round_ends line)) 0))
+    (standing w reps' (wire_at h.ends h.losses)) r h.round are refl
 
-pub later_round : (now : Moment) (line : RoundLine) (reps reps' : List CellRep) (v w : PortView) (r : Report) → RoundOf now line reps reps' v w r
+pub later_round : (now : Moment) (line : RoundLine) (reps reps' : List CellRep) (v w : PortView) (r : Report)
+    → RoundOf now line reps reps' v w r
     → AreReps reps → IsLater v w
 later_round now line reps reps' v w r h are =
-    (whole line 0 now (standing v reps (wire_at (Some (round_ends line)) 0)) (standing w reps' (wire_at h.ends h.losses)) r h.round are refl).later
+    (whole line 0 now (standing v reps (wire_at (Some (round_ends line)) 0))
+    (standing w reps' (wire_at h.ends h.losses)) r h.round are refl).later

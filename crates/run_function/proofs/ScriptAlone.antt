@@ -47,29 +47,52 @@ inside_front p (x ∷ xs) ys inside = ⊎_elim
 module _ {D : Type 0} (told : D → Option Past) (wording : Wording) (script : Script) where
   -- a course as that of a run that is alone
   abbrev pub course_alone : RunCourse D → SoleCourse
-  course_alone s = record { actors = s.actors; board = board_at s.board; answers = s.answers; reports = s.reports; text = s.text }
+  course_alone s = record {
+    actors = s.actors;
+    board = board_at s.board;
+    answers = s.answers;
+    reports =
+        s.reports;
+    text = s.text;
+  }
 
-  pub goes_all : (ps : List Phase) (s s' : RunCourse D) → Each (PlaysPhase told wording script) ps s s' → (fresh : List Item) × BoardGoesOn told fresh s.board s'.board
-  goes_all [] s s' f = ([], subst (λ (x : RunCourse D). BoardGoesOn told [] s.board x.board) (sym f) (goes_nowhere told s.board))
+  pub goes_all : (ps : List Phase) (s s' : RunCourse D) → Each (PlaysPhase told wording script) ps s s'
+      → (fresh : List Item) × BoardGoesOn told fresh s.board s'.board
+  goes_all [] s s' f = (
+    [],
+    subst (λ (x : RunCourse D). BoardGoesOn told [] s.board x.board) (sym f)
+        (goes_nowhere told s.board),
+  )
   goes_all (p ∷ ps) s s' f =
       let rest = goes_all ps f.0 s' f.2 in
       (f.1.ran.fresh ++ rest.0, goes_further told s.board f.0.board s'.board f.1.ran.fresh rest.0 f.1.ran.goes rest.1)
 
-  calm_before : (fresh : List Item) (m w : View D) → BoardGoesOn told fresh m w → doubts_in w.log ≡ 0 → doubts_in m.log ≡ 0
+  calm_before : (fresh : List Item) (m w : View D) → BoardGoesOn told fresh m w → doubts_in w.log ≡ 0
+      → doubts_in m.log ≡ 0
   calm_before fresh m w goes calm = omega (arith, doubts_both m.log fresh, ap doubts_in goes.grows, calm)
 
-  one_phase : (p : Phase) (s m : RunCourse D) → PlaysPhase told wording script p s m → IsSerial p → doubts_in m.board.log ≡ 0 → AreReps (reps_of s.actors)
+  one_phase : (p : Phase) (s m : RunCourse D) → PlaysPhase told wording script p s m → IsSerial p
+      → doubts_in m.board.log ≡ 0 → AreReps (reps_of s.actors)
       → course_alone m ≡ behind_phase wording script p (course_alone s) (phase_alone p s.actors (board_at s.board))
   one_phase p s m h serial calm are =
       let one = phase_is_alone told p s.actors m.actors h.parts h.report s.board m.board serial h.ran calm are in
       let answers = h.answers in
       let reports = h.reports in
       let text = h.text in
-      (λ i. record { actors = m.actors; board = board_at m.board; answers = answers i; reports = reports i; text = text i })
+      (λ i. record {
+        actors = m.actors;
+        board = board_at m.board;
+        answers = answers i;
+        reports = reports i;
+        text =
+            text i;
+      })
       ∙ ap (λ (x : SolePhase). behind_phase wording script p (course_alone s) x) (sym one)
 
-  pub phases_all : (ps : List Phase) (s s' : RunCourse D) → Each (PlaysPhase told wording script) ps s s' → ((p : Phase) → Contains ps p → IsSerial p)
-      → doubts_in s'.board.log ≡ 0 → AreReps (reps_of s.actors) → course_alone s' ≡ phases_alone wording script ps (course_alone s)
+  pub phases_all : (ps : List Phase) (s s' : RunCourse D) → Each (PlaysPhase told wording script) ps s s'
+      → ((p : Phase) → Contains ps p → IsSerial p)
+      → doubts_in s'.board.log ≡ 0 → AreReps (reps_of s.actors)
+      → course_alone s' ≡ phases_alone wording script ps (course_alone s)
   phases_all [] s s' f serial calm are = ap course_alone f
   phases_all (p ∷ ps) s s' f serial calm are =
       let goes = goes_all ps f.0 s' f.2 in
@@ -83,8 +106,10 @@ module _ {D : Type 0} (told : D → Option Past) (wording : Wording) (script : S
   abbrev all_words : SoleCourse → ℕ → List ℕ
   all_words c n = c.text ++ line_text (summary_data (summary_alone c.board n))
 
-  module _ (answers : List Answered) (reports : List Report) (v w : View D) (held held' : Option (List ℕ)) (faults faults' : ℕ)
-      (is : IsScript script) (serial : IsSerialScript script) (h : PlaysWhole told wording script ending.Done answers reports v w held held' faults faults') where
+  module _ (answers : List Answered) (reports : List Report) (v w : View D) (held held' : Option (List ℕ))
+      (faults faults' : ℕ)
+      (is : IsScript script) (serial : IsSerialScript script)
+      (h : PlaysWhole told wording script ending.Done answers reports v w held held' faults faults') where
     all_ran : script.phases ≡ h.ran
     all_ran = h.ends.first.split ∙ ap (λ (ps : List Phase). h.ran ++ ps) h.over.0 ∙ append-nil h.ran
 
@@ -122,19 +147,28 @@ module _ {D : Type 0} (told : D → Option Past) (wording : Wording) (script : S
           prints = subst (λ (words : List ℕ). PrintsTo true words held held' faults faults') words_are h.prints;
           board = board_is;
           grows = g.grows;
-          writes = λ waits. g.writes waits (omega (arith, doubts_both v.log (items_alone wording script (board_at v)), ap doubts_in g.grows, h.over.1));
+          writes = λ waits. g.writes waits (omega (
+            arith,
+            doubts_both v.log (items_alone wording script (board_at v)),
+            ap doubts_in g.grows,
+            h.over.1,
+          ));
         }
 
   -- memory ran out behind some phases
-  pub cut_alone : (answers : List Answered) (reports : List Report) (v w : View D) (held held' : Option (List ℕ)) (faults faults' : ℕ)
-      → IsScript script → IsSerialScript script → PlaysCut told wording script answers reports v w held held' faults faults' → doubts_in w.log ≡ 0
+  pub cut_alone : (answers : List Answered) (reports : List Report) (v w : View D) (held held' : Option (List ℕ))
+      (faults faults' : ℕ)
+      → IsScript script → IsSerialScript script → PlaysCut told wording script answers reports v w held held' faults
+      faults' → doubts_in w.log ≡ 0
       → IsCutAlone wording script answers reports v held held' faults faults'
   cut_alone answers reports v w held held' faults faults' is serial h calm =
       let calm_last : doubts_in h.last.board.log ≡ 0 =
-      ⊎_elim (λ (same : w ≡ h.last.board). sym (ap (λ (x : View D). doubts_in x.log) same) ∙ calm) (λ cut. cut.calm) h.board in
+      ⊎_elim (λ (same : w ≡ h.last.board). sym (ap (λ (x : View D). doubts_in x.log) same) ∙ calm)
+      (λ cut. cut.calm) h.board in
       let last_is : course_alone h.last ≡ first_alone wording script h.ran (board_at v) =
       phases_all h.ran (beginning script v) h.last h.first.each
-      (λ p inside. serial p (subst (λ (ps : List Phase). Contains ps p) (sym h.first.split) (inside_front p h.ran h.rest inside)))
+      (λ p inside. serial p (subst (λ (ps : List Phase). Contains ps p) (sym h.first.split)
+      (inside_front p h.ran h.rest inside)))
       calm_last (script_reps script is) in
       record {
         ran = h.ran;
@@ -142,25 +176,33 @@ module _ {D : Type 0} (told : D → Option Past) (wording : Wording) (script : S
         split = h.first.split;
         answers_are = h.answers_are ∙ ap (λ (c : SoleCourse). c.answers) last_is;
         reports_are = h.reports_are ∙ ap (λ (c : SoleCourse). c.reports) last_is;
-        prints = subst (λ (words : List ℕ). PrintsTo true words held held' faults faults') (ap (λ (c : SoleCourse). c.text) last_is) h.prints;
+        prints = subst (λ (words : List ℕ). PrintsTo true words held held' faults faults')
+            (ap (λ (c : SoleCourse). c.text) last_is) h.prints;
       }
 
-pub whole_is_alone : {D : Type 0} (told : D → Option Past) (wording : Wording) (script : Script) (answers : List Answered) (reports : List Report) (v w : View D)
+pub whole_is_alone : {D : Type 0} (told : D → Option Past) (wording : Wording) (script : Script)
+    (answers : List Answered) (reports : List Report) (v w : View D)
     (held held' : Option (List ℕ)) (faults faults' : ℕ) → IsScript script → IsSerialScript script
-    → PlaysWhole told wording script ending.Done answers reports v w held held' faults faults' → IsRunAlone told wording script answers reports v w held held' faults faults'
-whole_is_alone told wording script answers reports v w held held' faults faults' is serial h = whole_run told wording script answers reports v w held held' faults faults' is serial h
+    → PlaysWhole told wording script ending.Done answers reports v w held held' faults faults'
+    → IsRunAlone told wording script answers reports v w held held' faults faults'
+whole_is_alone told wording script answers reports v w held held' faults faults' is serial h =
+    whole_run told wording script answers reports v w held held' faults faults' is serial h
 
 -- the sink failed
-unwritten : {D : Type 0} (told : D → Option Past) (wording : Wording) (script : Script) (answers : List Answered) (reports : List Report) (v w : View D)
+unwritten : {D : Type 0} (told : D → Option Past) (wording : Wording) (script : Script) (answers : List Answered)
+    (reports : List Report) (v w : View D)
     (held held' : Option (List ℕ)) (faults faults' : ℕ)
-    → PlaysPart told wording script answers reports v w held held' faults faults' ⊎ PlaysUnsummed told wording script answers reports v w held held' faults faults'
+    → PlaysPart told wording script answers reports v w held held' faults faults'
+    ⊎ PlaysUnsummed told wording script answers reports v w held held' faults faults'
     → Rose faults faults'
 unwritten told wording script answers reports v w held held' faults faults' h =
     ⊎_elim (λ p. p.prints.part.cause.rose refl) (λ u. u.prints.part.cause.rose refl) h
 
-pub ends_alone : {D : Type 0} (told : D → Option Past) (wording : Wording) (script : Script) (how : Ending) (answers : List Answered) (reports : List Report) (v w : View D)
+pub ends_alone : {D : Type 0} (told : D → Option Past) (wording : Wording) (script : Script) (how : Ending)
+    (answers : List Answered) (reports : List Report) (v w : View D)
     (held held' : Option (List ℕ)) (faults faults' : ℕ) → IsScript script → IsSerialScript script
-    → Plays told wording script how answers reports v w held held' faults faults' → doubts_in w.log ≡ 0 → (Rose faults faults' → ⊥)
+    → Plays told wording script how answers reports v w held held' faults faults' → doubts_in w.log ≡ 0
+    → (Rose faults faults' → ⊥)
     → EndsAlone told wording script how answers reports v w held held' faults faults'
 ends_alone told wording script ending.Done answers reports v w held held' faults faults' is serial h calm stood =
     inl (refl, whole_is_alone told wording script answers reports v w held held' faults faults' is serial h)

@@ -65,10 +65,12 @@ module _ (line : RoundLine) (by : ℕ) (now : Moment) (job : Job) (s s' : Servin
     still : s'.wire.ends ≡ Some ends
 
   one_of : (new : List Called) (a : Called) (wire : WireAt) → a ∷ [] ≡ new → IsOf line wire
-      → Follows by s.rep.cell wire.ends (t ∷ []) began s.view new s'.rep s'.view → s'.wire.ends ≡ moved_by t wire.ends → IsOneDone a
+      → Follows by s.rep.cell wire.ends (t ∷ []) began s.view new s'.rep s'.view → s'.wire.ends ≡ moved_by t wire.ends
+      → IsOneDone a
   one_of new a wire out of follows moved =
       let f = subst (λ (e : Option WireEnds). Follows by s.rep.cell e (t ∷ []) began s.view (a ∷ []) s'.rep s'.view) of
-      (subst (λ (xs : List Called). Follows by s.rep.cell wire.ends (t ∷ []) began s.view xs s'.rep s'.view) (sym out) follows) in
+      (subst (λ (xs : List Called). Follows by s.rep.cell wire.ends (t ∷ []) began s.view xs s'.rep s'.view)
+      (sym out) follows) in
       record {
         m = f.0;
         answer = f.1;
@@ -84,7 +86,8 @@ module _ (line : RoundLine) (by : ℕ) (now : Moment) (job : Job) (s s' : Servin
   one_from : (wire : WireAt) (h : IsStartTaken by now job wire s s') → IsOf line wire → IsOneDone h.answer
   one_from wire h of = ⊎_elim
       (λ p. one_of p.new h.answer wire p.out_is of p.follows p.ends_are)
-      (λ e. absurd (subst (λ (x : Called). HasNoFault x.end) (first_same h.answer starved (ap (λ (x : Stage). x.out) e)) h.ended))
+      (λ e. absurd (subst (λ (x : Called). HasNoFault x.end)
+      (first_same h.answer starved (ap (λ (x : Stage). x.out) e)) h.ended))
       h.started
 
   taken_holds : (wire : WireAt) (h : IsStartTaken by now job wire s s') → IsOneDone h.answer → IsQuiet s.view s'.view
@@ -94,19 +97,23 @@ module _ (line : RoundLine) (by : ℕ) (now : Moment) (job : Job) (s s' : Servin
       let one = one_due by s.rep.cell ends t s.view h.answer d.m d.answer d.ended quiet h.ended in
       let e : CallEnd = end_alone t (next_end ends s.rep.cell) (board_seen s.view) in
       let rep : s'.rep ≡ after_todo t e began = d.rep_is ∙ ap (λ (x : CallEnd). after_todo t x began) one.end_is in
-      let board : board_seen s'.view ≡ done_alone t (next_end ends s.rep.cell) by (board_seen s.view) = ap board_seen d.view_is ∙ one.board in
+      let board : board_seen s'.view ≡ done_alone t (next_end ends s.rep.cell) by (board_seen s.view) =
+      ap board_seen d.view_is ∙ one.board in
       let tally : s'.tally ≡ counted (answer_to t e).command (answer_to t e).end s.tally =
       h.counts ∙ ap (λ (x : Called). counted x.command x.end s.tally) one.answer in
       λ i. sole_starts (rep i) (board i) (tally i)
 
-  taken_leads : (wire : WireAt) (h : IsStartTaken by now job wire s s') → IsOneDone h.answer → Leads s.view s'.view (starts_in s' ≡ taken_by line by job t (starts_in s))
+  taken_leads : (wire : WireAt) (h : IsStartTaken by now job wire s s') → IsOneDone h.answer
+      → Leads s.view s'.view (starts_in s' ≡ taken_by line by job t (starts_in s))
   taken_leads wire h d = record {
-    later = subst (IsLater s.view) (sym d.view_is) (later_ended by s.rep.cell (Some ends) t s.view h.answer d.m d.ended);
+    later = subst (IsLater s.view) (sym d.view_is) (later_ended by s.rep.cell
+        (Some ends) t s.view h.answer d.m d.ended);
     holds = taken_holds wire h d;
   }
 
   abbrev Due : Bool → Type 0
-  Due lost = starts_in s' ≡ cond lost (record (starts_in s) { tally = lost_one s.tally }) (taken_by line by job t (starts_in s))
+  Due lost = starts_in s' ≡ cond lost (record (starts_in s) { tally = lost_one s.tally })
+      (taken_by line by job t (starts_in s))
 
   record IsStartDue (lost : Bool) : Type 0 where
     still : IsOf line s'.wire
@@ -129,17 +136,20 @@ module _ (line : RoundLine) (by : ℕ) (now : Moment) (job : Job) (s s' : Servin
       record {
         still = d.still;
         cell = ap (λ (r : CellRep). r.cell) d.rep_is ∙ todo_cell t h.answer.end began ∙ job_cell job s.rep s.rep.joined;
-        store = λ k. subst (λ (r : CellRep). HasStore r.joined) (sym d.rep_is) (todo_keeps t h.answer.end began (job_keeps job s.rep s.rep.joined k k));
+        store = λ k. subst (λ (r : CellRep). HasStore r.joined) (sym d.rep_is)
+            (todo_keeps t h.answer.end began (job_keeps job s.rep s.rep.joined k k));
         leads = taken_leads wire h d;
       }
 
   one_started : StartsOne by now job s s' → IsOf line s.wire → AreStartsAlone line by now (job ∷ []) s s'
   one_started h of =
       let sent = reached_started line s.rep.cell h.reached s.wire h.wire h.sent of in
-      let due = start_if (is_among line.lose_start s.rep.cell) h.wire sent.1 (subst (λ (b : Bool). TakesIf b by now job h.wire s s') sent.0 h.takes) in
+      let due = start_if (is_among line.lose_start s.rep.cell) h.wire sent.1
+      (subst (λ (b : Bool). TakesIf b by now job h.wire s s') sent.0 h.takes) in
       record { still = due.still; cell = due.cell; store = due.store; leads = due.leads }
 
-pub started_all : (line : RoundLine) (by : ℕ) (now : Moment) (jobs : List Job) (s s' : Serving) → Each (StartsOne by now) jobs s s' → IsOf line s.wire
+pub started_all : (line : RoundLine) (by : ℕ) (now : Moment) (jobs : List Job) (s s' : Serving)
+    → Each (StartsOne by now) jobs s s' → IsOf line s.wire
     → AreStartsAlone line by now jobs s s'
 started_all line by now [] s s' f of =
     subst (AreStartsAlone line by now [] s) (sym f)

@@ -59,40 +59,55 @@ new_stored totals epoch = record {
 module _ (s : StoreView) (h : IsStore s) where
   reserving_stored : (job : JobName) (memory disk : ℕ) → StoreIf (reserving s job memory disk)
   reserving_stored job memory disk =
-      elim (nat_lt (free_of s).memory memory) as (λ x. nat_lt (free_of s).memory memory ≡ x → StoreIf (cond x (Err NoMemoryLeft) (cond (nat_lt (free_of s).disk disk) (Err NoDiskLeft) (cond ((free_of s).containers == 0) (Err NoSlot) (Ok (reserved s job memory disk)))))) [
+      elim (nat_lt (free_of s).memory memory) as (λ x. nat_lt (free_of s).memory memory ≡ x
+      → StoreIf (cond x (Err NoMemoryLeft) (cond (nat_lt (free_of s).disk disk) (Err NoDiskLeft)
+      (cond ((free_of s).containers == 0) (Err NoSlot) (Ok (reserved s job memory disk)))))) [
         | true ↦ λ e. tt
-        | false ↦ λ some_memory. elim (nat_lt (free_of s).disk disk) as (λ x. nat_lt (free_of s).disk disk ≡ x → StoreIf (cond x (Err NoDiskLeft) (cond ((free_of s).containers == 0) (Err NoSlot) (Ok (reserved s job memory disk))))) [
-          | true ↦ λ e. tt
-          | false ↦ λ some_disk. elim ((free_of s).containers == 0) as (λ x. (free_of s).containers == 0 ≡ x → StoreIf (cond x (Err NoSlot) (Ok (reserved s job memory disk)))) [
-            | true ↦ λ e. tt
-            | false ↦ λ some_slot.
-                let m = ltb-false (free_of s).memory memory some_memory in
-                let d = ltb-false (free_of s).disk disk some_disk in
-                let n = eqb-false (free_of s).containers 0 some_slot in
-                IsStore-reserved s job memory disk h (omega (arith, m, h.memory)) (omega (arith, d, h.disk)) (omega (arith, n)) (omega (arith, n))
-          ] refl
-        ] refl
+        | false ↦ λ some_memory. elim (nat_lt (free_of s).disk disk) as
+            (λ x. nat_lt (free_of s).disk disk ≡ x → StoreIf (cond x (Err NoDiskLeft)
+            (cond ((free_of s).containers == 0) (Err NoSlot) (Ok (reserved s job memory disk))))) [
+              | true ↦ λ e. tt
+              | false ↦ λ some_disk. elim ((free_of s).containers == 0) as
+                  (λ x. (free_of s).containers == 0 ≡ x → StoreIf (cond x (Err NoSlot) (Ok (reserved s job memory disk)))) [
+                    | true ↦ λ e. tt
+                    | false ↦ λ some_slot.
+                        let m = ltb-false (free_of s).memory memory some_memory in
+                        let d = ltb-false (free_of s).disk disk some_disk in
+                        let n = eqb-false (free_of s).containers 0 some_slot in
+                        IsStore-reserved s job memory disk h (omega (arith, m, h.memory)) (omega (arith, d, h.disk))
+                        (omega (arith, n)) (omega (arith, n))
+                  ] refl
+            ] refl
       ] refl
 
   state_stored : (i : Instance) (state : ContainerState) → IsStore (with_state s i state)
   state_stored i state = IsStore-turn (λ c. cond (is_same_instance i c.instance) (in_state c state) c) s
       (record {
-        instance = λ c. elim (is_same_instance i c.instance) as (λ b. (cond b (in_state c state) c).instance ≡ c.instance) [ true ↦ refl | false ↦ refl ];
-        memory = λ c. elim (is_same_instance i c.instance) as (λ b. (cond b (in_state c state) c).memory ≡ c.memory) [ true ↦ refl | false ↦ refl ];
-        disk = λ c. elim (is_same_instance i c.instance) as (λ b. (cond b (in_state c state) c).disk ≡ c.disk) [ true ↦ refl | false ↦ refl ];
+        instance = λ c. elim (is_same_instance i c.instance) as
+            (λ b. (cond b (in_state c state) c).instance ≡ c.instance) [ true ↦ refl | false ↦ refl ];
+        memory = λ c. elim (is_same_instance i c.instance) as
+            (λ b. (cond b (in_state c state) c).memory ≡ c.memory) [ true ↦ refl | false ↦ refl ];
+        disk = λ c. elim (is_same_instance i c.instance) as
+            (λ b. (cond b (in_state c state) c).disk ≡ c.disk) [ true ↦ refl | false ↦ refl ];
       }) h
 
-  held_stored : (o : Option Container) (ask : Container → Result StoreView StoreRefusal) → ((c : Container) → StoreIf (ask c)) → StoreIf (if_held o ask)
+  held_stored : (o : Option Container) (ask : Container → Result StoreView StoreRefusal)
+      → ((c : Container) → StoreIf (ask c)) → StoreIf (if_held o ask)
   held_stored None ask each = tt
   held_stored (Some c) ask each = each c
 
   running_stored : (i : Instance) → StoreIf (running s i)
-  running_stored i = held_stored (find_container i s.containers) (λ c. cond (is_reserved c.state) (Ok (with_state s i Running)) (Err WrongState))
-      (λ c. elim (is_reserved c.state) as (λ b. StoreIf (cond b (Ok (with_state s i Running)) (Err WrongState))) [ true ↦ state_stored i Running | false ↦ tt ])
+  running_stored i = held_stored (find_container i s.containers)
+      (λ c. cond (is_reserved c.state) (Ok (with_state s i Running)) (Err WrongState))
+      (λ c. elim (is_reserved c.state) as (λ b. StoreIf (cond b (Ok (with_state s i Running)) (Err WrongState)))
+      [ true ↦ state_stored i Running | false ↦ tt ])
 
   completing_stored : (i : Instance) (failed : Bool) → StoreIf (completing s i failed)
-  completing_stored i failed = held_stored (find_container i s.containers) (λ c. cond (is_uncompleted c.state) (Ok (with_state s i (Completed failed))) (Err WrongState))
-      (λ c. elim (is_uncompleted c.state) as (λ b. StoreIf (cond b (Ok (with_state s i (Completed failed))) (Err WrongState))) [ true ↦ state_stored i (Completed failed) | false ↦ tt ])
+  completing_stored i failed = held_stored (find_container i s.containers)
+      (λ c. cond (is_uncompleted c.state) (Ok (with_state s i (Completed failed))) (Err WrongState))
+      (λ c. elim (is_uncompleted c.state) as (λ b. StoreIf
+      (cond b (Ok (with_state s i (Completed failed))) (Err WrongState)))
+      [ true ↦ state_stored i (Completed failed) | false ↦ tt ])
 
   removing_stored : (i : Instance) → StoreIf (removing s i)
   removing_stored i = held_stored (find_container i s.containers) (λ c. Ok (without_container s i))
@@ -100,7 +115,13 @@ module _ (s : StoreView) (h : IsStore s) where
 
   each_stored : (job : Option JobName) → IsStore (running_each s job)
   each_stored job = IsStore-turn (run_if_named job) s
-      (record { instance = λ c. named_same c (is_reserved c.state) (is_job_in job c.job); memory = λ c. named_memory c (is_reserved c.state) (is_job_in job c.job); disk = λ c. named_disk c (is_reserved c.state) (is_job_in job c.job) }) h
+      (record {
+        instance = λ c. named_same c (is_reserved c.state) (is_job_in job c.job);
+        memory = λ c.
+            named_memory c (is_reserved c.state) (is_job_in job c.job);
+        disk = λ c.
+            named_disk c (is_reserved c.state) (is_job_in job c.job);
+      }) h
     where
       named_same : (c : Container) (a b : Bool) → (cond (a && b) (in_state c Running) c).instance ≡ c.instance
       named_same c true true = refl
@@ -117,35 +138,42 @@ module _ (s : StoreView) (h : IsStore s) where
       named_disk c true false = refl
       named_disk c false b = refl
 
-  next_stored : (c : Container) (r : Result StoreView StoreRefusal) → StoreIf r → IsStore (store_claimed s (claimed_next c r))
+  next_stored : (c : Container) (r : Result StoreView StoreRefusal) → StoreIf r
+      → IsStore (store_claimed s (claimed_next c r))
   next_stored c (Ok t) k = k
   next_stored c (Err why) k = h
 
-  claimed_stored : (job : JobName) (memory disk : ℕ) (o : Option Container) → IsStore (store_claimed s (claimed_or_next s job memory disk o))
-  claimed_stored job memory disk None = next_stored (next_container s job memory disk) (reserving s job memory disk) (reserving_stored job memory disk)
+  claimed_stored : (job : JobName) (memory disk : ℕ) (o : Option Container)
+      → IsStore (store_claimed s (claimed_or_next s job memory disk o))
+  claimed_stored job memory disk None = next_stored (next_container s job memory disk) (reserving s job memory disk)
+      (reserving_stored job memory disk)
   claimed_stored job memory disk (Some c) = h
 
 -- a claim whose container runs
-run_stored : (s : StoreView) → IsStore s → (r : Result Claimed StoreRefusal) → IsStore (store_claimed s r) → IsStore (store_run s r)
+run_stored : (s : StoreView) → IsStore s → (r : Result Claimed StoreRefusal) → IsStore (store_claimed s r)
+    → IsStore (store_run s r)
 run_stored s h (Ok p) k = store_or (running p.0 p.1.instance) p.0 (running_stored p.0 k p.1.instance) k
 run_stored s h (Err why) k = h
 
 ended_stored : (s : StoreView) → IsStore s → (failed : Bool) (o : Option Container) → IsStore (store_ended s failed o)
 ended_stored s h failed None = h
-ended_stored s h failed (Some c) = store_or (completing s c.instance failed) s (completing_stored s h c.instance failed) h
+ended_stored s h failed (Some c) = store_or (completing s c.instance failed) s
+    (completing_stored s h c.instance failed) h
 
 begun_stored : (a : CellAct) (s : StoreView) → IsStore s → IsStore (begun_in a s)
 begun_stored (act.Join zone tag totals ttl) s h = h
 begun_stored (act.Renew ttl) s h = h
 begun_stored (act.Claim job memory disk) s h = claimed_stored s h job memory disk (uncompleted_of job s.containers)
-begun_stored (act.Run key memory disk) s h = run_stored s h (claiming s (Lrp key) memory disk) (claimed_stored s h (Lrp key) memory disk (uncompleted_of (Lrp key) s.containers))
+begun_stored (act.Run key memory disk) s h = run_stored s h (claiming s (Lrp key) memory disk)
+    (claimed_stored s h (Lrp key) memory disk (uncompleted_of (Lrp key) s.containers))
 begun_stored (act.Up job) s h = each_stored s h job
 begun_stored (act.Crash key) s h = ended_stored s h true (first_of (Lrp key) s.containers)
 begun_stored (act.Finish name failed) s h = ended_stored s h failed (first_of (Task name) s.containers)
 begun_stored act.Settle s h = h
 begun_stored act.Die s h = h
 
-begun_if : (a : CellAct) (rep : CellRep) (o : Option Joined) → HasStore o → HasStore rep.joined → HasStore (begun_joined a rep o).joined
+begun_if : (a : CellAct) (rep : CellRep) (o : Option Joined) → HasStore o → HasStore rep.joined
+    → HasStore (begun_joined a rep o).joined
 begun_if a rep None h k = k
 begun_if a rep (Some j) h k = begun_stored a j.store h
 
@@ -161,11 +189,13 @@ begun_keeps (act.Finish name failed) rep h = begun_if (act.Finish name failed) r
 begun_keeps act.Settle rep h = begun_if act.Settle rep rep.joined h h
 begun_keeps act.Die rep h = tt
 
-result_keeps : (rep : CellRep) (j : Joined) (r : Result StoreView StoreRefusal) → StoreIf r → HasStore rep.joined → HasStore (result_unwrap_or (store_result rep j r) rep).joined
+result_keeps : (rep : CellRep) (j : Joined) (r : Result StoreView StoreRefusal) → StoreIf r → HasStore rep.joined
+    → HasStore (result_unwrap_or (store_result rep j r) rep).joined
 result_keeps rep j (Ok s) h k = h
 result_keeps rep j (Err why) h k = k
 
-asked_keeps : (rep : CellRep) (o : Option Joined) (i : Instance) → HasStore o → HasStore rep.joined → HasStore (result_unwrap_or (asking rep o (λ s. removing s i)) rep).joined
+asked_keeps : (rep : CellRep) (o : Option Joined) (i : Instance) → HasStore o → HasStore rep.joined
+    → HasStore (result_unwrap_or (asking rep o (λ s. removing s i)) rep).joined
 asked_keeps rep None i h k = k
 asked_keeps rep (Some j) i h k = result_keeps rep j (removing j.store i) (removing_stored j.store h i) k
 
@@ -174,11 +204,14 @@ pub without_keeps : (rep : CellRep) (i : Instance) → HasStore rep.joined → H
 without_keeps rep i h = asked_keeps rep rep.joined i h h
 
 -- room is made for a job
-pub job_keeps : (job : Job) (rep : CellRep) (o : Option Joined) → HasStore o → HasStore rep.joined → HasStore (job_begun job rep o).joined
+pub job_keeps : (job : Job) (rep : CellRep) (o : Option Joined) → HasStore o → HasStore rep.joined
+    → HasStore (job_begun job rep o).joined
 job_keeps job rep None h k = k
-job_keeps job rep (Some j) h k = next_stored j.store h (next_container j.store job.job job.memory job.disk) (reserving j.store job.job job.memory job.disk) (reserving_stored j.store h job.job job.memory job.disk)
+job_keeps job rep (Some j) h k = next_stored j.store h (next_container j.store job.job job.memory job.disk)
+    (reserving j.store job.job job.memory job.disk) (reserving_stored j.store h job.job job.memory job.disk)
 
-draining_keeps : (rep : CellRep) (o : Option Joined) → HasStore o → HasStore rep.joined → HasStore (draining_from rep o).joined
+draining_keeps : (rep : CellRep) (o : Option Joined) → HasStore o → HasStore rep.joined
+    → HasStore (draining_from rep o).joined
 draining_keeps rep None h k = k
 draining_keeps rep (Some j) h k = h
 

@@ -27,18 +27,23 @@ module _ (base : Rows) (before fresh log : List Item) (goes : LogBegins (before 
     places : LieBetween (length before) (length (before ++ fresh)) answers
     replies : All (IsTrueOf base log) answers
 
-  fits : (answers : List Answered) (v w : PortView) → SeesPhase base before fresh by v w → Says answers v w → Fits answers
+  fits : (answers : List Answered) (v w : PortView) → SeesPhase base before fresh by v w → Says answers v w
+      → Fits answers
   fits answers v w sees says = record {
-    items = its_items base before fresh log goes by ∙ append_cancel_left v.mine (by_number by fresh) (flat_map answer_items answers) (sym sees.own ∙ says.items);
+    items = its_items base before fresh log goes by ∙ append_cancel_left v.mine (by_number by fresh)
+        (flat_map answer_items answers) (sym sees.own ∙ says.items);
     places =
-        lie_wider (length before) (length v.seen) (length w.seen) (length (before ++ fresh)) answers (begins_within before v.seen sees.from)
+        lie_wider (length before) (length v.seen) (length w.seen) (length (before ++ fresh)) answers
+        (begins_within before v.seen sees.from)
         (begins_within w.seen (before ++ fresh) sees.upto) says.places;
-    replies = subst (λ (r : Rows). All (IsTrueOf r log) answers) sees.base_is (says.replies log (begins_then w.seen (before ++ fresh) log sees.upto goes));
+    replies = subst (λ (r : Rows). All (IsTrueOf r log) answers) sees.base_is
+        (says.replies log (begins_then w.seen (before ++ fresh) log sees.upto goes));
   }
 
   module _ (phase : Phase) (a : ActorState) where
     -- an actor that did all of its lines
-    pub actor_agrees : (a' : ActorState) (answers : List Answered) → PartRan base phase.at phase.lines before fresh by a a' answers
+    pub actor_agrees : (a' : ActorState) (answers : List Answered)
+        → PartRan base phase.at phase.lines before fresh by a a' answers
         → ActorAgrees base log phase (length before) (length (before ++ fresh)) by a a' answers
     actor_agrees a' answers part =
         let did = did_turns by phase.at (turns_in by phase.lines) a part.first answers a' part.last part.taken in
@@ -54,7 +59,8 @@ module _ (base : Rows) (before fresh log : List Item) (goes : LogBegins (before 
         record { answers = did.answers; did = did.does; items = it.items; places = it.places; replies = it.replies }
 
     -- one that did all of them may be one that was cut off
-    pub actor_as_cut : (a' : ActorState) (answers : List Answered) → PartRan base phase.at phase.lines before fresh by a a' answers
+    pub actor_as_cut : (a' : ActorState) (answers : List Answered)
+        → PartRan base phase.at phase.lines before fresh by a a' answers
         → ActorCut base log phase (length before) (length (before ++ fresh)) by a a'
     actor_as_cut a' answers part =
         let did = did_turns by phase.at (turns_in by phase.lines) a part.first answers a' part.last part.taken in

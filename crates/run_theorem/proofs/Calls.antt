@@ -38,29 +38,34 @@ place_earlier n from (Some (Err (fault.Disk place))) le within = (omega (arith, 
 place_earlier n from (Some (Err fault.OutOfMemory)) le within = (omega arith, le)
 
 -- what lies between two places lies between an earlier and a later one
-pub lie_wider : (n from upto m : ℕ) (as' : List Answered) → n ≤ from → upto ≤ m → LieBetween from upto as' → LieBetween n m as'
+pub lie_wider : (n from upto m : ℕ) (as' : List Answered) → n ≤ from → upto ≤ m → LieBetween from upto as'
+    → LieBetween n m as'
 lie_wider n from upto m [] low high lie = omega (arith, low, high, lie)
 lie_wider n from upto m (a ∷ as') low high lie =
     let earlier = place_earlier n from (board_answer a.end) low lie.0 in (
       earlier.0,
-      lie_wider (place_named n (board_answer a.end) + length (answer_items a)) (place_named from (board_answer a.end) + length (answer_items a)) upto m as'
+      lie_wider (place_named n (board_answer a.end) + length (answer_items a))
+          (place_named from (board_answer a.end) + length (answer_items a)) upto m as'
           (omega (arith, earlier.1)) high lie.1,
     )
 
-pub lie_both : (from mid upto : ℕ) (as' bs : List Answered) → LieBetween from mid as' → LieBetween mid upto bs → LieBetween from upto (as' ++ bs)
+pub lie_both : (from mid upto : ℕ) (as' bs : List Answered) → LieBetween from mid as' → LieBetween mid upto bs
+    → LieBetween from upto (as' ++ bs)
 lie_both from mid upto [] bs f g = lie_wider from mid upto upto bs f (omega arith) g
 lie_both from mid upto (a ∷ as') bs f g =
     (f.0, lie_both (place_named from (board_answer a.end) + length (answer_items a)) mid upto as' bs f.1 g)
 
 -- what one call says, of the log that it left and of each longer one
-record SaysOne (by : ℕ) (c : Command) (end : Result Reply CallFault) (base : Rows) (first before : List Item) : Type 0 where
+record SaysOne (by : ℕ) (c : Command) (end : Result Reply CallFault) (base : Rows)
+    (first before : List Item) : Type 0 where
   low : length first ≤ place_named (length first) (Some end)
   high : place_named (length first) (Some end) + length (added end by c) ≤ length (before ++ added end by c)
   tells : (log : List Item) → LogBegins (before ++ added end by c) log → AnswerTells base log by c end
 
 module _ (base : Rows) (by : ℕ) (c : Command) (first before : List Item) (behind : length first ≤ length before) where
   -- the rows there are those that were seen
-  comes : (items log : List Item) (v : Verdict) → verdict_of (replay_log base before) c ≡ v → LogBegins (before ++ items) log
+  comes : (items log : List Item) (v : Verdict) → verdict_of (replay_log base before) c ≡ v
+      → LogBegins (before ++ items) log
       → ComesTo base log (length before) c v
   comes items log v is f =
       let g = begins_behind before items log f in
@@ -71,7 +76,8 @@ module _ (base : Rows) (by : ℕ) (c : Command) (first before : List Item) (behi
 
   stands : (i : Item) (log : List Item) → LogBegins (before ++ i ∷ []) log → slice_get log (length before) ≡ Some i
   stands i log f =
-      ap (λ (xs : List Item). slice_get xs (length before)) (f.1 ∙ append_assoc before (i ∷ []) f.0) ∙ stands_behind before f.0 i
+      ap (λ (xs : List Item). slice_get xs (length before))
+      (f.1 ∙ append_assoc before (i ∷ []) f.0) ∙ stands_behind before f.0 i
 
   one_more : (i : Item) → length before + 1 ≤ length (before ++ i ∷ [])
   one_more i = omega (arith, length-append before (i ∷ []))
@@ -87,21 +93,25 @@ module _ (base : Rows) (by : ℕ) (c : Command) (first before : List Item) (behi
     tells = λ log f. (
       stands (Done by c) log f,
       comes (Done by c ∷ []) log verdict.Ok is f,
-      ap (λ (xs : List Item). (replay_log base xs).next) (sym (begins_taken before log (begins_behind before (Done by c ∷ []) log f))),
+      ap (λ (xs : List Item). (replay_log base xs).next) (sym
+          (begins_taken before log (begins_behind before (Done by c ∷ []) log f))),
     );
   })
-  says_ok end is (inr (inl e)) = subst (λ (x : Result Reply CallFault). SaysOne by c x base first before) (sym e) (record {
-    low = behind;
-    high = one_more (Doubt by c);
-    tells = λ log f. (stands (Doubt by c) log f, comes (Doubt by c ∷ []) log verdict.Ok is f);
-  })
-  says_ok end is (inr (inr e)) = subst (λ (x : Result Reply CallFault). SaysOne by c x base first before) (sym e) (record {
-    low = omega arith;
-    high = omega (arith, behind, length-append {A = Item} before []);
-    tells = λ log f. (length before, comes [] log verdict.Ok is f);
-  })
+  says_ok end is (inr (inl e)) = subst (λ (x : Result Reply CallFault). SaysOne by c x base first before) (sym e)
+      (record {
+        low = behind;
+        high = one_more (Doubt by c);
+        tells = λ log f. (stands (Doubt by c) log f, comes (Doubt by c ∷ []) log verdict.Ok is f);
+      })
+  says_ok end is (inr (inr e)) = subst (λ (x : Result Reply CallFault). SaysOne by c x base first before) (sym e)
+      (record {
+        low = omega arith;
+        high = omega (arith, behind, length-append {A = Item} before []);
+        tells = λ log f. (length before, comes [] log verdict.Ok is f);
+      })
 
-  says_same : (end : Result Reply CallFault) → verdict_of (replay_log base before) c ≡ verdict.Same → end ≡ Ok (reply.Same (length before))
+  says_same : (end : Result Reply CallFault) → verdict_of (replay_log base before) c ≡ verdict.Same
+      → end ≡ Ok (reply.Same (length before))
       → SaysOne by c end base first before
   says_same end is e = subst (λ (x : Result Reply CallFault). SaysOne by c x base first before) (sym e) (record {
     low = behind;
@@ -113,11 +123,12 @@ module _ (base : Rows) (by : ℕ) (c : Command) (first before : List Item) (behi
       → Ends v (length before) (replay_log base before).next end → SaysOne by c end base first before
   says_end verdict.Ok end is ends = says_ok end is ends
   says_end verdict.Same end is ends = says_same end is ends
-  says_end (verdict.Refused why) end is ends = subst (λ (x : Result Reply CallFault). SaysOne by c x base first before) (sym ends) (record {
-    low = behind;
-    high = none_more;
-    tells = λ log f. comes [] log (verdict.Refused why) is f;
-  })
+  says_end (verdict.Refused why) end is ends = subst (λ (x : Result Reply CallFault). SaysOne by c x base first before)
+      (sym ends) (record {
+        low = behind;
+        high = none_more;
+        tells = λ log f. comes [] log (verdict.Refused why) is f;
+      })
 
 -- what the answers of a caller say, who saw a board so before and after its calls
 pub record Says (answers : List Answered) (v w : PortView) : Type 0 where
@@ -142,11 +153,14 @@ pub says_nothing : (a : Answered) (v : PortView) → board_answer a.end ≡ None
 says_nothing a v none no_items = record {
   base_is = refl;
   grows = begins_same v.seen;
-  places = subst (λ (o : Option (Result Reply CallFault)). (length v.seen ≤ place_named (length v.seen) o) × (place_named (length v.seen) o + length (answer_items a) ≤ length v.seen)) (sym none)
-      (subst (λ (xs : List Item). (length v.seen ≤ length v.seen) × (length v.seen + length xs ≤ length v.seen)) (sym no_items) (omega arith, omega arith));
+  places = subst (λ (o : Option (Result Reply CallFault)). (length v.seen ≤ place_named (length v.seen) o)
+      × (place_named (length v.seen) o + length (answer_items a) ≤ length v.seen)) (sym none)
+      (subst (λ (xs : List Item). (length v.seen ≤ length v.seen) × (length v.seen + length xs ≤ length v.seen))
+      (sym no_items) (omega arith, omega arith));
   items = sym (append-nil v.mine) ∙ ap (λ (xs : List Item). v.mine ++ (xs ++ [])) (sym no_items);
   replies = λ log f.
-      All-cons (IsTrueOf v.base log) a [] (subst (TellsIf v.base log a.actor a.command) (sym none) tt) (All-nil (IsTrueOf v.base log));
+      All-cons (IsTrueOf v.base log) a [] (subst (TellsIf v.base log a.actor a.command) (sym none) tt)
+      (All-nil (IsTrueOf v.base log));
 }
 
 -- the first, and then the others
@@ -172,14 +186,19 @@ module _ (by line : ℕ) (v : PortView) (c : Command) (e : CallEnd) (w : PortVie
   says_called end is h = record {
     base_is = ap (λ (x : PortView). x.base) h.is;
     grows = (h.others ++ added end by c, seen ∙ append_assoc v.seen h.others (added end by c));
-    places = subst (λ (o : Option (Result Reply CallFault)). (length v.seen ≤ place_named (length v.seen) o) × (place_named (length v.seen) o + length (items_if by (Some c) o) ≤ length w.seen)) (sym is)
-        (one.low, subst (λ (xs : List Item). place_named (length v.seen) (Some end) + length (added end by c) ≤ length xs) (sym seen) one.high);
+    places = subst (λ (o : Option (Result Reply CallFault)). (length v.seen ≤ place_named (length v.seen) o)
+        × (place_named (length v.seen) o + length (items_if by (Some c) o) ≤ length w.seen)) (sym is) (
+          one.low,
+          subst (λ (xs : List Item). place_named (length v.seen) (Some end) + length (added end by c)
+              ≤ length xs) (sym seen) one.high,
+        );
     items = ap (λ (x : PortView). x.mine) h.is
         ∙ ap (λ (xs : List Item). v.mine ++ xs) (sym (append-nil (added end by c)))
         ∙ ap (λ (o : Option (Result Reply CallFault)). v.mine ++ (items_if by (Some c) o ++ [])) (sym is);
     replies = λ log f.
         All-cons (IsTrueOf v.base log) its []
-        (subst (TellsIf v.base log by (Some c)) (sym is) (one.tells log (subst (λ (xs : List Item). LogBegins xs log) seen f)))
+        (subst (TellsIf v.base log by (Some c)) (sym is) (one.tells log
+        (subst (λ (xs : List Item). LogBegins xs log) seen f)))
         (All-nil (IsTrueOf v.base log));
   }
     where

@@ -79,7 +79,8 @@ module _ (base : Rows) (log : List Item) (by : ℕ) where
     stands : (from : ℕ) → slice_get log (place_named from answer) ≡ Some item
     fixed : (from : ℕ) → place_named 0 answer ≡ place_named from answer
 
-  made_of : (actor : ℕ) (command : Option Command) (answer : Option (Result Reply CallFault)) → TellsIf base log actor command answer → actor ≡ by
+  made_of : (actor : ℕ) (command : Option Command) (answer : Option (Result Reply CallFault))
+      → TellsIf base log actor command answer → actor ≡ by
       → (items_if actor command answer ≡ []) ⊎ MadeOne (items_if actor command answer) answer
   made_of actor None None tells is = inl refl
   made_of actor (Some c) None tells is = inl refl
@@ -111,7 +112,8 @@ module _ (base : Rows) (log : List Item) (by : ℕ) where
     lie_rises from (a ∷ as') lie = let rest = lie_rises (after from a) as' lie.1 in omega (arith, lie.0, rest)
 
     -- an answer that made an item, where others follow
-    module _ (from : ℕ) (a : Answered) (as' : List Answered) (lie : LieBetween from upto (a ∷ as')) (one : MadeOne (answer_items a) (board_answer a.end)) where
+    module _ (from : ℕ) (a : Answered) (as' : List Answered) (lie : LieBetween from upto (a ∷ as'))
+        (one : MadeOne (answer_items a) (board_answer a.end)) where
       abbrev place : ℕ
       place = place_named from (board_answer a.end)
 
@@ -133,7 +135,12 @@ module _ (base : Rows) (log : List Item) (by : ℕ) where
         let rest = enough (after from a) as' lie.1 own.1 in
         ⊎_elim
         (λ (none : answer_items a ≡ []).
-        omega (arith, rest, fewer its by from (after from a) (omega (arith, lie.0)), ap (λ (ys : List Item). length (ys ++ flat_map answer_items as')) none))
+        omega (
+          arith,
+          rest,
+          fewer its by from (after from a) (omega (arith, lie.0)),
+          ap (λ (ys : List Item). length (ys ++ flat_map answer_items as')) none,
+        ))
         (λ (one : MadeOne (answer_items a) (board_answer a.end)).
         omega (
           arith,
@@ -146,17 +153,33 @@ module _ (base : Rows) (log : List Item) (by : ℕ) where
         (made a own.0)
 
     wider : (a : Answered) (as' : List Answered) (p : ℕ) (i : Item) → IsAnswered as' p i → IsAnswered (a ∷ as') p i
-    wider a as' p i is = record { answer = is.answer; among = inside_rest is.answer a as' is.among; item = is.item; place_is = is.place_is }
+    wider a as' p i is = record {
+      answer = is.answer;
+      among = inside_rest is.answer a as' is.among;
+      item =
+          is.item;
+      place_is = is.place_is;
+    }
 
     -- an item of the caller isn't passed over
-    not_passed : (n m p : ℕ) (i : Item) → n ≤ p → p < m → length (behind its by n) ≤ length (behind its by m) → slice_get its p ≡ Some i → by_of i ≡ by → ⊥
+    not_passed : (n m p : ℕ) (i : Item) → n ≤ p → p < m → length (behind its by n) ≤ length (behind its by m)
+        → slice_get its p ≡ Some i → by_of i ≡ by → ⊥
     not_passed n m p i low high many is own =
-        omega (arith, many, fewer its by n p low, fewer its by (suc p) m (omega (arith, high)), ap length (one_there its by p i is own))
+        omega (
+          arith,
+          many,
+          fewer its by n p low,
+          fewer its by (suc p) m (omega (arith, high)),
+          ap length (one_there its by p i is own),
+        )
 
     -- an item of the caller is that of the first answer or of those behind it
-    module _ (from : ℕ) (a : Answered) (as' : List Answered) (lie : LieBetween from upto (a ∷ as')) (own : AllByRecursion IsOwn (a ∷ as'))
-        (same : behind its by from ≡ flat_map answer_items (a ∷ as')) (p : ℕ) (i : Item) (low : from ≤ p) (is : slice_get its p ≡ Some i)
-        (by_is : by_of i ≡ by) (more : behind its by (after from a) ≡ flat_map answer_items as' → after from a ≤ p → IsAnswered as' p i) where
+    module _ (from : ℕ) (a : Answered) (as' : List Answered) (lie : LieBetween from upto (a ∷ as'))
+        (own : AllByRecursion IsOwn (a ∷ as'))
+        (same : behind its by from ≡ flat_map answer_items (a ∷ as')) (p : ℕ) (i : Item) (low : from ≤ p)
+        (is : slice_get its p ≡ Some i)
+        (by_is : by_of i ≡ by) (more : behind its by (after from a) ≡ flat_map answer_items as' → after from a ≤ p
+        → IsAnswered as' p i) where
       abbrev q : ℕ
       q = place_named from (board_answer a.end)
 
@@ -164,7 +187,8 @@ module _ (base : Rows) (log : List Item) (by : ℕ) where
       rest = enough (after from a) as' lie.1 own.1
 
       when_none : answer_items a ≡ [] → IsAnswered (a ∷ as') p i
-      when_none none = wider a as' p i (more (same_behind its by from (after from a) (omega (arith, lie.0)) many ∙ those) (at_least (cases_lt p (after from a))))
+      when_none none = wider a as' p i (more (same_behind its by from (after from a)
+          (omega (arith, lie.0)) many ∙ those) (at_least (cases_lt p (after from a))))
         where
           those : behind its by from ≡ flat_map answer_items as'
           those = same ∙ ap (λ (ys : List Item). ys ++ flat_map answer_items as') none
@@ -189,7 +213,8 @@ module _ (base : Rows) (log : List Item) (by : ℕ) where
           ap (λ n. length (behind its by n)) (next_is from a as' lie one),
         )
 
-        later : one.item ∷ behind its by (suc q) ≡ one.item ∷ flat_map answer_items as' → behind its by (suc q) ≡ flat_map answer_items as'
+        later : one.item ∷ behind its by (suc q) ≡ one.item ∷ flat_map answer_items as'
+            → behind its by (suc q) ≡ flat_map answer_items as'
         later whole = cc (whole)
 
         tails : behind its by (after from a) ≡ flat_map answer_items as'
@@ -221,11 +246,13 @@ module _ (base : Rows) (log : List Item) (by : ℕ) where
             past (inr under) = absurd (other (omega (arith, under, up)))
 
       of_these : IsAnswered (a ∷ as') p i
-      of_these = ⊎_elim when_none (λ (one : MadeOne (answer_items a) (board_answer a.end)). which one (cases_lt p q) (cases_eq p q)) (made a own.0)
+      of_these = ⊎_elim when_none (λ (one : MadeOne (answer_items a) (board_answer a.end)).
+          which one (cases_lt p q) (cases_eq p q)) (made a own.0)
 
     -- each item of the caller is that of an answer
     pub answered_there : (as' : List Answered) (from : ℕ) → LieBetween from upto as' → AllByRecursion IsOwn as'
-        → behind its by from ≡ flat_map answer_items as' → (p : ℕ) (i : Item) → from ≤ p → slice_get its p ≡ Some i → by_of i ≡ by → IsAnswered as' p i
+        → behind its by from ≡ flat_map answer_items as' → (p : ℕ) (i : Item) → from ≤ p → slice_get its p ≡ Some i
+        → by_of i ≡ by → IsAnswered as' p i
     answered_there [] from lie own same p i low is by_is =
         absurd (omega (arith, fewer its by from p low, ap length (one_there its by p i is by_is), ap length same))
     answered_there (a ∷ as') from lie own same p i low is by_is =

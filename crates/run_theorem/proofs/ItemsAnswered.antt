@@ -31,11 +31,14 @@ module _ {X : Type 0} (before : X → X → Bool) where
       elim (before z y) as (λ b. Contains (cond b (z ∷ with_placed before y ys) (y ∷ z ∷ ys)) x) [
         | true ↦
             ⊎_elim
-            (λ (is : y ≡ x). inside_rest x z (with_placed before y ys) (inside_placed x y ys (subst (Contains (y ∷ ys)) is (inside_first y ys))))
+            (λ (is : y ≡ x). inside_rest x z (with_placed before y ys)
+            (inside_placed x y ys (subst (Contains (y ∷ ys)) is (inside_first y ys))))
             (λ (other : Contains (z ∷ ys) x).
             ⊎_elim
-            (λ (is : z ≡ x). subst (Contains (z ∷ with_placed before y ys)) is (inside_first z (with_placed before y ys)))
-            (λ (later : Contains ys x). inside_rest x z (with_placed before y ys) (inside_placed x y ys (inside_rest x y ys later)))
+            (λ (is : z ≡ x). subst (Contains (z ∷ with_placed before y ys)) is
+            (inside_first z (with_placed before y ys)))
+            (λ (later : Contains ys x). inside_rest x z (with_placed before y ys)
+            (inside_placed x y ys (inside_rest x y ys later)))
             (first_or_rest x z ys other))
             (first_or_rest x y (z ∷ ys) inside)
         | false ↦ inside
@@ -45,16 +48,20 @@ module _ {X : Type 0} (before : X → X → Bool) where
   inside_sorted [] x inside = inside
   inside_sorted (y ∷ ys) x inside =
       ⊎_elim
-      (λ (is : y ≡ x). inside_placed x y (sorted_by before ys) (subst (Contains (y ∷ sorted_by before ys)) is (inside_first y (sorted_by before ys))))
-      (λ (later : Contains ys x). inside_placed x y (sorted_by before ys) (inside_rest x y (sorted_by before ys) (inside_sorted ys x later)))
+      (λ (is : y ≡ x). inside_placed x y (sorted_by before ys)
+      (subst (Contains (y ∷ sorted_by before ys)) is (inside_first y (sorted_by before ys))))
+      (λ (later : Contains ys x). inside_placed x y (sorted_by before ys)
+      (inside_rest x y (sorted_by before ys) (inside_sorted ys x later)))
       (first_or_rest x y ys inside)
 
-inside_joined : {X : Type 0} (parts : List (List X)) (k : ℕ) (p : List X) (x : X) → slice_get parts k ≡ Some p → Contains p x
+inside_joined : {X : Type 0} (parts : List (List X)) (k : ℕ) (p : List X) (x : X) → slice_get parts k ≡ Some p
+    → Contains p x
     → Contains (flat_map (λ (part : List X). part) parts) x
 inside_joined [] k p x is inside = cc (is)
 inside_joined {X = X} (q ∷ parts) zero p x is inside =
     let same : p ≡ q = cc (is) in
-    Contains-append_left q (flat_map (λ (part : List X). part) parts) x (subst (λ (l : List X). Contains l x) same inside)
+    Contains-append_left q (flat_map (λ (part : List X). part) parts) x
+    (subst (λ (l : List X). Contains l x) same inside)
 inside_joined {X = X} (q ∷ parts) (suc k) p x is inside =
     Contains-append_right q (flat_map (λ (part : List X). part) parts) x (inside_joined parts k p x is inside)
 
@@ -63,7 +70,8 @@ module _ (by : ℕ) where
   abbrev pub Bears : Answered → Type 0
   Bears a = a.actor ≡ by
 
-  bears_both : (xs ys : List Answered) → AllByRecursion Bears xs → AllByRecursion Bears ys → AllByRecursion Bears (xs ++ ys)
+  bears_both : (xs ys : List Answered) → AllByRecursion Bears xs → AllByRecursion Bears ys
+      → AllByRecursion Bears (xs ++ ys)
   bears_both [] ys f g = g
   bears_both (x ∷ xs) ys f g = (f.0, bears_both xs ys f.1 g)
 
@@ -71,13 +79,16 @@ module _ (by : ℕ) where
   bears_run line [] = tt
   bears_run line (c ∷ calls) = (refl, bears_run line calls)
 
-  pub bears : (now : Moment) (ts : List Turn) (a : ActorState) (answers : List Answered) (a' : ActorState) → DoesTurns by now ts a answers a'
+  pub bears : (now : Moment) (ts : List Turn) (a : ActorState) (answers : List Answered) (a' : ActorState)
+      → DoesTurns by now ts a answers a'
       → AllByRecursion Bears answers
   bears now [] a answers a' did = subst (AllByRecursion Bears) (sym did.0) tt
   bears now (t ∷ ts) a answers a' (calls, rest, mid, is, one, others) =
-      subst (AllByRecursion Bears) (sym is) (bears_both (map (line_answer by t.line) calls) rest (bears_run t.line calls) (bears now ts mid rest a' others))
+      subst (AllByRecursion Bears) (sym is) (bears_both (map (line_answer by t.line) calls) rest
+      (bears_run t.line calls) (bears now ts mid rest a' others))
 
-  own_true : (base : Rows) (log : List Item) (as' : List Answered) → AllByRecursion (IsTrueOf base log) as' → AllByRecursion Bears as'
+  own_true : (base : Rows) (log : List Item) (as' : List Answered) → AllByRecursion (IsTrueOf base log) as'
+      → AllByRecursion Bears as'
       → AllByRecursion (IsOwn base log by) as'
   own_true base log [] f g = tt
   own_true base log (a ∷ as') f g = ((f.0, g.0), own_true base log as' f.1 g.1)
@@ -90,19 +101,29 @@ pub some_actor : (xs : List ActorState) (k : ℕ) → k < length xs → ActorSta
 some_actor [] k within = absurd (omega (arith, within))
 some_actor (x ∷ xs) k within = x
 
-more_answers : (xs ys : List Answered) (p : ℕ) (i : Item) → ((a : Answered) → Contains xs a → Contains ys a) → IsAnswered xs p i → IsAnswered ys p i
-more_answers xs ys p i more is = record { answer = is.answer; among = more is.answer is.among; item = is.item; place_is = is.place_is }
+more_answers : (xs ys : List Answered) (p : ℕ) (i : Item) → ((a : Answered) → Contains xs a → Contains ys a)
+    → IsAnswered xs p i → IsAnswered ys p i
+more_answers xs ys p i more is = record {
+  answer = is.answer;
+  among = more is.answer is.among;
+  item =
+      is.item;
+  place_is = is.place_is;
+}
 
 module _ (base : Rows) (log : List Item) where
   -- by an actor
-  in_part : (phase : Phase) (from upto by : ℕ) (a a' : ActorState) (answers : List Answered) → ActorAgrees base log phase from upto by a a' answers
+  in_part : (phase : Phase) (from upto by : ℕ) (a a' : ActorState) (answers : List Answered)
+      → ActorAgrees base log phase from upto by a a' answers
       → (p : ℕ) (i : Item) → from ≤ p → p < upto → slice_get log p ≡ Some i → by_of i ≡ by → IsAnswered answers p i
   in_part phase from upto by a a' answers agrees p i low high is own =
       answered_there base log by upto answers from agrees.places
-      (own_true by base log answers (recursion_from_All (IsTrueOf base log) answers agrees.replies) (bears by phase.at (turns_in by phase.lines) a answers a' agrees.did))
+      (own_true by base log answers (recursion_from_All (IsTrueOf base log) answers agrees.replies)
+      (bears by phase.at (turns_in by phase.lines) a answers a' agrees.did))
       agrees.items p i low (there_taken log upto p high ∙ is) own
 
-  module _ (phase : Phase) (s t : Point) (agrees : PhaseAgrees base log phase s t) (p : ℕ) (i : Item) (low : s.place ≤ p) (high : p < t.place)
+  module _ (phase : Phase) (s t : Point) (agrees : PhaseAgrees base log phase s t) (p : ℕ) (i : Item)
+      (low : s.place ≤ p) (high : p < t.place)
       (is : slice_get log p ≡ Some i) where
     -- nobody has a higher number
     no_other : length s.actors < by_of i → ⊥
@@ -121,7 +142,8 @@ module _ (base : Rows) (log : List Item) where
         (λ x inside.
         subst (λ (xs : List Answered). Contains xs x) (sym agrees.answers)
         (Contains-append_right s.answers (by_line agrees.parts) x
-        (inside_sorted is_earlier_line (joined_parts agrees.parts) x (inside_joined agrees.parts k part x there inside))))
+        (inside_sorted is_earlier_line (joined_parts agrees.parts) x
+        (inside_joined agrees.parts k part x there inside))))
         (in_part phase s.place t.place (suc k) (get_or s.actors k a) (get_or agrees.mids k a) part
         (agrees.actors k (get_or s.actors k a) (get_or agrees.mids k a) part (slice_get-get_or s.actors k a within)
         (slice_get-get_or agrees.mids k a (omega (arith, within, agrees.same.length_is))) there)
@@ -148,23 +170,28 @@ module _ (base : Rows) (log : List Item) where
         (cases_lt (length s.actors) (by_of i))
 
   -- answers stay
-  answers_stay : (phases : List Phase) (s t : Point) → Each (PhaseAgrees base log) phases s t → (a : Answered) → Contains s.answers a → Contains t.answers a
+  answers_stay : (phases : List Phase) (s t : Point) → Each (PhaseAgrees base log) phases s t → (a : Answered)
+      → Contains s.answers a → Contains t.answers a
   answers_stay [] s t same a inside = subst (λ (m : Point). Contains m.answers a) (sym same) inside
   answers_stay (phase ∷ phases) s t (m, agrees, others) a inside =
       answers_stay phases m t others a
-      (subst (λ (xs : List Answered). Contains xs a) (sym agrees.answers) (Contains-append_left s.answers (by_line agrees.parts) a inside))
+      (subst (λ (xs : List Answered). Contains xs a) (sym agrees.answers)
+      (Contains-append_left s.answers (by_line agrees.parts) a inside))
 
-  in_phases : (phases : List Phase) (s t : Point) → Each (PhaseAgrees base log) phases s t → (p : ℕ) (i : Item) → s.place ≤ p → p < t.place
+  in_phases : (phases : List Phase) (s t : Point) → Each (PhaseAgrees base log) phases s t → (p : ℕ) (i : Item)
+      → s.place ≤ p → p < t.place
       → slice_get log p ≡ Some i → by_of i ≢ 0 → IsAnswered t.answers p i
   in_phases [] s t same p i low high is ne = absurd (omega (arith, low, high, ap (λ (m : Point). m.place) same))
   in_phases (phase ∷ phases) s t (m, agrees, others) p i low high is ne =
       ⊎_elim
       (λ (here : p < m.place).
-      more_answers m.answers t.answers p i (answers_stay phases m t others) (in_phase phase s m agrees p i low here is ne))
+      more_answers m.answers t.answers p i (answers_stay phases m t others)
+      (in_phase phase s m agrees p i low here is ne))
       (λ (later : m.place ≤ p). in_phases phases m t others p i later high is ne)
       (cases_lt p m.place)
 
 pub items_answered : ItemsAreAnswered
 items_answered script how answers reports base log run p i within is ne =
-    more_answers run.order.last.answers answers p i (λ a inside. subst (λ (xs : List Answered). Contains xs a) (sym run.order.answers_are) inside)
+    more_answers run.order.last.answers answers p i (λ a inside.
+    subst (λ (xs : List Answered). Contains xs a) (sym run.order.answers_are) inside)
     (in_phases base log run.order.ended (outset script) run.order.last run.order.each p i (omega arith) within is ne)

@@ -50,13 +50,15 @@ one_in true n rest zero name more is =
     subst (λ (m : List ℕ). Contains (of_cell n ∷ rest) (of_cell m)) same (inside_first (of_cell n) rest)
 one_in true n rest (suc j) name more is = inside_rest (of_cell name) (of_cell n) rest (more j is)
 
-named_cell : (actors : List Actor) (j : ℕ) (name : List ℕ) → slice_get (cell_names (starting_actors actors)) j ≡ Some name
+named_cell : (actors : List Actor) (j : ℕ) (name : List ℕ)
+    → slice_get (cell_names (starting_actors actors)) j ≡ Some name
     → Contains actors (of_cell name)
 named_cell [] j name is = cc (is)
 named_cell (a ∷ rest) j name is = one_in a.cell a.name rest j name (λ i. named_cell rest i name) is
 
 one_apart : (cell : Bool) (n : List ℕ) (rest : List Actor) → StandApart (cell_names (starting_actors rest))
-    → (cell ≡ true → Contains rest (of_cell n) → ⊥) → StandApart (cell_names (starting_actors (record { cell = cell; name = n } ∷ rest)))
+    → (cell ≡ true → Contains rest (of_cell n) → ⊥) → StandApart
+    (cell_names (starting_actors (record { cell = cell; name = n } ∷ rest)))
 one_apart false n rest more new i j name p q = more i j name p q
 one_apart true n rest more new zero zero name p q = refl
 one_apart true n rest more new zero (suc j) name p q =
@@ -68,10 +70,12 @@ one_apart true n rest more new (suc i) zero name p q =
 one_apart true n rest more new (suc i) (suc j) name p q = ap suc (more i j name p q)
 
 -- those of a scenario stand apart
-pub names_apart : (actors : List Actor) → AllPairs (λ a b. a ≢ b) actors → StandApart (cell_names (starting_actors actors))
+pub names_apart : (actors : List Actor) → AllPairs (λ a b. a ≢ b) actors
+    → StandApart (cell_names (starting_actors actors))
 names_apart [] pairs = λ i j name p q. cc (p)
 names_apart (a ∷ rest) pairs =
-    one_apart a.cell a.name rest (names_apart rest (λ i j d before within. pairs (suc i) (suc j) d (omega (arith, before)) (omega (arith, within))))
+    one_apart a.cell a.name rest (names_apart rest (λ i j d before within.
+    pairs (suc i) (suc j) d (omega (arith, before)) (omega (arith, within))))
     (λ is inside.
     let same : a ≡ of_cell a.name = ap (λ (b : Bool). record { cell = b; name = a.name }) is in
     pairs 0 (suc inside.0) (of_cell a.name) (omega arith) (omega (arith, inside.1)) (same ∙ sym inside.2))

@@ -29,19 +29,23 @@ runs_from : (low mid : ℕ) (ts : List Turn) → low ≤ mid → RunsRise mid ts
 runs_from low mid [] le f = tt
 runs_from low mid (t ∷ ts) le f = (omega (arith, le, f.0), f.1)
 
-calls_rise : (by line low : ℕ) (calls : List Called) (rest : List Answered) → low ≤ line → Rises line rest → Rises low (map (line_answer by line) calls ++ rest)
+calls_rise : (by line low : ℕ) (calls : List Called) (rest : List Answered) → low ≤ line → Rises line rest
+    → Rises low (map (line_answer by line) calls ++ rest)
 calls_rise by line low [] rest le f = rises_from low line rest le f
 calls_rise by line low (c ∷ calls) rest le f = (le, calls_rise by line line calls rest (omega arith) f)
 
 -- so the lines of their answers don't
-answers_rise : (by : ℕ) (now : Moment) (ts : List Turn) (low : ℕ) (a : ActorState) (answers : List Answered) (a' : ActorState) → RunsRise low ts
+answers_rise : (by : ℕ) (now : Moment) (ts : List Turn) (low : ℕ) (a : ActorState) (answers : List Answered)
+    (a' : ActorState) → RunsRise low ts
     → DoesTurns by now ts a answers a' → Rises low answers
 answers_rise by now [] low a answers a' f did = subst (Rises low) (sym did.0) tt
 answers_rise by now (t ∷ ts) low a answers a' f (calls, rest, mid, is, one, others) =
-    subst (Rises low) (sym is) (calls_rise by t.line low calls rest f.0 (answers_rise by now ts t.line mid rest a' f.1 others))
+    subst (Rises low) (sym is) (calls_rise by t.line low calls rest f.0
+    (answers_rise by now ts t.line mid rest a' f.1 others))
 
 -- the runs of one line, with others behind
-line_runs : (l : Line) (ns : List ℕ) (low : ℕ) (more : List Turn) → low ≤ l.line → RunsRise l.line more → RunsRise low (map (turn_at l) ns ++ more)
+line_runs : (l : Line) (ns : List ℕ) (low : ℕ) (more : List Turn) → low ≤ l.line → RunsRise l.line more
+    → RunsRise low (map (turn_at l) ns ++ more)
 line_runs l [] low more le f = runs_from low l.line more le f
 line_runs l (n ∷ ns) low more le f = (le, line_runs l ns l.line more (omega arith) f)
 
@@ -62,42 +66,50 @@ lines_kept P low (l ∷ ls) f =
       | false ↦ lines_from low l.line (filter P ls) f.0 (lines_kept P l.line ls f.1)
     ]
 
-lines_rise : (low : ℕ) (ls : List Line) → ((k : ℕ) (d : Line) → k < length ls → low ≤ (get_or ls k d).line) → AllPairs (λ a b. a.line < b.line) ls → LinesRise low ls
+lines_rise : (low : ℕ) (ls : List Line) → ((k : ℕ) (d : Line) → k < length ls → low ≤ (get_or ls k d).line)
+    → AllPairs (λ a b. a.line < b.line) ls → LinesRise low ls
 lines_rise low [] least pairs = tt
 lines_rise low (l ∷ ls) least pairs = (
   least 0 l (omega arith),
-  lines_rise l.line ls (λ k d within. let h : l.line < (get_or ls k d).line = pairs 0 (suc k) d (omega arith) (omega (arith, within)) in omega (arith, h))
+  lines_rise l.line ls (λ k d within. let h : l.line < (get_or ls k d).line =
+      pairs 0 (suc k) d (omega arith) (omega (arith, within)) in omega (arith, h))
       (λ i j d before within. pairs (suc i) (suc j) d (omega (arith, before)) (omega (arith, within))),
 )
 
 runs_rise : (low : ℕ) (ls : List Line) → LinesRise low ls → RunsRise low (flat_map turns_of ls)
 runs_rise low [] f = tt
-runs_rise low (l ∷ ls) f = line_runs l (range_with_len 0 l.times) low (flat_map turns_of ls) f.0 (runs_rise l.line ls f.1)
+runs_rise low (l ∷ ls) f = line_runs l (range_with_len 0 l.times) low (flat_map turns_of ls) f.0
+    (runs_rise l.line ls f.1)
 
 -- the answers with a number among those that bear one
 all_by : (by : ℕ) (as' : List Answered) → AllByRecursion (Bears by) as' → answers_by by as' ≡ as'
 all_by by [] f = refl
 all_by by (a ∷ as') f =
-    ap (λ (b : Bool). cond b (a ∷ answers_by by as') (answers_by by as')) (eq-eqb a.actor by f.0) ∙ ap (λ (l : List Answered). a ∷ l) (all_by by as' f.1)
+    ap (λ (b : Bool). cond b (a ∷ answers_by by as') (answers_by by as')) (eq-eqb a.actor by f.0) ∙ ap
+    (λ (l : List Answered). a ∷ l) (all_by by as' f.1)
 
 none_by : (by other : ℕ) (as' : List Answered) → other ≢ by → AllByRecursion (Bears other) as' → answers_by by as' ≡ []
 none_by by other [] ne f = refl
 none_by by other (a ∷ as') ne f =
-    ap (λ (b : Bool). cond b (a ∷ answers_by by as') (answers_by by as')) (ne_eqb a.actor by (λ is. ne (sym f.0 ∙ is))) ∙ none_by by other as' ne f.1
+    ap (λ (b : Bool). cond b (a ∷ answers_by by as') (answers_by by as'))
+    (ne_eqb a.actor by (λ is. ne (sym f.0 ∙ is))) ∙ none_by by other as' ne f.1
 
 -- parts that bear their numbers
 abbrev BearNumbers : ℕ → List (List Answered) → Type 0
 BearNumbers n [] = Unit {0}
 BearNumbers n (p ∷ parts) = AllByRecursion (Bears n) p × BearNumbers (suc n) parts
 
-none_of : (by n : ℕ) (parts : List (List Answered)) → by < n → BearNumbers n parts → answers_by by (joined_parts parts) ≡ []
+none_of : (by n : ℕ) (parts : List (List Answered)) → by < n → BearNumbers n parts
+    → answers_by by (joined_parts parts) ≡ []
 none_of by n [] less f = refl
 none_of by n (p ∷ parts) less f =
     filter-append (λ (a : Answered). a.actor == by) p (joined_parts parts)
-    ∙ ap (λ (l : List Answered). l ++ answers_by by (joined_parts parts)) (none_by by n p (λ is. absurd (omega (arith, less, is))) f.0)
+    ∙ ap (λ (l : List Answered). l ++ answers_by by (joined_parts parts))
+    (none_by by n p (λ is. absurd (omega (arith, less, is))) f.0)
     ∙ none_of by (suc n) parts (omega (arith, less)) f.1
 
-one_of : (n : ℕ) (parts : List (List Answered)) → BearNumbers n parts → (k : ℕ) (part : List Answered) → slice_get parts k ≡ Some part → (by : ℕ) → by ≡ n + k
+one_of : (n : ℕ) (parts : List (List Answered)) → BearNumbers n parts → (k : ℕ) (part : List Answered)
+    → slice_get parts k ≡ Some part → (by : ℕ) → by ≡ n + k
     → answers_by by (joined_parts parts) ≡ part
 one_of n [] f k part is by at = cc (is)
 one_of n (p ∷ parts) f zero part is by at =
@@ -110,10 +122,12 @@ one_of n (p ∷ parts) f zero part is by at =
     ∙ same
 one_of n (p ∷ parts) f (suc k) part is by at =
     filter-append (λ (a : Answered). a.actor == by) p (joined_parts parts)
-    ∙ ap (λ (l : List Answered). l ++ answers_by by (joined_parts parts)) (none_by by n p (λ e. absurd (omega (arith, at, e))) f.0)
+    ∙ ap (λ (l : List Answered). l ++ answers_by by (joined_parts parts))
+    (none_by by n p (λ e. absurd (omega (arith, at, e))) f.0)
     ∙ one_of (suc n) parts f.1 k part is by (omega (arith, at))
 
-bear_numbers : (n : ℕ) (parts : List (List Answered)) → ((k : ℕ) (p : List Answered) → slice_get parts k ≡ Some p → AllByRecursion (Bears (n + k)) p) → BearNumbers n parts
+bear_numbers : (n : ℕ) (parts : List (List Answered)) →
+    ((k : ℕ) (p : List Answered) → slice_get parts k ≡ Some p → AllByRecursion (Bears (n + k)) p) → BearNumbers n parts
 bear_numbers n [] each = tt
 bear_numbers n (p ∷ parts) each = (
   subst (λ m. AllByRecursion (Bears m) p) (here n) (each 0 p refl),
@@ -151,7 +165,8 @@ answers_stand script phase base log s s' agrees is_script among k part is =
         record {
           old = get_or s.actors k d;
           new = get_or agrees.mids k d;
-          turns = (agrees.actors k (get_or s.actors k d) (get_or agrees.mids k d) p (slice_get-get_or s.actors k d within)
+          turns = (agrees.actors k (get_or s.actors k d) (get_or agrees.mids k d) p
+              (slice_get-get_or s.actors k d within)
               (slice_get-get_or agrees.mids k d (omega (arith, within, agrees.same.length_is))) there).did;
         }
 
@@ -161,7 +176,8 @@ answers_stand script phase base log s s' agrees is_script among k part is =
     numbers : BearNumbers 1 agrees.parts
     numbers = bear_numbers 1 agrees.parts (λ j p there.
         let h = did j p there in
-        subst (λ m. AllByRecursion (Bears m) p) (up j) (bears (suc j) phase.at (turns_in (suc j) phase.lines) h.old p h.new h.turns))
+        subst (λ m. AllByRecursion (Bears m) p) (up j) (bears (suc j) phase.at
+        (turns_in (suc j) phase.lines) h.old p h.new h.turns))
 
     is_phase : IsPhase script.actors phase
     is_phase = All-contains (IsPhase script.actors) script.phases phase is_script.phases among
@@ -170,5 +186,6 @@ answers_stand script phase base log s s' agrees is_script among k part is =
     rising =
         let h = did k part is in
         answers_rise (suc k) phase.at (turns_in (suc k) phase.lines) 0 h.old part h.new
-        (runs_rise 0 (lines_by (suc k) phase.lines) (lines_kept (λ (l : Line). l.actor == suc k) 0 phase.lines (lines_rise 0 phase.lines (λ i d within. omega arith) is_phase.rising)))
+        (runs_rise 0 (lines_by (suc k) phase.lines) (lines_kept (λ (l : Line). l.actor == suc k) 0 phase.lines
+        (lines_rise 0 phase.lines (λ i d within. omega arith) is_phase.rising)))
         h.turns

@@ -33,9 +33,11 @@ abbrev pub point_of : {D : Type 0} → RunCourse D → Point
 point_of s = record { actors = s.actors; place = length s.board.log; answers = s.answers; reports = s.reports }
 
 module _ {D : Type 0} (told : D → Option Past) (base : Rows) where
-  module _ (converges : CompleteRoundsConverge) (accounts : RoundsHaveAccounts) (wording : Wording) (script : Script) where
+  module _ (converges : CompleteRoundsConverge) (accounts : RoundsHaveAccounts) (wording : Wording)
+      (script : Script) where
     -- one phase that was played
-    agrees_upto : (phase : Phase) (s t : RunCourse D) (p : PlaysPhase told wording script phase s t) (log : List Item) → s.board.base ≡ base
+    agrees_upto : (phase : Phase) (s t : RunCourse D) (p : PlaysPhase told wording script phase s t) (log : List Item)
+        → s.board.base ≡ base
         → StandApart (cell_names s.actors) → LogBegins (s.board.log ++ p.ran.fresh) log
         → PhaseAgrees base log phase (point_of s) (record (point_of t) { place = length (s.board.log ++ p.ran.fresh) })
     agrees_upto phase s t p log base_is apart goes = record {
@@ -49,11 +51,14 @@ module _ {D : Type 0} (told : D → Option Past) (base : Rows) where
       same = p.ran.same;
       actors = λ k a a' answers old new part.
           actor_agrees base s.board.log p.ran.fresh log goes (suc k) phase a a' answers
-          (subst (λ (r : Rows). PartRan r phase.at phase.lines s.board.log p.ran.fresh (suc k) a a' answers) base_is (p.ran.ran k a a' answers old new part));
+          (subst (λ (r : Rows). PartRan r phase.at phase.lines s.board.log p.ran.fresh (suc k) a a' answers) base_is
+          (p.ran.ran k a a' answers old new part));
       round =
-          round_agrees base s.board.log p.ran.fresh log goes converges accounts phase.round phase.at p.ran.mids t.actors p.report
+          round_agrees base s.board.log p.ran.fresh log goes converges accounts phase.round phase.at p.ran.mids t.actors
+          p.report
           (subst StandApart (sym (names_same s.actors p.ran.mids p.ran.same)) apart)
-          (subst (λ (r : Rows). RoundRan phase.round r s.board.log p.ran.fresh phase.at p.ran.mids t.actors p.report) base_is p.ran.round);
+          (subst (λ (r : Rows). RoundRan phase.round r s.board.log p.ran.fresh phase.at p.ran.mids t.actors p.report)
+          base_is p.ran.round);
       others = λ by behind. its_items base s.board.log p.ran.fresh log goes by ∙ p.ran.others by behind;
       answers = p.answers;
       reports = p.reports;
@@ -62,10 +67,13 @@ module _ {D : Type 0} (told : D → Option Past) (base : Rows) where
         first : LogBegins s.board.log log
         first = begins_then s.board.log (s.board.log ++ p.ran.fresh) log (p.ran.fresh, refl) goes
 
-    phase_agrees : (phase : Phase) (s t : RunCourse D) (p : PlaysPhase told wording script phase s t) (log : List Item) → s.board.base ≡ base
-        → StandApart (cell_names s.actors) → LogBegins t.board.log log → PhaseAgrees base log phase (point_of s) (point_of t)
+    phase_agrees : (phase : Phase) (s t : RunCourse D) (p : PlaysPhase told wording script phase s t) (log : List Item)
+        → s.board.base ≡ base
+        → StandApart (cell_names s.actors) → LogBegins t.board.log log
+        → PhaseAgrees base log phase (point_of s) (point_of t)
     phase_agrees phase s t p log base_is apart goes =
-        subst (λ (xs : List Item). PhaseAgrees base log phase (point_of s) (record (point_of t) { place = length xs })) (sym p.ran.goes.grows)
+        subst (λ (xs : List Item). PhaseAgrees base log phase (point_of s) (record (point_of t) { place = length xs }))
+        (sym p.ran.goes.grows)
         (agrees_upto phase s t p log base_is apart (subst (λ (xs : List Item). LogBegins xs log) p.ran.goes.grows goes))
 
     -- all that were played, one after another
@@ -73,9 +81,11 @@ module _ {D : Type 0} (told : D → Option Past) (base : Rows) where
       pub base_is : t.board.base ≡ base
       pub grows : LogBegins s.board.log t.board.log
       pub apart : StandApart (cell_names t.actors)
-      pub each : (log : List Item) → LogBegins t.board.log log → Each (PhaseAgrees base log) phases (point_of s) (point_of t)
+      pub each : (log : List Item) → LogBegins t.board.log log
+          → Each (PhaseAgrees base log) phases (point_of s) (point_of t)
 
-    pub phases_agree : (phases : List Phase) (s t : RunCourse D) → Each (PlaysPhase told wording script) phases s t → s.board.base ≡ base
+    pub phases_agree : (phases : List Phase) (s t : RunCourse D) → Each (PlaysPhase told wording script) phases s t
+        → s.board.base ≡ base
         → StandApart (cell_names s.actors) → Agreed phases s t
     phases_agree [] s t same base_is apart = subst (Agreed [] s) (sym same) (record {
       base_is = base_is;
@@ -85,7 +95,8 @@ module _ {D : Type 0} (told : D → Option Past) (base : Rows) where
     })
     phases_agree (phase ∷ phases) s t (m, plays, others) base_is apart =
         let rest =
-        phases_agree phases m t others (plays.ran.goes.base ∙ base_is) (subst StandApart (sym (names_same s.actors m.actors plays.ran.kept)) apart) in
+        phases_agree phases m t others (plays.ran.goes.base ∙ base_is)
+        (subst StandApart (sym (names_same s.actors m.actors plays.ran.kept)) apart) in
         record {
           base_is = rest.base_is;
           grows = begins_then s.board.log m.board.log t.board.log (plays.ran.fresh, plays.ran.goes.grows) rest.grows;
@@ -102,42 +113,56 @@ module _ {D : Type 0} (told : D → Option Past) (base : Rows) where
     calm_there : (fresh : List Item) → doubts_in (take (length s.board.log) (s.board.log ++ fresh)) ≡ 0
     calm_there fresh = ap doubts_in (begins_taken s.board.log (s.board.log ++ fresh) (fresh, refl)) ∙ calm
 
-    was_cut : (w : View D) (cut : PhaseCut told phase s.actors s.board w) → PhaseIsCut base (s.board.log ++ cut.fresh) phase (point_of s)
+    was_cut : (w : View D) (cut : PhaseCut told phase s.actors s.board w)
+        → PhaseIsCut base (s.board.log ++ cut.fresh) phase (point_of s)
     was_cut w cut = record {
       calm = calm_there cut.fresh;
       mids = cut.mids;
       same = cut.same;
       actors = λ k a a' old new.
-          actor_cut base s.board.log cut.fresh (s.board.log ++ cut.fresh) (begins_same (s.board.log ++ cut.fresh)) (suc k) phase a a'
-          (subst (λ (r : Rows). PartCut r phase.at phase.lines s.board.log cut.fresh (suc k) a a') base_is (cut.cut k a a' old new));
+          actor_cut base s.board.log cut.fresh (s.board.log ++ cut.fresh) (begins_same (s.board.log ++ cut.fresh))
+          (suc k) phase a a'
+          (subst (λ (r : Rows). PartCut r phase.at phase.lines s.board.log cut.fresh (suc k) a a') base_is
+          (cut.cut k a a' old new));
       round =
-          round_cut base s.board.log cut.fresh (s.board.log ++ cut.fresh) (begins_same (s.board.log ++ cut.fresh)) phase.round phase.at (reps_of cut.mids)
-          (subst (λ (r : Rows). IsRoundCut phase.round r s.board.log cut.fresh phase.at (reps_of cut.mids)) base_is cut.round);
+          round_cut base s.board.log cut.fresh (s.board.log ++ cut.fresh)
+          (begins_same (s.board.log ++ cut.fresh)) phase.round phase.at (reps_of cut.mids)
+          (subst (λ (r : Rows). IsRoundCut phase.round r s.board.log cut.fresh phase.at (reps_of cut.mids)) base_is
+          cut.round);
       others = λ by behind.
-          its_items base s.board.log cut.fresh (s.board.log ++ cut.fresh) (begins_same (s.board.log ++ cut.fresh)) by ∙ cut.others by behind;
+          its_items base s.board.log cut.fresh (s.board.log ++ cut.fresh)
+          (begins_same (s.board.log ++ cut.fresh)) by ∙ cut.others by behind;
     }
 
     was_untold : (w : View D) (news : List ActorState) (parts : List (List Answered)) (report : Option Report)
-        (ran : PhaseRan told phase s.actors news parts report s.board w) → PhaseIsCut base (s.board.log ++ ran.fresh) phase (point_of s)
+        (ran : PhaseRan told phase s.actors news parts report s.board w)
+        → PhaseIsCut base (s.board.log ++ ran.fresh) phase (point_of s)
     was_untold w news parts report ran = record {
       calm = calm_there ran.fresh;
       mids = ran.mids;
       same = ran.same;
       actors = λ k a a' old new.
-          actor_as_cut base s.board.log ran.fresh (s.board.log ++ ran.fresh) (begins_same (s.board.log ++ ran.fresh)) (suc k) phase a
+          actor_as_cut base s.board.log ran.fresh (s.board.log ++ ran.fresh) (begins_same (s.board.log ++ ran.fresh))
+          (suc k) phase a
           a' (get_or parts k [])
-          (subst (λ (r : Rows). PartRan r phase.at phase.lines s.board.log ran.fresh (suc k) a a' (get_or parts k [])) base_is
+          (subst (λ (r : Rows). PartRan r phase.at phase.lines s.board.log ran.fresh (suc k) a a' (get_or parts k []))
+          base_is
           (ran.ran k a a' (get_or parts k []) old new
           (slice_get-get_or parts k [] (omega (arith, slice_get_within s.actors k a old, ran.count_is)))));
       round =
-          round_as_cut base s.board.log ran.fresh (s.board.log ++ ran.fresh) (begins_same (s.board.log ++ ran.fresh)) phase.round phase.at ran.mids news report
-          (subst (λ (r : Rows). RoundRan phase.round r s.board.log ran.fresh phase.at ran.mids news report) base_is ran.round);
+          round_as_cut base s.board.log ran.fresh (s.board.log ++ ran.fresh)
+          (begins_same (s.board.log ++ ran.fresh)) phase.round phase.at ran.mids news report
+          (subst (λ (r : Rows). RoundRan phase.round r s.board.log ran.fresh phase.at ran.mids news report) base_is
+          ran.round);
       others = λ by behind.
-          its_items base s.board.log ran.fresh (s.board.log ++ ran.fresh) (begins_same (s.board.log ++ ran.fresh)) by ∙ ran.others by behind;
+          its_items base s.board.log ran.fresh (s.board.log ++ ran.fresh)
+          (begins_same (s.board.log ++ ran.fresh)) by ∙ ran.others by behind;
     }
 
     -- so is one of which nothing was told
     pub is_cut : (w : View D) → IsUntold told phase s.actors s.board w → PhaseIsCut base w.log phase (point_of s)
-    is_cut w (inl cut) = subst (λ (xs : List Item). PhaseIsCut base xs phase (point_of s)) (sym cut.goes.grows) (was_cut w cut)
+    is_cut w (inl cut) = subst (λ (xs : List Item). PhaseIsCut base xs phase (point_of s)) (sym cut.goes.grows)
+        (was_cut w cut)
     is_cut w (inr (news, parts, report, ran)) =
-        subst (λ (xs : List Item). PhaseIsCut base xs phase (point_of s)) (sym ran.goes.grows) (was_untold w news parts report ran)
+        subst (λ (xs : List Item). PhaseIsCut base xs phase (point_of s)) (sym ran.goes.grows)
+        (was_untold w news parts report ran)

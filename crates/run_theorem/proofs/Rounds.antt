@@ -76,7 +76,8 @@ module _ (base : Rows) (before fresh log : List Item) (goes : LogBegins (before 
     its_mine = its_items by ∙ append_cancel_left v.mine (by_number by fresh) later.mine.0 (sym sees.own ∙ later.mine.1)
 
   -- rows that were seen on the way, by their place
-  module _ (v w : PortView) (sees : SeesPhase base before fresh 0 v w) (m : PortView) (b : IsLater v m) (a : IsLater m w) where
+  module _ (v w : PortView) (sees : SeesPhase base before fresh 0 v w) (m : PortView) (b : IsLater v m)
+      (a : IsLater m w) where
     low_there : from ≤ length m.seen
     low_there = omega (arith, begins_within before v.seen sees.from, begins_within v.seen m.seen b.seen)
 
@@ -92,9 +93,11 @@ module _ (base : Rows) (before fresh log : List Item) (goes : LogBegins (before 
 
     rows_there : rows_seen m ≡ rows_at base log (length m.seen)
     rows_there = ap (λ (r : Rows). replay_log r m.seen) (b.base ∙ sees.base_is)
-        ∙ ap (replay_log base) (sym (begins_taken m.seen log (begins_then m.seen (before ++ fresh) log (a.seen.0 ++ sees.upto.0, whole) goes)))
+        ∙ ap (replay_log base) (sym (begins_taken m.seen log
+        (begins_then m.seen (before ++ fresh) log (a.seen.0 ++ sees.upto.0, whole) goes)))
 
-  module _ (now : Moment) (reps : List CellRep) (v w : PortView) (sees : SeesPhase base before fresh 0 v w) (items : HasItems 0 now reps v w) where
+  module _ (now : Moment) (reps : List CellRep) (v w : PortView) (sees : SeesPhase base before fresh 0 v w)
+      (items : HasItems 0 now reps v w) where
     asked_for : (i : Item) → IsAskedBetween 0 (IsOfTable items.got items.roomy now) v w i
         → IsAskedFor base log now items.got items.roomy from upto i
     asked_for i e = record {
@@ -104,7 +107,8 @@ module _ (base : Rows) (before fresh log : List Item) (goes : LogBegins (before 
           subst (λ (xs : List Item). Contains xs i) (sym (stretch v w sees e.read e.before e.after))
           (Contains-append_left e.after.seen.0 sees.upto.0 i e.behind);
       asked =
-          subst (λ (r : Rows). IsOfTable items.got items.roomy now r (command_in i)) (rows_there v w sees e.read e.before e.after) e.asked;
+          subst (λ (r : Rows). IsOfTable items.got items.roomy now r (command_in i))
+          (rows_there v w sees e.read e.before e.after) e.asked;
     }
 
     -- what holds of rows that were seen in between holds of those of a place
@@ -136,7 +140,8 @@ module _ (base : Rows) (before fresh log : List Item) (goes : LogBegins (before 
       heard = held_there (AreHeard reps now items.got) items.heard;
       left = ⊎_elim (λ none. inl none) (λ some. inr (left_there items.got items.roomy some)) items.left;
       each = λ i inside.
-          asked_for i (items.asked.each i (subst (λ (xs : List Item). Contains xs i) (its_mine 0 v w sees items.asked.later) inside));
+          asked_for i (items.asked.each i (subst (λ (xs : List Item). Contains xs i)
+          (its_mine 0 v w sees items.asked.later) inside));
     }
 
   -- so it is without items
@@ -158,7 +163,8 @@ module _ (base : Rows) (before fresh log : List Item) (goes : LogBegins (before 
       nobody i inside = omega (arith, inside.1)
 
   -- a round that was cut off, if the phase has one
-  pub round_cut : (round : Option RoundLine) (now : Moment) (reps : List CellRep) → IsRoundCut round base before fresh now reps
+  pub round_cut : (round : Option RoundLine) (now : Moment) (reps : List CellRep)
+      → IsRoundCut round base before fresh now reps
       → RoundAsksIf round base log now reps from upto
   round_cut None now reps none = its_items 0 ∙ none
   round_cut (Some line) now reps (inl none) = none_asks now reps none
@@ -168,10 +174,13 @@ module _ (base : Rows) (before fresh log : List Item) (goes : LogBegins (before 
   pub round_as_cut : (round : Option RoundLine) (now : Moment) (mids news : List ActorState) (report : Option Report)
       → RoundRan round base before fresh now mids news report → RoundAsksIf round base log now (reps_of mids) from upto
   round_as_cut None now mids news report ran = its_items 0 ∙ ran.0
-  round_as_cut (Some line) now mids news report ran = round_asks now (reps_of mids) ran.first ran.last ran.sees ran.items
+  round_as_cut (Some line) now mids news report ran = round_asks now
+      (reps_of mids) ran.first ran.last ran.sees ran.items
 
-  module _ (converges : CompleteRoundsConverge) (accounts : RoundsHaveAccounts) (now : Moment) (line : RoundLine) (olds news : List ActorState)
-      (apart : StandApart (names_of (reps_of olds))) (v w : PortView) (sees : SeesPhase base before fresh 0 v w) (later : IsLater v w) where
+  module _ (converges : CompleteRoundsConverge) (accounts : RoundsHaveAccounts) (now : Moment) (line : RoundLine)
+      (olds news : List ActorState)
+      (apart : StandApart (names_of (reps_of olds))) (v w : PortView) (sees : SeesPhase base before fresh 0 v w)
+      (later : IsLater v w) where
     report_agrees : (r : Report) → RoundOf now line (reps_of olds) (reps_of news) v w r
         → ReportAgrees base log now line from upto olds news r
     report_agrees r h = record {
@@ -188,15 +197,20 @@ module _ (base : Rows) (before fresh log : List Item) (goes : LogBegins (before 
       items = λ i inside. by_account (account.items i (subst (λ (xs : List Item). Contains xs i) is_mine inside));
       stores = h.round.reports.stores;
       complete = λ is.
-          subst (λ (x : Rows). IsConverged x r.stores now) (rows_last 0 v w sees later ∙ ap (rows_at base log) (sym h.round.reports.end_is))
-          (converges 0 now line.line (standing v (reps_of olds) (wire_at (Some (round_ends line)) 0)) (standing w (reps_of news) (wire_at h.ends h.losses)) r h.round apart is);
+          subst (λ (x : Rows). IsConverged x r.stores now) (rows_last 0 v w sees later ∙ ap (rows_at base log)
+          (sym h.round.reports.end_is))
+          (converges 0 now line.line (standing v (reps_of olds) (wire_at (Some (round_ends line)) 0))
+          (standing w (reps_of news) (wire_at h.ends h.losses)) r h.round apart is);
     }
       where
-        account : HasAccount 0 now (standing v (reps_of olds) (wire_at (Some (round_ends line)) 0)) (standing w (reps_of news) (wire_at h.ends h.losses)) r
-        account = accounts 0 now line.line (standing v (reps_of olds) (wire_at (Some (round_ends line)) 0)) (standing w (reps_of news) (wire_at h.ends h.losses)) r h.round
+        account : HasAccount 0 now (standing v (reps_of olds) (wire_at (Some (round_ends line)) 0))
+            (standing w (reps_of news) (wire_at h.ends h.losses)) r
+        account = accounts 0 now line.line (standing v (reps_of olds) (wire_at (Some (round_ends line)) 0))
+            (standing w (reps_of news) (wire_at h.ends h.losses)) r h.round
 
         is_mine : by_number 0 (between from upto log) ≡ account.mine
-        is_mine = its_items 0 ∙ append_cancel_left v.mine (by_number 0 fresh) account.mine (sym sees.own ∙ account.mine_is)
+        is_mine = its_items 0 ∙ append_cancel_left v.mine (by_number 0 fresh) account.mine
+            (sym sees.own ∙ account.mine_is)
 
         last_is : take r.end log ≡ w.seen
         last_is = ap (λ (n : ℕ). take n log) h.round.reports.end_is
@@ -221,12 +235,18 @@ module _ (base : Rows) (before fresh log : List Item) (goes : LogBegins (before 
 
     reported : (report : Option Report) → IsToldBy now line (reps_of olds) (reps_of news) v w fresh report
         → IsReported base log now line from upto olds news report
-    reported None is = (is.0, subst (λ (xs : List Item). Contains xs (Doubt 0 is.0)) (sym (fresh_between before fresh log goes)) is.1)
+    reported None is = (
+      is.0,
+      subst (λ (xs : List Item). Contains xs (Doubt 0 is.0))
+          (sym (fresh_between before fresh log goes)) is.1,
+    )
     reported (Some r) is = report_agrees r is
 
   -- a round that was held, if the phase has one
-  pub round_agrees : (converges : CompleteRoundsConverge) (accounts : RoundsHaveAccounts) (round : Option RoundLine) (now : Moment) (mids news : List ActorState)
-      (report : Option Report) → StandApart (names_of (reps_of mids)) → RoundRan round base before fresh now mids news report
+  pub round_agrees : (converges : CompleteRoundsConverge) (accounts : RoundsHaveAccounts) (round : Option RoundLine)
+      (now : Moment) (mids news : List ActorState)
+      (report : Option Report) → StandApart (names_of (reps_of mids))
+      → RoundRan round base before fresh now mids news report
       → RoundAgreesIf round base log now from upto mids news report
   round_agrees converges accounts None now mids news report apart ran = (its_items 0 ∙ ran.0, ran.1.0, ran.1.1)
   round_agrees converges accounts (Some line) now mids news report apart ran = record {
@@ -235,7 +255,8 @@ module _ (base : Rows) (before fresh log : List Item) (goes : LogBegins (before 
     kept = subst (KeepReps (reps_of mids)) (sym is) ran.kept;
     reported =
         reported converges accounts now line mids news apart ran.first ran.last ran.sees ran.items.asked.later report
-        (subst (λ (rs : List CellRep). IsToldBy now line (reps_of mids) rs ran.first ran.last fresh report) (sym is) ran.told);
+        (subst (λ (rs : List CellRep). IsToldBy now line (reps_of mids) rs ran.first ran.last fresh report)
+        (sym is) ran.told);
   }
     where
       is : reps_of news ≡ ran.reps

@@ -41,12 +41,15 @@ module _ {X : Type 0} (P : X → Type 0) (before : X → X → Bool) where
   -- what holds of each holds of each in order
   all_sorted : (xs : List X) → All P xs → All P (sorted_by before xs)
   all_sorted [] all = all
-  all_sorted (x ∷ xs) all = all_placed x (sorted_by before xs) (All-head P x xs all) (all_sorted xs (All-tail P x xs all))
+  all_sorted (x ∷ xs) all = all_placed x (sorted_by before xs) (All-head P x xs all)
+      (all_sorted xs (All-tail P x xs all))
 
-  all_joined : (parts : List (List X)) → ((k : ℕ) (p : List X) → slice_get parts k ≡ Some p → All P p) → All P (flat_map (λ (part : List X). part) parts)
+  all_joined : (parts : List (List X)) → ((k : ℕ) (p : List X) → slice_get parts k ≡ Some p → All P p)
+      → All P (flat_map (λ (part : List X). part) parts)
   all_joined [] each = All-nil P
   all_joined (p ∷ parts) each =
-      All-append P p (flat_map (λ (part : List X). part) parts) (each 0 p refl) (all_joined parts (λ k q is. each (suc k) q is))
+      All-append P p (flat_map (λ (part : List X). part) parts) (each 0 p refl)
+      (all_joined parts (λ k q is. each (suc k) q is))
 
 some_actor : (xs : List ActorState) (k : ℕ) → k < length xs → ActorState
 some_actor [] k within = absurd (omega (arith, within))
@@ -71,31 +74,40 @@ module _ (base : Rows) (log : List Item) where
             (agrees.actors k (get_or s.actors k a) (get_or agrees.mids k a) p (slice_get-get_or s.actors k a within)
             (slice_get-get_or agrees.mids k a (omega (arith, within, agrees.same.length_is))) is)
 
-    all_phases : (phases : List Phase) (s t : Point) → Each (PhaseAgrees base log) phases s t → All P s.answers → All P t.answers
+    all_phases : (phases : List Phase) (s t : Point) → Each (PhaseAgrees base log) phases s t → All P s.answers
+        → All P t.answers
     all_phases [] s t same all = subst (λ (m : Point). All P m.answers) (sym same) all
-    all_phases (phase ∷ phases) s t (m, agrees, others) all = all_phases phases m t others (all_phase phase s m agrees all)
+    all_phases (phase ∷ phases) s t (m, agrees, others) all =
+        all_phases phases m t others (all_phase phase s m agrees all)
 
   -- the answers are true
-  pub true_phases : (phases : List Phase) (s t : Point) → Each (PhaseAgrees base log) phases s t → All (IsTrueOf base log) s.answers
+  pub true_phases : (phases : List Phase) (s t : Point) → Each (PhaseAgrees base log) phases s t
+      → All (IsTrueOf base log) s.answers
       → All (IsTrueOf base log) t.answers
-  true_phases phases s t each all = all_phases (IsTrueOf base log) (λ phase from upto by a a' answers agrees. agrees.replies) phases s t each all
+  true_phases phases s t each all = all_phases (IsTrueOf base log)
+      (λ phase from upto by a a' answers agrees. agrees.replies) phases s t each all
 
-  all_fed : (answers : List Answered) → is_any_unfed answers ≡ false → All (λ (a : Answered). is_starved_end a.end ≡ false) answers
+  all_fed : (answers : List Answered) → is_any_unfed answers ≡ false
+      → All (λ (a : Answered). is_starved_end a.end ≡ false) answers
   all_fed [] none = All-nil (λ (a : Answered). is_starved_end a.end ≡ false)
   all_fed (a ∷ answers) none =
-      elim (is_starved_end a.end) as (λ b. is_starved_end a.end ≡ b → (b || is_any_unfed answers) ≡ false → All (λ (x : Answered). is_starved_end x.end ≡ false) (a ∷ answers)) [
+      elim (is_starved_end a.end) as (λ b. is_starved_end a.end ≡ b → (b || is_any_unfed answers) ≡ false
+      → All (λ (x : Answered). is_starved_end x.end ≡ false) (a ∷ answers)) [
         | true ↦ λ is no. absurd (false≢true (sym no))
         | false ↦ λ is no. All-cons (λ (x : Answered). is_starved_end x.end ≡ false) a answers is (all_fed answers no)
       ] refl none
 
   -- and none wants memory
   pub fed_phases : (phases : List Phase) (s t : Point) → Each (PhaseAgrees base log) phases s t
-      → All (λ (a : Answered). is_starved_end a.end ≡ false) s.answers → All (λ (a : Answered). is_starved_end a.end ≡ false) t.answers
+      → All (λ (a : Answered). is_starved_end a.end ≡ false) s.answers
+      → All (λ (a : Answered). is_starved_end a.end ≡ false) t.answers
   fed_phases phases s t each all =
-      all_phases (λ (a : Answered). is_starved_end a.end ≡ false) (λ phase from upto by a a' answers agrees. all_fed answers agrees.fed) phases s t each all
+      all_phases (λ (a : Answered). is_starved_end a.end ≡ false)
+      (λ phase from upto by a a' answers agrees. all_fed answers agrees.fed) phases s t each all
 
   -- a command that was legal was served where the answer is true
-  served : (by : ℕ) (command : Option Command) (answer : Option (Result Reply CallFault)) → TellsIf base log by command answer → IsServedIf base log by command answer
+  served : (by : ℕ) (command : Option Command) (answer : Option (Result Reply CallFault))
+      → TellsIf base log by command answer → IsServedIf base log by command answer
   served by None None tells = tt
   served by (Some c) None tells = tt
   served by None (Some answer) tells = absurd tells
@@ -111,14 +123,16 @@ module _ (base : Rows) (log : List Item) where
   module _ (script : Script) where
     -- the report of a phase
     new_report : (phase : Phase) → Contains script.phases phase → (round : Option RoundLine) → phase.round ≡ round
-        → (from upto : ℕ) (mids news : List ActorState) (report : Option Report) → RoundAgreesIf round base log phase.at from upto mids news report
+        → (from upto : ℕ) (mids news : List ActorState) (report : Option Report)
+        → RoundAgreesIf round base log phase.at from upto mids news report
         → (r : Report) → Contains (option_to_list report) r → IsComplete r → HasConverged script base log r
     new_report phase among None is from upto mids news report agrees r inside complete =
         absurd (nobody (subst (λ (o : Option Report). Contains (option_to_list o) r) agrees.2 inside))
       where
         nobody : Contains [] r → ⊥
         nobody h = omega (arith, h.1)
-    new_report phase among (Some line) is from upto mids news None agrees r inside complete = absurd (omega (arith, inside.1))
+    new_report phase among (Some line) is from upto mids news None agrees r inside complete =
+        absurd (omega (arith, inside.1))
     new_report phase among (Some line) is from upto mids news (Some q) agrees r inside complete =
         ⊎_elim
         (λ (same : q ≡ r).
@@ -134,8 +148,10 @@ module _ (base : Rows) (log : List Item) where
         (λ (none : Contains [] r). absurd (omega (arith, none.1)))
         (first_or_rest r q [] inside)
 
-    pub reports_converge : (phases : List Phase) (s t : Point) → ((p : Phase) → Contains phases p → Contains script.phases p)
-        → Each (PhaseAgrees base log) phases s t → ((r : Report) → Contains s.reports r → IsComplete r → HasConverged script base log r)
+    pub reports_converge : (phases : List Phase) (s t : Point)
+        → ((p : Phase) → Contains phases p → Contains script.phases p)
+        → Each (PhaseAgrees base log) phases s t → ((r : Report) → Contains s.reports r → IsComplete r
+        → HasConverged script base log r)
         → (r : Report) → Contains t.reports r → IsComplete r → HasConverged script base log r
     reports_converge [] s t among same all = λ r inside. all r (subst (λ (m : Point). Contains m.reports r) same inside)
     reports_converge (phase ∷ phases) s t among (m, agrees, others) all =
@@ -144,5 +160,7 @@ module _ (base : Rows) (log : List Item) where
         ⊎_elim
         (λ (old : Contains s.reports r). all r old complete)
         (λ (new : Contains (option_to_list agrees.report) r).
-        new_report phase (among phase (inside_first phase phases)) phase.round refl s.place m.place agrees.mids m.actors agrees.report agrees.round r new complete)
-        (Contains-append_cases s.reports (option_to_list agrees.report) r (subst (λ (xs : List Report). Contains xs r) agrees.reports inside)))
+        new_report phase (among phase (inside_first phase phases)) phase.round refl s.place m.place agrees.mids m.actors
+        agrees.report agrees.round r new complete)
+        (Contains-append_cases s.reports (option_to_list agrees.report) r
+        (subst (λ (xs : List Report). Contains xs r) agrees.reports inside)))

@@ -12,15 +12,18 @@ use Rattle.run_theorem.proofs.Doings.{cut_run, did_run}
 
 module _ (by : ℕ) (now : Moment) where
   -- the runs of lines, one after another
-  pub record DidTurns (ts : List Turn) (a : ActorState) (v : PortView) (answers : List Answered) (a' : ActorState) (w : PortView) : Type 0 where
+  pub record DidTurns (ts : List Turn) (a : ActorState) (v : PortView) (answers : List Answered) (a' : ActorState)
+      (w : PortView) : Type 0 where
     pub does : DoesTurns by now ts a answers a'
     pub says : Says answers v w
 
-  pub did_turns : (ts : List Turn) (a : ActorState) (v : PortView) (answers : List Answered) (a' : ActorState) (w : PortView)
+  pub did_turns : (ts : List Turn) (a : ActorState) (v : PortView) (answers : List Answered) (a' : ActorState)
+      (w : PortView)
       → TakesTurns by now ts a v answers a' w → DidTurns ts a v answers a' w
   did_turns [] a v answers a' w h = record {
     does = (h.0, h.1.0);
-    says = subst (λ (xs : List Answered). Says xs v w) (sym h.0) (subst (λ (x : PortView). Says [] v x) (sym h.1.1) (says_none v));
+    says = subst (λ (xs : List Answered). Says xs v w) (sym h.0)
+        (subst (λ (x : PortView). Says [] v x) (sym h.1.1) (says_none v));
   }
   did_turns (t ∷ ts) a v answers a' w (first, rest, mid, m, answers_are, run, others) =
       let one = did_run by t.line now t.act t.mark a mid v m first run in
@@ -48,7 +51,8 @@ module _ (by : ℕ) (now : Moment) where
   none_whole t a a' calls (inl h) ts = inl (ap (map (line_answer by t.line)) h.0, h.1)
   none_whole t a a' calls (inr h) ts = inr (h.0, ap (map (line_answer by t.line)) h.1, h.2)
 
-  behind_cut : (rest : List Turn) (a : ActorState) (v : PortView) (a' : ActorState) (w : PortView) → IsCutAt by now rest a v a' w → Behind rest a v a' w
+  behind_cut : (rest : List Turn) (a : ActorState) (v : PortView) (a' : ActorState) (w : PortView)
+      → IsCutAt by now rest a v a' w → Behind rest a v a' w
   behind_cut [] a v a' w h = record {
     answers = [];
     does = (refl, h.0);
@@ -67,7 +71,8 @@ module _ (by : ℕ) (now : Moment) where
         says = cut.says;
       }
 
-  pub did_first : (ts : List Turn) (a : ActorState) (v : PortView) (a' : ActorState) (w : PortView) → IsCutShort by now ts a v a' w → DidFirst ts a v a' w
+  pub did_first : (ts : List Turn) (a : ActorState) (v : PortView) (a' : ActorState) (w : PortView)
+      → IsCutShort by now ts a v a' w → DidFirst ts a v a' w
   did_first ts a v a' w h =
       let whole = did_turns h.done a v h.new h.mid h.middle h.taken in
       let behind = behind_cut h.rest h.mid h.middle a' w h.cut in

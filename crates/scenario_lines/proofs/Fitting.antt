@@ -27,12 +27,14 @@ use Rattle.scenario_lines.specs.declared.form.Form.TheVariants as form
 use Rattle.scenario_lines.specs.declared.member.Member.TheVariants as member
 
 -- what holds of all that may follow holds of what follows
-then_ok : {X Y : Type 0} (P : Y → Type 0) (r : Result X Flaw) (f : X → Result Y Flaw) → ((x : X) → IfOk (f x) P) → IfOk (r >>= f) P
+then_ok : {X Y : Type 0} (P : Y → Type 0) (r : Result X Flaw) (f : X → Result Y Flaw) → ((x : X) → IfOk (f x) P)
+    → IfOk (r >>= f) P
 then_ok P (Ok x) f all = all x
 then_ok P (Err flaw) f all = tt
 
 -- the same, where something is known of what was read
-from_ok : {X Y : Type 0} (Q : X → Type 0) (P : Y → Type 0) (r : Result X Flaw) (f : X → Result Y Flaw) → IfOk r Q → ((x : X) → Q x → IfOk (f x) P) → IfOk (r >>= f) P
+from_ok : {X Y : Type 0} (Q : X → Type 0) (P : Y → Type 0) (r : Result X Flaw) (f : X → Result Y Flaw) → IfOk r Q
+    → ((x : X) → Q x → IfOk (f x) P) → IfOk (r >>= f) P
 from_ok Q P (Ok x) f known all = all x known
 from_ok Q P (Err flaw) f known all = tt
 
@@ -40,7 +42,8 @@ from_ok Q P (Err flaw) f known all = tt
 abbrev IsTimes : ℕ → Type 0
 IsTimes n = (1 ≤ n) × (n ≤ 1000)
 
-both_true : (a b : Bool) (n : ℕ) → (a ≡ true → 1 ≤ n) → (b ≡ true → n ≤ 1000) → IfOk (or_shape (if a && b then Some n else None)) IsTimes
+both_true : (a b : Bool) (n : ℕ) → (a ≡ true → 1 ≤ n) → (b ≡ true → n ≤ 1000)
+    → IfOk (or_shape (if a && b then Some n else None)) IsTimes
 both_true true true n least most = (least refl, most refl)
 both_true true false n least most = tt
 both_true false b n least most = tt
@@ -64,9 +67,12 @@ unfolding times_in
 times_in-within d = times_if (has member.Times d) (said_for member.Times d)
 
 -- the line of an actor whose act fits it
-line-fits : (actor : Actor) (act : Act) (d : Data) → actor.cell ≡ is_of_cell act → IfOk (lost_in d >>= λ lost. times_in d >>= λ times. Ok (record { actor = actor; act = act; lost = lost; times = times })) IsActLine
+line-fits : (actor : Actor) (act : Act) (d : Data) → actor.cell ≡ is_of_cell act
+    → IfOk (lost_in d >>= λ lost. times_in d >>= λ times.
+    Ok (record { actor = actor; act = act; lost = lost; times = times })) IsActLine
 line-fits actor act d whose =
-    then_ok IsActLine (lost_in d) _ (λ lost. from_ok IsTimes IsActLine (times_in d) _ (times_in-within d) (λ times within. record { whose = whose; times = within }))
+    then_ok IsActLine (lost_in d) _ (λ lost. from_ok IsTimes IsActLine (times_in d) _ (times_in-within d)
+    (λ times within. record { whose = whose; times = within }))
 
 -- a client's act
 abbrev IsClients : Act → Type 0
@@ -91,7 +97,9 @@ asked_in-clients client.Fresh d = as_ask-clients _
 client_in-fits : (op : ClientOp) (d : Data) → IfOk (client_in op d) IsActLine
 unfolding client_in
 client_in-fits op d =
-    then_ok IsActLine (name_given member.Client d) _ (λ name. from_ok IsClients IsActLine (asked_in op d) _ (asked_in-clients op d) (λ act is. line-fits (record { cell = false; name = name }) act d is))
+    then_ok IsActLine (name_given member.Client d) _ (λ name.
+    from_ok IsClients IsActLine (asked_in op d) _ (asked_in-clients op d)
+    (λ act is. line-fits (record { cell = false; name = name }) act d is))
 
 -- a cell's act
 abbrev IsCells : Act → Type 0
@@ -120,14 +128,17 @@ done_in-cells cell.Die d = refl
 cell_in-fits : (op : CellOp) (d : Data) → IfOk (cell_line op d) IsActLine
 unfolding cell_line
 cell_in-fits op d =
-    then_ok IsActLine (name_given member.Cell d) _ (λ name. from_ok IsCells IsActLine (done_in op d) _ (done_in-cells op d) (λ act is. line-fits (record { cell = true; name = name }) act d is))
+    then_ok IsActLine (name_given member.Cell d) _ (λ name.
+    from_ok IsCells IsActLine (done_in op d) _ (done_in-cells op d)
+    (λ act is. line-fits (record { cell = true; name = name }) act d is))
 
 -- a line of each form
 content_in-fits : (f : Form) (d : Data) → IfOk (content_in f d) FitsItsActor
 unfolding phase_in
 content_in-fits form.At d = then_ok FitsItsActor (number_given member.At d) _ (λ at. tt)
 content_in-fits form.Round d = then_ok FitsItsActor (losses_in d) _ (λ losses. tt)
-content_in-fits (form.Client op) d = from_ok IsActLine FitsItsActor (client_in op d) _ (client_in-fits op d) (λ line is. is)
+content_in-fits (form.Client op) d = from_ok IsActLine FitsItsActor (client_in op d) _ (client_in-fits op d)
+    (λ line is. is)
 content_in-fits (form.Cell op) d = from_ok IsActLine FitsItsActor (cell_line op d) _ (cell_in-fits op d) (λ line is. is)
 
 -- every line

@@ -15,7 +15,8 @@ not_chosen false x y fails = refl
 
 -- bytes that aren't UTF-8 stand for nothing
 pub json_of-not_utf8 : (bytes : List ℕ) → (IsUtf8 bytes → ⊥) → json_said bytes ≡ Err BadJson
-json_of-not_utf8 bytes isnt = not_chosen (is_utf8 bytes) (or_json (read bytes)) (Err BadJson) (λ passes. isnt (IsUtf8-from_is_utf8 bytes passes))
+json_of-not_utf8 bytes isnt = not_chosen (is_utf8 bytes) (or_json (read bytes)) (Err BadJson)
+    (λ passes. isnt (IsUtf8-from_is_utf8 bytes passes))
 
 -- UTF-8 stands for what is read of it
 pub json_of-utf8 : (bytes : List ℕ) → IsUtf8 bytes → json_said bytes ≡ or_json (read bytes)

@@ -61,10 +61,12 @@ or_later-none (Some (Some d)) = refl
 
 -- what is kept, with the entries to come, is what all entries say
 abbrev pub KeptSoFar : Kept → List Entry → List Entry → Type 0
-KeptSoFar said later all = (m : Member) → or_later (kept_at said m) (value_named (word m) later) ≡ Some (value_named (word m) all)
+KeptSoFar said later all = (m : Member) → or_later (kept_at said m) (value_named (word m) later)
+    ≡ Some (value_named (word m) all)
 
 -- at the end all is kept
-pub all_kept : (said : Kept) (all : List Entry) → KeptSoFar said [] all → (m : Member) → kept_at said m ≡ Some (value_named (word m) all)
+pub all_kept : (said : Kept) (all : List Entry) → KeptSoFar said [] all → (m : Member)
+    → kept_at said m ≡ Some (value_named (word m) all)
 all_kept said all so_far m = sym (or_later-none (kept_at said m)) ∙ so_far m
 
 pick_other : {X : Type 0} (o : Ordering) (x y : X) → is_eq o ≡ false → cond (is_eq o) y x ≡ x
@@ -78,16 +80,21 @@ pick_same Equal x y e = refl
 pick_same Greater x y e = absurd (true≢false (sym e))
 
 -- an entry of another name is passed over
-passed_over : (k : List ℕ) (e : Entry) (later : List Entry) → bytes_eq k (string_bytes e.0) ≡ false → value_named k (e ∷ later) ≡ value_named k later
-passed_over k e later other = pick_other (slice_cmp nat_cmp k (string_bytes e.0)) _ _ (is_eq-slice_cmp k (string_bytes e.0) ∙ other)
+passed_over : (k : List ℕ) (e : Entry) (later : List Entry) → bytes_eq k (string_bytes e.0) ≡ false
+    → value_named k (e ∷ later) ≡ value_named k later
+passed_over k e later other = pick_other (slice_cmp nat_cmp k (string_bytes e.0)) _ _
+    (is_eq-slice_cmp k (string_bytes e.0) ∙ other)
 
 -- an entry of this name is found
-found_first : (k : List ℕ) (e : Entry) (later : List Entry) → bytes_eq k (string_bytes e.0) ≡ true → value_named k (e ∷ later) ≡ Some e.1
-found_first k e later same = pick_same (slice_cmp nat_cmp k (string_bytes e.0)) _ _ (is_eq-slice_cmp k (string_bytes e.0) ∙ same)
+found_first : (k : List ℕ) (e : Entry) (later : List Entry) → bytes_eq k (string_bytes e.0) ≡ true
+    → value_named k (e ∷ later) ≡ Some e.1
+found_first k e later same = pick_same (slice_cmp nat_cmp k (string_bytes e.0)) _ _
+    (is_eq-slice_cmp k (string_bytes e.0) ∙ same)
 
 -- a name that is a member's word names it
 pub named_by : (m : Member) (name : List ℕ) → bytes_eq (word m) name ≡ true → member_named name ≡ Some m
-named_by m name same = subst (λ w. member_named w ≡ Some m) ((bytes_eq-Decides (word m) name).0 same) (member_named-word m)
+named_by m name same = subst (λ w. member_named w ≡ Some m) ((bytes_eq-Decides (word m) name).0 same)
+    (member_named-word m)
 
 pub some-some : {X : Type 0} (x y : X) → Some x ≡ Some y → x ≡ y
 some-some x y e = ap (λ o. unwrap_or o x) e
@@ -95,15 +102,18 @@ some-some x y e = ap (λ o. unwrap_or o x) e
 pub none-some : {X Y : Type 0} (x : X) → None ≡ Some x → Y
 none-some x e = absurd (true≢false (sym (ap is_some e)))
 
-word_by : (b : Bool) (name w : List ℕ) (k m : Member) (rest : Option Member) → (b ≡ true → name ≡ w) → w ≡ word k → (rest ≡ Some m → name ≡ word m) → (if b then Some k else rest) ≡ Some m → name ≡ word m
+word_by : (b : Bool) (name w : List ℕ) (k m : Member) (rest : Option Member) → (b ≡ true → name ≡ w) → w ≡ word k
+    → (rest ≡ Some m → name ≡ word m) → (if b then Some k else rest) ≡ Some m → name ≡ word m
 word_by true name w k m rest same is more e = same refl ∙ is ∙ ap word (some-some k m e)
 word_by false name w k m rest same is more e = more e
 
-one_word : (name w : List ℕ) (k m : Member) (rest : Option Member) → w ≡ word k → (rest ≡ Some m → name ≡ word m) → (if bytes_eq name w then Some k else rest) ≡ Some m → name ≡ word m
+one_word : (name w : List ℕ) (k m : Member) (rest : Option Member) → w ≡ word k → (rest ≡ Some m → name ≡ word m)
+    → (if bytes_eq name w then Some k else rest) ≡ Some m → name ≡ word m
 one_word name w k m rest = word_by (bytes_eq name w) name w k m rest (bytes_eq-Decides name w).0
 
 -- what holds in either case holds by a test
-by_either : (b : Bool) (first rest : Option Member) (m : Member) (P : Type 0) → (first ≡ Some m → P) → (rest ≡ Some m → P) → (if b then first else rest) ≡ Some m → P
+by_either : (b : Bool) (first rest : Option Member) (m : Member) (P : Type 0) → (first ≡ Some m → P)
+    → (rest ≡ Some m → P) → (if b then first else rest) ≡ Some m → P
 by_either true first rest m P in_first in_rest e = in_first e
 by_either false first rest m P in_first in_rest e = in_rest e
 
@@ -156,7 +166,10 @@ word-member_named name m =
 
 -- the members by their places
 abbrev by_place : List Member
-by_place = member.At ∷ member.Client ∷ member.Cell ∷ member.Op ∷ member.Lost ∷ member.Times ∷ member.Process ∷ member.Domain ∷ member.Instances ∷ member.Memory ∷ member.Disk ∷ member.Tag ∷ member.Route ∷ member.Port ∷ member.Index ∷ member.Name ∷ member.Zone ∷ member.Containers ∷ member.Ttl ∷ member.Failed ∷ member.LoseAsk ∷ member.LoseStop ∷ member.LoseStart ∷ member.LoseReply ∷ []
+by_place = member.At ∷ member.Client ∷ member.Cell ∷ member.Op ∷ member.Lost ∷ member.Times ∷ member.Process
+    ∷ member.Domain ∷ member.Instances ∷ member.Memory ∷ member.Disk ∷ member.Tag ∷ member.Route ∷ member.Port
+    ∷ member.Index ∷ member.Name ∷ member.Zone ∷ member.Containers ∷ member.Ttl ∷ member.Failed ∷ member.LoseAsk
+    ∷ member.LoseStop ∷ member.LoseStart ∷ member.LoseReply ∷ []
 
 by_place-place : (m : Member) → slice_get by_place (place m) ≡ Some m
 by_place-place member.At = refl
@@ -187,12 +200,14 @@ by_place-place member.LoseReply = refl
 pub place-apart : (m n : Member) → place m ≡ place n → m ≡ n
 place-apart m n e = some-some m n (sym (by_place-place m) ∙ ap (slice_get by_place) e ∙ by_place-place n)
 
-get_set_same : {X : Type 0} (xs : List X) (i : ℕ) (a x : X) → slice_get xs i ≡ Some x → slice_get (slice_set xs i a) i ≡ Some a
+get_set_same : {X : Type 0} (xs : List X) (i : ℕ) (a x : X) → slice_get xs i ≡ Some x
+    → slice_get (slice_set xs i a) i ≡ Some a
 get_set_same [] i a x e = none-some x e
 get_set_same (y ∷ xs) zero a x e = refl
 get_set_same (y ∷ xs) (suc i) a x e = get_set_same xs i a x e
 
-get_set_other : {X : Type 0} (xs : List X) (i j : ℕ) (a : X) → (i ≡ j → ⊥) → slice_get (slice_set xs i a) j ≡ slice_get xs j
+get_set_other : {X : Type 0} (xs : List X) (i j : ℕ) (a : X) → (i ≡ j → ⊥)
+    → slice_get (slice_set xs i a) j ≡ slice_get xs j
 get_set_other [] i j a ne = refl
 get_set_other (y ∷ xs) zero zero a ne = absurd (ne refl)
 get_set_other (y ∷ xs) zero (suc j) a ne = refl
@@ -204,38 +219,52 @@ by_test true if_true if_false = if_true refl
 by_test false if_true if_false = if_false refl
 
 -- a place that is filled hides what is to come
-full-hides : (said : Kept) (m : Member) (slot : Option (Bor Value)) → slice_get said (place m) ≡ Some slot → is_some slot ≡ true → (x y : Option Value) → or_later (kept_at said m) x ≡ or_later (kept_at said m) y
+full-hides : (said : Kept) (m : Member) (slot : Option (Bor Value)) → slice_get said (place m) ≡ Some slot
+    → is_some slot ≡ true → (x y : Option Value) → or_later (kept_at said m) x ≡ or_later (kept_at said m) y
 full-hides said m None at full x y = absurd (true≢false (sym full))
 full-hides said m (Some v) at full x y = rw at refl
 
 -- a place that is empty takes what is to come
-empty-takes : (said : Kept) (m : Member) (slot : Option (Bor Value)) → slice_get said (place m) ≡ Some slot → is_some slot ≡ false → (x : Option Value) → or_later (kept_at said m) x ≡ Some x
+empty-takes : (said : Kept) (m : Member) (slot : Option (Bor Value)) → slice_get said (place m) ≡ Some slot
+    → is_some slot ≡ false → (x : Option Value) → or_later (kept_at said m) x ≡ Some x
 empty-takes said m None at empty x = rw at refl
 empty-takes said m (Some v) at empty x = absurd (true≢false empty)
 
 -- an entry whose name is no member's changes nothing
-pub unnamed_step : (said : Kept) (e : Entry) (later all : List Entry) → member_named (string_bytes e.0) ≡ None → KeptSoFar said (e ∷ later) all → KeptSoFar said later all
+pub unnamed_step : (said : Kept) (e : Entry) (later all : List Entry) → member_named (string_bytes e.0) ≡ None
+    → KeptSoFar said (e ∷ later) all → KeptSoFar said later all
 unnamed_step said e later all unnamed so_far k =
-    by_test (bytes_eq (word k) (string_bytes e.0)) (λ same. none-some k (sym unnamed ∙ named_by k (string_bytes e.0) same))
+    by_test (bytes_eq (word k) (string_bytes e.0)) (λ same.
+    none-some k (sym unnamed ∙ named_by k (string_bytes e.0) same))
     (λ other. ap (or_later (kept_at said k)) (sym (passed_over (word k) e later other)))
     ∙ so_far k
 
 -- an entry whose place is filled changes nothing
-pub full_step : (said : Kept) (e : Entry) (later all : List Entry) (m : Member) (slot : Option (Bor Value)) → member_named (string_bytes e.0) ≡ Some m → slice_get said (place m) ≡ Some slot → is_some slot ≡ true → KeptSoFar said (e ∷ later) all → KeptSoFar said later all
+pub full_step : (said : Kept) (e : Entry) (later all : List Entry) (m : Member) (slot : Option (Bor Value))
+    → member_named (string_bytes e.0) ≡ Some m → slice_get said (place m) ≡ Some slot → is_some slot ≡ true
+    → KeptSoFar said (e ∷ later) all → KeptSoFar said later all
 full_step said e later all m slot named at full so_far k =
     by_test (bytes_eq (word k) (string_bytes e.0))
-    (λ same. full-hides said k slot (subst (λ n. slice_get said (place n) ≡ Some slot) (some-some m k (sym named ∙ named_by k (string_bytes e.0) same)) at) full _ _)
+    (λ same. full-hides said k slot (subst (λ n. slice_get said (place n) ≡ Some slot)
+    (some-some m k (sym named ∙ named_by k (string_bytes e.0) same)) at) full _ _)
     (λ other. ap (or_later (kept_at said k)) (sym (passed_over (word k) e later other)))
     ∙ so_far k
 
-kept_set_same : (said : Kept) (m k : Member) (slot : Option (Bor Value)) (v : Bor Value) (x : Option Value) → m ≡ k → slice_get said (place m) ≡ Some slot → or_later (kept_at (slice_set said (place m) (Some v)) k) x ≡ Some (Some v.now)
-kept_set_same said m k slot v x same at = subst (λ n. or_later (kept_at (slice_set said (place m) (Some v)) n) x ≡ Some (Some v.now)) same (rw (get_set_same said (place m) (Some v) slot at) refl)
+kept_set_same : (said : Kept) (m k : Member) (slot : Option (Bor Value)) (v : Bor Value) (x : Option Value) → m ≡ k
+    → slice_get said (place m) ≡ Some slot → or_later (kept_at (slice_set said (place m) (Some v)) k) x
+    ≡ Some (Some v.now)
+kept_set_same said m k slot v x same at = subst (λ n. or_later (kept_at (slice_set said (place m) (Some v)) n) x
+    ≡ Some (Some v.now)) same (rw (get_set_same said (place m) (Some v) slot at) refl)
 
-kept_set_other : (said : Kept) (m k : Member) (v : Bor Value) → (m ≡ k → ⊥) → kept_at (slice_set said (place m) (Some v)) k ≡ kept_at said k
-kept_set_other said m k v apart = ap (option_map (option_map (λ w. w.now))) (get_set_other said (place m) (place k) (Some v) (λ e. apart (place-apart m k e)))
+kept_set_other : (said : Kept) (m k : Member) (v : Bor Value) → (m ≡ k → ⊥)
+    → kept_at (slice_set said (place m) (Some v)) k ≡ kept_at said k
+kept_set_other said m k v apart = ap (option_map (option_map (λ w. w.now)))
+    (get_set_other said (place m) (place k) (Some v) (λ e. apart (place-apart m k e)))
 
 -- an entry whose place is empty is kept there
-pub empty_step : (said : Kept) (e : Entry) (later all : List Entry) (m : Member) (slot : Option (Bor Value)) (v : Bor Value) → v.now ≡ e.1 → member_named (string_bytes e.0) ≡ Some m → slice_get said (place m) ≡ Some slot → is_some slot ≡ false → KeptSoFar said (e ∷ later) all
+pub empty_step : (said : Kept) (e : Entry) (later all : List Entry) (m : Member) (slot : Option (Bor Value))
+    (v : Bor Value) → v.now ≡ e.1 → member_named (string_bytes e.0) ≡ Some m → slice_get said (place m) ≡ Some slot
+    → is_some slot ≡ false → KeptSoFar said (e ∷ later) all
     → KeptSoFar (slice_set said (place m) (Some v)) later all
 empty_step said e later all m slot v is named at empty so_far k =
     by_test (bytes_eq (word k) (string_bytes e.0))
@@ -245,14 +274,16 @@ empty_step said e later all m slot v is named at empty so_far k =
     ∙ sym (ap Some (found_first (word k) e later same))
     ∙ sym (empty-takes said k slot (subst (λ n. slice_get said (place n) ≡ Some slot) one at) empty _))
     (λ other.
-    let apart : m ≡ k → ⊥ = λ one. true≢false (sym ((bytes_eq-Decides (word k) (string_bytes e.0)).1 (ap word (sym one) ∙ sym (word-member_named (string_bytes e.0) m named))) ∙ other) in
+    let apart : m ≡ k → ⊥ = λ one. true≢false (sym ((bytes_eq-Decides (word k) (string_bytes e.0)).1
+    (ap word (sym one) ∙ sym (word-member_named (string_bytes e.0) m named))) ∙ other) in
     ap (λ o. or_later o (value_named (word k) later)) (kept_set_other said m k v apart)
     ∙ ap (or_later (kept_at said k)) (sym (passed_over (word k) e later other)))
     ∙ so_far k
 
 -- 24 empty places
 abbrev pub nothing : Kept
-nothing = None ∷ None ∷ None ∷ None ∷ None ∷ None ∷ None ∷ None ∷ None ∷ None ∷ None ∷ None ∷ None ∷ None ∷ None ∷ None ∷ None ∷ None ∷ None ∷ None ∷ None ∷ None ∷ None ∷ None ∷ []
+nothing = None ∷ None ∷ None ∷ None ∷ None ∷ None ∷ None ∷ None ∷ None ∷ None ∷ None ∷ None ∷ None ∷ None ∷ None ∷ None
+    ∷ None ∷ None ∷ None ∷ None ∷ None ∷ None ∷ None ∷ None ∷ []
 
 -- before the first entry nothing is kept
 pub none_kept : (all : List Entry) → KeptSoFar nothing all all
@@ -286,7 +317,10 @@ now-view None = refl
 now-view (Some v) = refl
 
 -- what is read at a place stands for the value that is kept there
-pub read_kept : (said : Kept) (i : ℕ) (x : Option (Bor Value)) (o : Option Value) → x ≡ slice_index_or said i x → option_map (option_map (λ v. v.now)) (slice_get said i) ≡ Some o → option_map (λ v. view v.now) x ≡ option_map view o
+pub read_kept : (said : Kept) (i : ℕ) (x : Option (Bor Value)) (o : Option Value) → x ≡ slice_index_or said i x
+    → option_map (option_map (λ v. v.now)) (slice_get said i) ≡ Some o
+    → option_map (λ v. view v.now) x ≡ option_map view o
 read_kept [] i x o is kept = none-some o kept
-read_kept (y ∷ said) zero x o is kept = ap (option_map (λ v. view v.now)) is ∙ now-view y ∙ ap (option_map view) (some-some (option_map (λ v. v.now) y) o kept)
+read_kept (y ∷ said) zero x o is kept = ap (option_map (λ v. view v.now)) is ∙ now-view y ∙ ap (option_map view)
+    (some-some (option_map (λ v. v.now) y) o kept)
 read_kept (y ∷ said) (suc i) x o is kept = read_kept said i x o is kept

@@ -25,7 +25,8 @@ one_place a b =
     let one : a ≡ b = some-some a b (sym (named_by a (word b) same) ∙ member_named-word b) in
     subst (λ m. (place a == place m) ≡ true) one (itself (place a)) ∙ sym same)
     (λ other.
-    apart (place a) (place b) (λ e. true≢false (sym ((bytes_eq-Decides (word a) (word b)).1 (ap word (place-apart a b e))) ∙ other)) ∙ sym other)
+    apart (place a) (place b) (λ e. true≢false (sym ((bytes_eq-Decides (word a) (word b)).1
+    (ap word (place-apart a b e))) ∙ other)) ∙ sym other)
 
 -- a member is one of these, by its place or by its word
 by_place_or_word : (ms : List Member) (m : Member) → list_any (λ one. place one == place m) ms ≡ is_one_of ms (word m)
@@ -41,9 +42,12 @@ none_of (one ∷ ms) name unnamed =
     (λ other. rw (other, none_of ms name unnamed) refl)
 
 -- a member is known by its place
-is_known-member : (f : Form) (name : List ℕ) (m : Member) → member_named name ≡ Some m → (list_any (λ one. place one == place m) (needs f) || list_any (λ one. place one == place m) (allows f)) ≡ is_known f name
+is_known-member : (f : Form) (name : List ℕ) (m : Member) → member_named name ≡ Some m
+    → (list_any (λ one. place one == place m) (needs f) || list_any (λ one. place one == place m) (allows f))
+    ≡ is_known f name
 is_known-member f name m named =
-    rw (by_place_or_word (needs f) m, by_place_or_word (allows f) m) (ap (is_known f) (sym (word-member_named name m named)))
+    rw (by_place_or_word (needs f) m, by_place_or_word (allows f) m)
+    (ap (is_known f) (sym (word-member_named name m named)))
 
 holds_first : (a b : Bool) → a ≡ true → true ≡ (a || b)
 holds_first true b holds = refl
@@ -54,14 +58,19 @@ holds_second true b fails = absurd (true≢false fails)
 holds_second false b fails = refl
 
 -- a member that the form needs is known
-pub is_known-needed : (f : Form) (name : List ℕ) (m : Member) (needed : Bool) → member_named name ≡ Some m → needed ≡ list_any (λ one. place one == place m) (needs f) → needed ≡ true → needed ≡ is_known f name
+pub is_known-needed : (f : Form) (name : List ℕ) (m : Member) (needed : Bool) → member_named name ≡ Some m
+    → needed ≡ list_any (λ one. place one == place m) (needs f) → needed ≡ true → needed ≡ is_known f name
 is_known-needed f name m needed named is holds =
-    holds ∙ holds_first _ (list_any (λ one. place one == place m) (allows f)) (sym is ∙ holds) ∙ is_known-member f name m named
+    holds ∙ holds_first _ (list_any (λ one. place one == place m) (allows f))
+    (sym is ∙ holds) ∙ is_known-member f name m named
 
 -- and another one where the form allows it
-pub is_known-allowed : (f : Form) (name : List ℕ) (m : Member) (needed allowed : Bool) → member_named name ≡ Some m → needed ≡ list_any (λ one. place one == place m) (needs f) → needed ≡ false → allowed ≡ list_any (λ one. place one == place m) (allows f) → allowed ≡ is_known f name
+pub is_known-allowed : (f : Form) (name : List ℕ) (m : Member) (needed allowed : Bool) → member_named name ≡ Some m
+    → needed ≡ list_any (λ one. place one == place m) (needs f) → needed ≡ false
+    → allowed ≡ list_any (λ one. place one == place m) (allows f) → allowed ≡ is_known f name
 is_known-allowed f name m needed allowed named is fails also =
-    also ∙ holds_second _ (list_any (λ one. place one == place m) (allows f)) (sym is ∙ fails) ∙ is_known-member f name m named
+    also ∙ holds_second _ (list_any (λ one. place one == place m) (allows f))
+    (sym is ∙ fails) ∙ is_known-member f name m named
 
 -- what is no member is unknown
 pub is_known-unnamed : (f : Form) (name : List ℕ) → member_named name ≡ None → is_known f name ≡ false

@@ -9,6 +9,7 @@ onto names (Ok more) = Ok (names ++ more)
 onto names (Err flaw) = Err flaw
 
 -- a name goes from those to come to those so far
-pub onto-next : (names : List (List ℕ)) (name : List ℕ) (rest : Result (List (List ℕ)) Flaw) → onto names (rest >>= λ more. Ok (name ∷ more)) ≡ onto (names ++ name ∷ []) rest
+pub onto-next : (names : List (List ℕ)) (name : List ℕ) (rest : Result (List (List ℕ)) Flaw)
+    → onto names (rest >>= λ more. Ok (name ∷ more)) ≡ onto (names ++ name ∷ []) rest
 onto-next names name (Ok more) = ap Ok (sym (append_assoc names (name ∷ []) more))
 onto-next names name (Err flaw) = refl

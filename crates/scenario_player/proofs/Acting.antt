@@ -26,11 +26,13 @@ use Rattle.scenario_player.specs.Actors.{starting_actors, new_actor}
 pub lines_of : (by : ℕ) (lines : List Line) → All (λ l. Contains lines l × (l.actor ≡ by)) (lines_by by lines)
 lines_of by lines k d within = (
   All-filter (λ (l : Line). l.actor == by) (Contains lines) lines (All-contains_itself lines) k d within,
-  eqb-true (slice_index_or (lines_by by lines) k d).actor by (filter_passes (λ (l : Line). l.actor == by) lines k d within),
+  eqb-true (slice_index_or (lines_by by lines) k d).actor by
+      (filter_passes (λ (l : Line). l.actor == by) lines k d within),
 )
 
 -- one that was a cell, or none, does what it can do
-fits_begun : (op : Act) (cell : Bool) (name : List ℕ) (a : ActorState) → cell ≡ is_of_cell op → IsOneActor (new_actor cell name) a → IsActOf op a
+fits_begun : (op : Act) (cell : Bool) (name : List ℕ) (a : ActorState) → cell ≡ is_of_cell op
+    → IsOneActor (new_actor cell name) a → IsActOf op a
 fits_begun (act.Client op) false name (Client n) is one = tt
 fits_begun (act.Client op) false name (Cell r) is one = absurd one
 fits_begun (act.Client op) true name a is one = absurd (cc (is))
@@ -41,7 +43,8 @@ fits_begun act.Evacuate false name a is one = absurd (cc (is))
 fits_begun act.Evacuate true name (Client n) is one = absurd one
 fits_begun act.Evacuate true name (Cell r) is one = tt
 
-module _ (script : Script) (is_script : IsScript script) (actors : List ActorState) (same : AreSameActors (starting_actors script.actors) actors) where
+module _ (script : Script) (is_script : IsScript script) (actors : List ActorState)
+    (same : AreSameActors (starting_actors script.actors) actors) where
   -- there are as many as the script has
   pub as_many : length actors ≡ length script.actors
   as_many = same.length_is ∙ length-map script.actors (λ (a : Actor). new_actor a.cell a.name)
@@ -53,8 +56,10 @@ module _ (script : Script) (is_script : IsScript script) (actors : List ActorSta
     pub is_phase : IsPhase script.actors phase
     is_phase = All-contains (IsPhase script.actors) script.phases phase is_script.phases among
 
-    one_can : (k : ℕ) (a : ActorState) → slice_get actors k ≡ Some a → (l : Line) → IsLine script.actors l → l.actor ≡ suc k → IsActOf l.act a
-    one_can k a at l line number = fits_begun l.act who.cell who.name a whose (same.one k (new_actor who.cell who.name) a began at)
+    one_can : (k : ℕ) (a : ActorState) → slice_get actors k ≡ Some a → (l : Line) → IsLine script.actors l
+        → l.actor ≡ suc k → IsActOf l.act a
+    one_can k a at l line number = fits_begun l.act who.cell who.name a whose
+        (same.one k (new_actor who.cell who.name) a began at)
       where
         some : Actor
         some = record { cell = false; name = [] }
@@ -71,11 +76,13 @@ module _ (script : Script) (is_script : IsScript script) (actors : List ActorSta
             ∙ ap (option_map (λ (x : Actor). new_actor x.cell x.name)) (slice_get-get_or script.actors k some within)
 
         whose : who.cell ≡ is_of_cell l.act
-        whose = subst (λ (n : ℕ). (slice_index_or script.actors n some).cell ≡ is_of_cell l.act) (omega (arith, number)) (line.whose some)
+        whose = subst (λ (n : ℕ). (slice_index_or script.actors n some).cell ≡ is_of_cell l.act) (omega (arith, number))
+            (line.whose some)
 
     -- each can do all of its lines
     pub can_all : CanAllDo phase.lines actors
     can_all k a at l has =
         let whose =
-        All-contains (λ (x : Line). Contains phase.lines x × (x.actor ≡ suc k)) (lines_by (suc k) phase.lines) l (lines_of (suc k) phase.lines) has in
+        All-contains (λ (x : Line). Contains phase.lines x × (x.actor ≡ suc k)) (lines_by (suc k) phase.lines) l
+        (lines_of (suc k) phase.lines) has in
         one_can k a at l (All-contains (IsLine script.actors) phase.lines l is_phase.lines whose.0) whose.1

@@ -20,6 +20,7 @@ doubts_since before log fresh none grows =
     ∙ ap doubts_in (sym grows)
 
 -- up to the place at which it stood before, the whole log is what it was
-pub log_before : (before log fresh : List Item) (from : ℕ) → from ≡ length before → log ≡ before ++ fresh → take from log ≡ before
+pub log_before : (before log fresh : List Item) (from : ℕ) → from ≡ length before → log ≡ before ++ fresh
+    → take from log ≡ before
 log_before before log fresh from is grows =
     ap (λ (n : ℕ). take n log) is ∙ ap (take (length before)) grows ∙ take-append_seam before fresh

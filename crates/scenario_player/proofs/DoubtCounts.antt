@@ -24,5 +24,6 @@ pub one_counted : (xs : List Item) (k : ℕ) (d : Item) → k < length xs → d 
     → so_far ≡ doubts_in (take k xs) → more ≡ doubts_in (d ∷ []) → so_far + more ≡ doubts_in (take (k + 1) xs)
 one_counted xs k d within is so_far more first next =
     let whole : doubts_in (take (k + 1) xs) ≡ doubts_in (take k xs) + doubts_in (d ∷ []) =
-    ap doubts_in (take_more xs k d within ∙ ap (λ (i : Item). take k xs ++ i ∷ []) (sym is)) ∙ both (take k xs) (d ∷ []) in
+    ap doubts_in (take_more xs k d within ∙ ap (λ (i : Item). take k xs ++ i ∷ []) (sym is)) ∙ both (take k xs)
+    (d ∷ []) in
     omega (arith, first, next, whole)

@@ -18,9 +18,12 @@ use Rattle.scenario_player.specs.Wordings.{Wording}
 use Rattle.scenario_player.specs.Tellings.{EndsBehind, Finishes, PhasesEnd, PhasesStop}
 use Rattle.scenario_player.proofs.Prints.{part_behind, prints_as, prints_none, prints_then}
 
-module _ {D : Type 0} (told : D → Option Past) (wording : Wording) (script : Script) (v w : View D) (kept : KeptSoFar) (held : Option (List ℕ)) (faults : ℕ) where
-  module _ (how : Ending) (mid : Option (List ℕ)) (more : ℕ) (stops : PhasesStop told wording script how v w kept held mid faults more)
-      (same : w ≡ stops.last.board) (printed : PrintsTo true stops.last.text held mid faults more) (held' : Option (List ℕ)) (faults' : ℕ) where
+module _ {D : Type 0} (told : D → Option Past) (wording : Wording) (script : Script) (v w : View D) (kept : KeptSoFar)
+    (held : Option (List ℕ)) (faults : ℕ) where
+  module _ (how : Ending) (mid : Option (List ℕ)) (more : ℕ)
+      (stops : PhasesStop told wording script how v w kept held mid faults more)
+      (same : w ≡ stops.last.board) (printed : PrintsTo true stops.last.text held mid faults more)
+      (held' : Option (List ℕ)) (faults' : ℕ) where
     abbrev line : List ℕ
     line = line_text (summary_data (summary_of w kept.phases))
 
@@ -51,7 +54,8 @@ module _ {D : Type 0} (told : D → Option Past) (wording : Wording) (script : S
     }
 
     -- the sink failed in it
-    unsummed : IsPlayedOut ending.Done stops.rest (doubts_in w.log) ⊎ IsPlayedOut ending.Doubt stops.rest (doubts_in w.log)
+    unsummed : IsPlayedOut ending.Done stops.rest (doubts_in w.log)
+        ⊎ IsPlayedOut ending.Doubt stops.rest (doubts_in w.log)
         → PrintsTo false line mid held' more faults'
         → PlaysUnsummed told wording script kept.answers kept.reports v w held held' faults faults'
     unsummed over last = record {
@@ -65,7 +69,8 @@ module _ {D : Type 0} (told : D → Option Past) (wording : Wording) (script : S
     }
 
     -- it wanted memory
-    wanting : held' ≡ mid → faults' ≡ more → PlaysCut told wording script kept.answers kept.reports v w held held' faults faults'
+    wanting : held' ≡ mid → faults' ≡ more → PlaysCut told wording script kept.answers kept.reports v w held held'
+        faults faults'
     wanting same_held same_faults = record {
       ran = stops.ran;
       rest = stops.rest;
@@ -78,23 +83,31 @@ module _ {D : Type 0} (told : D → Option Past) (wording : Wording) (script : S
     }
 
     -- so the run ends, where its text up to the summary was printed whole
-    behind_text : (how' : Ending) → IsPlayedOut ending.Done stops.rest (doubts_in w.log) ⊎ IsPlayedOut ending.Doubt stops.rest (doubts_in w.log)
-        → (PrintsTo true line mid held' more faults' → Plays told wording script how kept.answers kept.reports v w held held' faults faults')
-        → EndsBehind how how' line mid held' more faults' → Plays told wording script how' kept.answers kept.reports v w held held' faults faults'
+    behind_text : (how' : Ending) → IsPlayedOut ending.Done stops.rest (doubts_in w.log)
+        ⊎ IsPlayedOut ending.Doubt stops.rest (doubts_in w.log)
+        → (PrintsTo true line mid held' more faults' → Plays told wording script how kept.answers kept.reports v w held
+        held' faults faults')
+        → EndsBehind how how' line mid held' more faults' → Plays told wording script how' kept.answers kept.reports v w
+        held held' faults faults'
     behind_text how' over done (inl (is, last)) =
-        subst (λ (e : Ending). Plays told wording script e kept.answers kept.reports v w held held' faults faults') (sym is) (done last)
+        subst (λ (e : Ending). Plays told wording script e kept.answers kept.reports v w held held' faults faults')
+        (sym is) (done last)
     behind_text how' over done (inr (inl (is, last))) =
-        subst (λ (e : Ending). Plays told wording script e kept.answers kept.reports v w held held' faults faults') (sym is) (inr (unsummed over last))
+        subst (λ (e : Ending). Plays told wording script e kept.answers kept.reports v w held held' faults faults')
+        (sym is) (inr (unsummed over last))
     behind_text how' over done (inr (inr (is, still))) =
-        subst (λ (e : Ending). Plays told wording script e kept.answers kept.reports v w held held' faults faults') (sym is) (wanting still.0 still.1)
+        subst (λ (e : Ending). Plays told wording script e kept.answers kept.reports v w held held' faults faults')
+        (sym is) (wanting still.0 still.1)
 
   module _ (mid : Option (List ℕ)) (more : ℕ) (how' : Ending) (held' : Option (List ℕ)) (faults' : ℕ) where
     done_plays : PhasesStop told wording script ending.Done v w kept held mid faults more
         → Finishes ending.Done how' w kept.phases mid held' more faults'
         → Plays told wording script how' kept.answers kept.reports v w held held' faults faults'
     done_plays stops last =
-        behind_text ending.Done mid more stops stops.stops.0 stops.stops.1.1.1 held' faults' how' (inl (stops.stops.1.0, stops.stops.1.1.0))
-        (whole ending.Done mid more stops stops.stops.0 stops.stops.1.1.1 held' faults' (stops.stops.1.0, stops.stops.1.1.0)) last
+        behind_text ending.Done mid more stops stops.stops.0 stops.stops.1.1.1 held' faults' how'
+        (inl (stops.stops.1.0, stops.stops.1.1.0))
+        (whole ending.Done mid more stops stops.stops.0 stops.stops.1.1.1 held' faults'
+        (stops.stops.1.0, stops.stops.1.1.0)) last
 
     doubt_plays : PhasesStop told wording script ending.Doubt v w kept held mid faults more
         → Finishes ending.Doubt how' w kept.phases mid held' more faults'
@@ -107,15 +120,19 @@ module _ {D : Type 0} (told : D → Option Past) (wording : Wording) (script : S
         → Finishes ending.Unwritten how' w kept.phases mid held' more faults'
         → Plays told wording script how' kept.answers kept.reports v w held held' faults faults'
     part_plays part last =
-        subst (λ (e : Ending). Plays told wording script e kept.answers kept.reports v w held held' faults faults') (sym last.0)
-        (inl (subst (λ (h : Option (List ℕ)). PlaysPart told wording script kept.answers kept.reports v w held h faults faults') (sym last.1.0)
-        (subst (λ (n : ℕ). PlaysPart told wording script kept.answers kept.reports v w held mid faults n) (sym last.1.1) part)))
+        subst (λ (e : Ending). Plays told wording script e kept.answers kept.reports v w held held' faults faults')
+        (sym last.0)
+        (inl (subst (λ (h : Option (List ℕ)). PlaysPart told wording script kept.answers kept.reports v w held h faults
+        faults') (sym last.1.0)
+        (subst (λ (n : ℕ). PlaysPart told wording script kept.answers kept.reports v w held mid faults n)
+        (sym last.1.1) part)))
 
     cut_plays : PhasesStop told wording script ending.OutOfMemory v w kept held mid faults more
         → Finishes ending.OutOfMemory how' w kept.phases mid held' more faults'
         → Plays told wording script how' kept.answers kept.reports v w held held' faults faults'
     cut_plays stops last =
-        subst (λ (e : Ending). Plays told wording script e kept.answers kept.reports v w held held' faults faults') (sym last.0)
+        subst (λ (e : Ending). Plays told wording script e kept.answers kept.reports v w held held' faults faults')
+        (sym last.0)
         (record {
           ran = stops.ran;
           rest = stops.rest;
@@ -145,7 +162,8 @@ module _ {D : Type 0} (told : D → Option Past) (wording : Wording) (script : S
     plays ending.Exists ends last = absurd ends.stops
 
 -- there was no memory for the actors
-pub no_actors : {D : Type 0} (told : D → Option Past) (wording : Wording) (script : Script) (v : View D) (answers : List Answered) (reports : List Report)
+pub no_actors : {D : Type 0} (told : D → Option Past) (wording : Wording) (script : Script) (v : View D)
+    (answers : List Answered) (reports : List Report)
     (held : Option (List ℕ)) (faults : ℕ) → answers ≡ [] → reports ≡ []
     → Plays told wording script ending.OutOfMemory answers reports v v held held faults faults
 no_actors told wording script v answers reports held faults no_answers no_reports = record {
@@ -160,14 +178,19 @@ no_actors told wording script v answers reports held faults no_answers no_report
 }
 
 -- the same of what is equal
-pub plays_as : {D : Type 0} (told : D → Option Past) (wording : Wording) (script : Script) (how how' : Ending) (answers answers' : List Answered)
-    (reports reports' : List Report) (v w w' : View D) (held held' mid : Option (List ℕ)) (faults faults' more : ℕ) → how ≡ how'
+pub plays_as : {D : Type 0} (told : D → Option Past) (wording : Wording) (script : Script) (how how' : Ending)
+    (answers answers' : List Answered)
+    (reports reports' : List Report) (v w w' : View D) (held held' mid : Option (List ℕ)) (faults faults' more : ℕ)
+    → how ≡ how'
     → answers ≡ answers' → reports ≡ reports' → w ≡ w' → held' ≡ mid → faults' ≡ more
-    → Plays told wording script how' answers' reports' v w' held mid faults more → Plays told wording script how answers reports v w held held' faults faults'
-plays_as {D = D} told wording script how how' answers answers' reports reports' v w w' held held' mid faults faults' more a b c d e f is =
+    → Plays told wording script how' answers' reports' v w' held mid faults more
+    → Plays told wording script how answers reports v w held held' faults faults'
+plays_as {D = D} told wording script how how' answers answers' reports reports' v w w' held held' mid faults faults'
+    more a b c d e f is =
     subst (λ (x : Ending). Plays told wording script x answers reports v w held held' faults faults') (sym a)
     (subst (λ (x : List Answered). Plays told wording script how' x reports v w held held' faults faults') (sym b)
     (subst (λ (x : List Report). Plays told wording script how' answers' x v w held held' faults faults') (sym c)
     (subst (λ (x : View D). Plays told wording script how' answers' reports' v x held held' faults faults') (sym d)
-    (subst (λ (x : Option (List ℕ)). Plays told wording script how' answers' reports' v w' held x faults faults') (sym e)
+    (subst (λ (x : Option (List ℕ)). Plays told wording script how' answers' reports' v w' held x faults faults')
+    (sym e)
     (subst (λ (x : ℕ). Plays told wording script how' answers' reports' v w' held mid faults x) (sym f) is)))))

@@ -35,7 +35,8 @@ module _ (base : Rows) (log : List Item) where
       first = sym (take_min max (drop at told)) ∙ ap (λ (k : ℕ). take k (drop at told)) (ap (min max) left ∙ sym count)
 
   -- what was heard so far, with a piece more
-  pub heard_more : (so_far : List Event) (from at max : ℕ) (heard : Heard) → so_far ++ events_from base log at ≡ events_from base log from
+  pub heard_more : (so_far : List Event) (from at max : ℕ) (heard : Heard)
+      → so_far ++ events_from base log at ≡ events_from base log from
       → IsHeard base log at max heard
       → (so_far ++ heard.events) ++ events_from base log heard.upto ≡ events_from base log from
   heard_more so_far from at max heard sum piece =
@@ -46,7 +47,8 @@ module _ (base : Rows) (log : List Item) where
       ∙ sum
 
   -- at the end of the log all was heard
-  pub heard_whole : (so_far : List Event) (from at : ℕ) → so_far ++ events_from base log at ≡ events_from base log from → length log ≤ at
+  pub heard_whole : (so_far : List Event) (from at : ℕ) → so_far ++ events_from base log at ≡ events_from base log from
+      → length log ≤ at
       → so_far ≡ events_from base log from
   heard_whole so_far from at sum end =
       sym (append-nil so_far)

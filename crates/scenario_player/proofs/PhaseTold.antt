@@ -33,7 +33,8 @@ use Rattle.scenario_player.specs.Tellings.{IsPhaseTold, PhaseEnds, TellsPhase}
 use Rattle.scenario_player.proofs.Behind.{doubts_since, log_before}
 
 -- answers to lines, in another order
-pub in_order : (actors : List Actor) (lines : List Line) (xs ys : List Answered) → AreActorAnswers actors lines xs → IsPermutation xs ys
+pub in_order : (actors : List Actor) (lines : List Line) (xs ys : List Answered) → AreActorAnswers actors lines xs
+    → IsPermutation xs ys
     → AreActorAnswers actors lines ys
 in_order actors lines xs ys are same = record {
   rising = are.rising;
@@ -48,7 +49,8 @@ kept_with kept answers report = record {
   phases = kept.phases + 1;
 }
 
-module _ {D : Type 0} (told : D → Option Past) (wording : Wording) (script : Script) (phase : Phase) (olds news : List ActorState) (parts : List (List Answered))
+module _ {D : Type 0} (told : D → Option Past) (wording : Wording) (script : Script) (phase : Phase)
+    (olds news : List ActorState) (parts : List (List Answered))
     (report : Option Report) (v w : View D) (kept kept' : KeptSoFar) (answers : List Answered) (text : List ℕ) where
   -- a phase that ran is told
   pub is_told : doubts_in v.log ≡ 0 → PhaseRan told phase olds news parts report v w → answers ≡ by_line parts
@@ -69,14 +71,16 @@ module _ {D : Type 0} (told : D → Option Past) (wording : Wording) (script : S
   }
 
   -- what was told up to the place at which the phase began was told of the log before it
-  pub told_before : (PhaseRan told phase olds news parts report v w) → (Told : Rows → List Item → Type 0) → Told v.base v.log
+  pub told_before : (PhaseRan told phase olds news parts report v w) → (Told : Rows → List Item → Type 0)
+      → Told v.base v.log
       → (from : ℕ) → from ≡ length v.log → Told w.base (take from w.log)
   told_before ran Told before from begin =
       subst (λ (rows : Rows). Told rows (take from w.log)) (sym ran.goes.base)
       (subst (Told v.base) (sym (log_before v.log w.log ran.fresh from begin ran.goes.grows)) before)
 
 -- the doubts of the log are those of the items that a phase added, which was told
-pub phase_doubts : {D : Type 0} (told : D → Option Past) (wording : Wording) (script : Script) (phase : Phase) (olds news : List ActorState) (v w : View D)
+pub phase_doubts : {D : Type 0} (told : D → Option Past) (wording : Wording) (script : Script) (phase : Phase)
+    (olds news : List ActorState) (v w : View D)
     (kept kept' : KeptSoFar) (text : List ℕ) → IsPhaseTold told wording script phase olds news v w kept kept' text
     → (from : ℕ) (log : List Item) → from ≡ length v.log → log ≡ w.log
     → (count : ℕ) → count ≡ doubts_in (take (length log - from) (drop from log)) → count ≡ doubts_in w.log
@@ -86,7 +90,8 @@ phase_doubts told wording script phase olds news v w kept kept' text is_told fro
     ∙ doubts_since v.log w.log (is_told []).ran.fresh (is_told []).calm (is_told []).ran.goes.grows
 
 -- a phase that was told only added to the log, so the place at which it began stands in it
-pub place_within : {D : Type 0} (told : D → Option Past) (wording : Wording) (script : Script) (phase : Phase) (olds news : List ActorState) (v w : View D)
+pub place_within : {D : Type 0} (told : D → Option Past) (wording : Wording) (script : Script) (phase : Phase)
+    (olds news : List ActorState) (v w : View D)
     (kept kept' : KeptSoFar) (text : List ℕ) → IsPhaseTold told wording script phase olds news v w kept kept' text
     → (from : ℕ) (log : List Item) → from ≡ length v.log → log ≡ w.log → from ≤ length log
 place_within told wording script phase olds news v w kept kept' text is_told from log begin same =
@@ -99,16 +104,23 @@ pub prints_by : (whole is : Bool) (shown text : List ℕ) (held held' : Option (
     → whole ≡ is → shown ≡ text → PrintsTo is text held held' faults faults'
 prints_by whole is shown text held held' faults faults' cause front all same shows =
     subst (λ (xs : List ℕ). PrintsTo is xs held held' faults faults') shows
-    (subst (λ (b : Bool). PrintsTo b shown held held' faults faults') same (record { cause = cause; front = front; all = all }))
+    (subst (λ (b : Bool). PrintsTo b shown held held' faults faults') same
+    (record { cause = cause; front = front; all = all }))
 
 -- how a phase ends whose text was printed whole
-pub phase_ends : {D : Type 0} (told : D → Option Past) (wording : Wording) (script : Script) (phase : Phase) (olds news : List ActorState) (v w : View D)
-    (kept kept' : KeptSoFar) (held held' : Option (List ℕ)) (faults faults' count : ℕ) (how : Ending) → count ≡ doubts_in w.log
+pub phase_ends : {D : Type 0} (told : D → Option Past) (wording : Wording) (script : Script) (phase : Phase)
+    (olds news : List ActorState) (v w : View D)
+    (kept kept' : KeptSoFar) (held held' : Option (List ℕ)) (faults faults' count : ℕ) (how : Ending)
+    → count ≡ doubts_in w.log
     → ((count ≡ 0) × (how ≡ ending.Done)) ⊎ ((0 < count) × (how ≡ ending.Doubt))
     → TellsPhase told wording script phase true olds news v w kept kept' held held' faults faults'
     → PhaseEnds told wording script phase how olds news v w kept kept' held held' faults faults'
-phase_ends told wording script phase olds news v w kept kept' held held' faults faults' count how is (inl (none, done)) tells =
-    subst (λ (e : Ending). PhaseEnds told wording script phase e olds news v w kept kept' held held' faults faults') (sym done) (sym is ∙ none, tells)
-phase_ends told wording script phase olds news v w kept kept' held held' faults faults' count how is (inr (some, doubt)) tells =
-    subst (λ (e : Ending). PhaseEnds told wording script phase e olds news v w kept kept' held held' faults faults') (sym doubt)
+phase_ends told wording script phase olds news v w kept kept' held held' faults faults' count how is
+    (inl (none, done)) tells =
+    subst (λ (e : Ending). PhaseEnds told wording script phase e olds news v w kept kept' held held' faults faults')
+    (sym done) (sym is ∙ none, tells)
+phase_ends told wording script phase olds news v w kept kept' held held' faults faults' count how is
+    (inr (some, doubt)) tells =
+    subst (λ (e : Ending). PhaseEnds told wording script phase e olds news v w kept kept' held held' faults faults')
+    (sym doubt)
     (subst (λ (n : ℕ). 0 < n) is some, tells)

@@ -44,7 +44,8 @@ prints_then whole first second held mid held' faults more faults' one two = reco
 
 -- the same, where nothing more was printed
 pub prints_as : (whole : Bool) (text : List ℕ) (held mid held' : Option (List ℕ)) (faults more faults' : ℕ)
-    → PrintsTo whole text held mid faults more → held' ≡ mid → faults' ≡ more → PrintsTo whole text held held' faults faults'
+    → PrintsTo whole text held mid faults more → held' ≡ mid → faults' ≡ more
+    → PrintsTo whole text held held' faults faults'
 prints_as whole text held mid held' faults more faults' prints same_held same_faults =
     subst (λ (h : Option (List ℕ)). PrintsTo whole text held h faults faults') (sym same_held)
     (subst (λ (n : ℕ). PrintsTo whole text held mid faults n) (sym same_faults) prints)

@@ -24,23 +24,28 @@ use Rattle.scenario_player.proofs.Prints.{part_behind, prints_as, prints_none, p
 use Rattle.scenario_player.proofs.Steps.{each_more}
 
 -- so many phases ran, and their text was printed whole
-pub record RanSo {D : Type 0} (told : D → Option Past) (wording : Wording) (script : Script) (count : ℕ) (actors : List ActorState) (v w : View D) (kept : KeptSoFar)
+pub record RanSo {D : Type 0} (told : D → Option Past) (wording : Wording) (script : Script) (count : ℕ)
+    (actors : List ActorState) (v w : View D) (kept : KeptSoFar)
     (held held' : Option (List ℕ)) (faults faults' : ℕ) : Type 0 where
   pub text : List ℕ
-  pub each : Each (PlaysPhase told wording script) (take count script.phases) (beginning script v) (run_course actors w kept text)
+  pub each : Each (PlaysPhase told wording script) (take count script.phases) (beginning script v)
+      (run_course actors w kept text)
   pub prints : PrintsTo true text held held' faults faults'
   pub same : AreSameActors (starting_actors script.actors) actors
   pub counted : kept.phases ≡ count
 
 -- and the next one may run
-pub record IsSoFar {D : Type 0} (told : D → Option Past) (wording : Wording) (script : Script) (count : ℕ) (actors : List ActorState) (v w : View D) (kept : KeptSoFar)
+pub record IsSoFar {D : Type 0} (told : D → Option Past) (wording : Wording) (script : Script) (count : ℕ)
+    (actors : List ActorState) (v w : View D) (kept : KeptSoFar)
     (held held' : Option (List ℕ)) (faults faults' : ℕ) : Type 0 where
   pub ran : RanSo told wording script count actors v w kept held held' faults faults'
   pub calm : doubts_in w.log ≡ 0
 
-module _ {D : Type 0} (told : D → Option Past) (wording : Wording) (script : Script) (v : View D) (held : Option (List ℕ)) (faults : ℕ) where
+module _ {D : Type 0} (told : D → Option Past) (wording : Wording) (script : Script) (v : View D)
+    (held : Option (List ℕ)) (faults : ℕ) where
   -- none ran
-  pub none_so_far : (actors : List ActorState) (kept : KeptSoFar) → actors ≡ starting_actors script.actors → kept ≡ nothing_kept → v.log ≡ []
+  pub none_so_far : (actors : List ActorState) (kept : KeptSoFar) → actors ≡ starting_actors script.actors
+      → kept ≡ nothing_kept → v.log ≡ []
       → IsSoFar told wording script 0 actors v v kept held held faults faults
   none_so_far actors kept begin none fresh = record {
     ran = record {
@@ -64,9 +69,12 @@ module _ {D : Type 0} (told : D → Option Past) (wording : Wording) (script : S
         → RanSo told wording script (count + 1) news v w kept' held held' faults faults'
     one_more tells = record {
       text = so_far.ran.text ++ tells.text;
-      each = each_more (PlaysPhase told wording script) script.phases count phase (beginning script v) (run_course olds m kept so_far.ran.text)
-          (run_course news w kept' (so_far.ran.text ++ tells.text)) within is so_far.ran.each (tells.is_told so_far.ran.text);
-      prints = prints_then true so_far.ran.text tells.text held mid held' faults more faults' so_far.ran.prints tells.prints;
+      each = each_more (PlaysPhase told wording script) script.phases count phase (beginning script v)
+          (run_course olds m kept so_far.ran.text)
+          (run_course news w kept' (so_far.ran.text ++ tells.text)) within is so_far.ran.each
+          (tells.is_told so_far.ran.text);
+      prints = prints_then true so_far.ran.text tells.text held mid held' faults more faults' so_far.ran.prints
+          tells.prints;
       same = same_then (starting_actors script.actors) olds news so_far.ran.same (tells.is_told []).ran.kept;
       counted = tells.counted ∙ ap (λ (n : ℕ). n + 1) so_far.ran.counted;
     }
@@ -77,7 +85,8 @@ module _ {D : Type 0} (told : D → Option Past) (wording : Wording) (script : S
     so_far_more ends = record { ran = one_more ends.1; calm = ends.0 }
 
     first_of : (ran : RanSo told wording script (count + 1) news v w kept' held held' faults faults')
-        → RanFirst told wording script v (take (count + 1) script.phases) (drop (count + 1) script.phases) (run_course news w kept' ran.text)
+        → RanFirst told wording script v (take (count + 1) script.phases) (drop (count + 1) script.phases)
+        (run_course news w kept' ran.text)
     first_of ran = record { split = sym (take-append-drop (count + 1) script.phases); each = ran.each }
 
     kept_of : (ran : RanSo told wording script (count + 1) news v w kept' held held' faults faults')
@@ -113,7 +122,8 @@ module _ {D : Type 0} (told : D → Option Past) (wording : Wording) (script : S
       before = run_course olds m kept so_far.ran.text;
       last = run_course news w kept' (so_far.ran.text ++ ends.text);
       first = record {
-        split = sym (take-append-drop count script.phases) ∙ ap (λ (xs : List Phase). take count script.phases ++ xs) next;
+        split = sym (take-append-drop count script.phases) ∙ ap
+            (λ (xs : List Phase). take count script.phases ++ xs) next;
         each = so_far.ran.each;
       };
       plays = ends.is_told so_far.ran.text;
@@ -136,7 +146,8 @@ module _ {D : Type 0} (told : D → Option Past) (wording : Wording) (script : S
       kept_is = record {
         answers = ap (λ (k : KeptSoFar). k.answers) ends.0;
         reports = ap (λ (k : KeptSoFar). k.reports) ends.0;
-        phases = ap (λ (k : KeptSoFar). k.phases) ends.0 ∙ so_far.ran.counted ∙ sym (length-take-le count script.phases (omega (arith, within)));
+        phases = ap (λ (k : KeptSoFar). k.phases) ends.0 ∙ so_far.ran.counted ∙ sym
+            (length-take-le count script.phases (omega (arith, within)));
       };
       stops = (
         record {
@@ -151,7 +162,8 @@ module _ {D : Type 0} (told : D → Option Past) (wording : Wording) (script : S
     }
 
     -- so the phases end, where the next one may not run
-    pub phases_end : (how : Ending) → how ≢ ending.Done → PhaseEnds told wording script phase how olds news m w kept kept' mid held' more faults'
+    pub phases_end : (how : Ending) → how ≢ ending.Done → PhaseEnds told wording script phase how olds news m w kept
+        kept' mid held' more faults'
         → PhasesEnd told wording script how v w kept' held held' faults faults'
     phases_end ending.Done other ends = absurd (other refl)
     phases_end ending.Doubt other ends = doubt_ends ends
@@ -167,7 +179,8 @@ module _ {D : Type 0} (told : D → Option Past) (wording : Wording) (script : S
     phases_end ending.Exists other ends = absurd ends
 
   -- all phases ran
-  pub all_ran : (count : ℕ) (news : List ActorState) (w : View D) (kept : KeptSoFar) (held' : Option (List ℕ)) (faults' : ℕ)
+  pub all_ran : (count : ℕ) (news : List ActorState) (w : View D) (kept : KeptSoFar) (held' : Option (List ℕ))
+      (faults' : ℕ)
       → length script.phases ≤ count
       → count ≤ length script.phases → IsSoFar told wording script count news v w kept held held' faults faults'
       → PhasesEnd told wording script ending.Done v w kept held held' faults faults'

@@ -40,9 +40,11 @@ any-front p xs ys any = list_any-append p xs ys ∙ ap (λ b. b || list_any p ys
 -- what is at the end
 any-end : (p : Actor → Bool) (xs : List Actor) (x : Actor) → p x ≡ true → list_any p (xs ++ x ∷ []) ≡ true
 any-end p [] x passes = ap (λ b. b || false) passes
-any-end p (y ∷ ys) x passes = elim (p y) as (λ b. (b || list_any p (ys ++ x ∷ [])) ≡ true) [ true ↦ refl | false ↦ any-end p ys x passes ]
+any-end p (y ∷ ys) x passes = elim (p y) as (λ b. (b || list_any p (ys ++ x ∷ [])) ≡ true)
+    [ true ↦ refl | false ↦ any-end p ys x passes ]
 
-among-chosen : (b : Bool) (actors : List Actor) (a other : Actor) → IsAmong actors a → IsAmong (if b then actors else actors ++ other ∷ []) a
+among-chosen : (b : Bool) (actors : List Actor) (a other : Actor) → IsAmong actors a
+    → IsAmong (if b then actors else actors ++ other ∷ []) a
 among-chosen true actors a other is = is
 among-chosen false actors a other is = any-front (is_same_actor a) actors (other ∷ []) is
 
@@ -51,7 +53,8 @@ pub with_actor-keeps : (actors : List Actor) (a other : Actor) → IsAmong actor
 unfolding with_actor
 with_actor-keeps actors a other is = among-chosen (list_any (is_same_actor other) actors) actors a other is
 
-added : (actors : List Actor) (a : Actor) (b : Bool) → list_any (is_same_actor a) actors ≡ b → IsAmong (if b then actors else actors ++ a ∷ []) a
+added : (actors : List Actor) (a : Actor) (b : Bool) → list_any (is_same_actor a) actors ≡ b
+    → IsAmong (if b then actors else actors ++ a ∷ []) a
 added actors a true is = is
 added actors a false is = any-end (is_same_actor a) actors a (is_same_actor-itself a)
 
@@ -65,13 +68,17 @@ acting-keeps actors (Phase at) a is = is
 acting-keeps actors (Acts act) a is = with_actor-keeps actors a act.actor is
 acting-keeps actors (Round losses) a is = is
 
-from-keeps : (actors : List Actor) (lines : List SaidLine) (a : Actor) → IsAmong actors a → IsAmong (actors_from actors lines) a
+from-keeps : (actors : List Actor) (lines : List SaidLine) (a : Actor) → IsAmong actors a
+    → IsAmong (actors_from actors lines) a
 from-keeps actors [] a is = is
-from-keeps actors (said ∷ more) a is = from-keeps (with_acting actors said.content) more a (acting-keeps actors said.content a is)
+from-keeps actors (said ∷ more) a is = from-keeps (with_acting actors said.content) more a
+    (acting-keeps actors said.content a is)
 
-known-on : (actors : List Actor) (c : Content) (more : List SaidLine) → IsKnown (actors_from (with_acting actors c) more) c
+known-on : (actors : List Actor) (c : Content) (more : List SaidLine)
+    → IsKnown (actors_from (with_acting actors c) more) c
 known-on actors (Phase at) more = tt
-known-on actors (Acts act) more = from-keeps (with_actor actors act.actor) more act.actor (with_actor-has actors act.actor)
+known-on actors (Acts act) more = from-keeps (with_actor actors act.actor) more act.actor
+    (with_actor-has actors act.actor)
 known-on actors (Round losses) more = tt
 
 -- the actors of lines have those that act on them
@@ -81,36 +88,45 @@ actors_from-known actors (said ∷ more) =
     (known-on actors said.content more, actors_from-known (with_acting actors said.content) more)
 
 -- one more line
-pub actors_from-push : (actors : List Actor) (lines : List SaidLine) (said : SaidLine) → actors_from actors (lines ++ said ∷ []) ≡ with_acting (actors_from actors lines) said.content
+pub actors_from-push : (actors : List Actor) (lines : List SaidLine) (said : SaidLine)
+    → actors_from actors (lines ++ said ∷ []) ≡ with_acting (actors_from actors lines) said.content
 actors_from-push actors [] said = refl
 actors_from-push actors (first ∷ more) said = actors_from-push (with_acting actors first.content) more said
 
-place-kept : (p : Actor → Bool) (xs ys : List Actor) → list_any p xs ≡ true → position_or_len p (xs ++ ys) ≡ position_or_len p xs
+place-kept : (p : Actor → Bool) (xs ys : List Actor) → list_any p xs ≡ true
+    → position_or_len p (xs ++ ys) ≡ position_or_len p xs
 place-kept p [] ys any = cc
 place-kept p (x ∷ xs) ys any =
-    elim (p x) as (λ b. (b || list_any p xs) ≡ true → cond (not b) (1 + position_or_len p (xs ++ ys)) 0 ≡ cond (not b) (1 + position_or_len p xs) 0) [
+    elim (p x) as (λ b. (b || list_any p xs) ≡ true → cond (not b) (1 + position_or_len p (xs ++ ys)) 0
+    ≡ cond (not b) (1 + position_or_len p xs) 0) [
       | true ↦ λ h. refl
       | false ↦ λ h. ap (λ n. 1 + n) (place-kept p xs ys h)
     ] any
 
-place-chosen : (p : Actor → Bool) (b : Bool) (actors : List Actor) (other : Actor) → list_any p actors ≡ true → position_or_len p (if b then actors else actors ++ other ∷ []) ≡ position_or_len p actors
+place-chosen : (p : Actor → Bool) (b : Bool) (actors : List Actor) (other : Actor) → list_any p actors ≡ true
+    → position_or_len p (if b then actors else actors ++ other ∷ []) ≡ position_or_len p actors
 place-chosen p true actors other is = refl
 place-chosen p false actors other is = place-kept p actors (other ∷ []) is
 
 -- who is among the actors keeps its number when another acts
-pub actor_number-kept : (actors : List Actor) (a other : Actor) → IsAmong actors a → actor_number (with_actor actors other) a ≡ actor_number actors a
+pub actor_number-kept : (actors : List Actor) (a other : Actor) → IsAmong actors a
+    → actor_number (with_actor actors other) a ≡ actor_number actors a
 unfolding with_actor actor_number
-actor_number-kept actors a other is = ap (λ n. n + 1) (place-chosen (is_same_actor a) (list_any (is_same_actor other) actors) actors other is)
+actor_number-kept actors a other is = ap (λ n. n + 1) (place-chosen (is_same_actor a)
+    (list_any (is_same_actor other) actors) actors other is)
 
-place-end : (p : Actor → Bool) (xs : List Actor) (x : Actor) → p x ≡ true → position_or_len p (xs ++ x ∷ []) ≡ position_or_len p xs
+place-end : (p : Actor → Bool) (xs : List Actor) (x : Actor) → p x ≡ true
+    → position_or_len p (xs ++ x ∷ []) ≡ position_or_len p xs
 place-end p [] x passes = ap (λ b. cond (not b) (1 + 0) 0) passes
 place-end p (y ∷ ys) x passes = ap (λ n. cond (not (p y)) (1 + n) 0) (place-end p ys x passes)
 
-place-new : (p : Actor → Bool) (b : Bool) (actors : List Actor) (a : Actor) → p a ≡ true → position_or_len p (if b then actors else actors ++ a ∷ []) ≡ position_or_len p actors
+place-new : (p : Actor → Bool) (b : Bool) (actors : List Actor) (a : Actor) → p a ≡ true
+    → position_or_len p (if b then actors else actors ++ a ∷ []) ≡ position_or_len p actors
 place-new p true actors a is = refl
 place-new p false actors a is = place-end p actors a is
 
 -- who acts has the number that is next, or the one that it had
 pub actor_number-own : (actors : List Actor) (a : Actor) → actor_number (with_actor actors a) a ≡ actor_number actors a
 unfolding with_actor actor_number
-actor_number-own actors a = ap (λ n. n + 1) (place-new (is_same_actor a) (list_any (is_same_actor a) actors) actors a (is_same_actor-itself a))
+actor_number-own actors a = ap (λ n. n + 1) (place-new (is_same_actor a) (list_any (is_same_actor a) actors) actors a
+    (is_same_actor-itself a))

@@ -17,16 +17,25 @@ use Rattle.scenario_reader.proofs.Tracked.{own_phases, reading_of, steps-alike}
 
 -- reading these lines goes on behind those as the lines are accepted
 abbrev pub ReadsOn : List NumberedLine → Type 0
-ReadsOn lines = (before : List SaidLine) → is_too_much before ≡ false → read_from (reading_of before) lines ≡ (accepted before lines >>= λ all. Ok (reading_of all))
+ReadsOn lines = (before : List SaidLine) → is_too_much before ≡ false
+    → read_from (reading_of before) lines ≡ (accepted before lines >>= λ all. Ok (reading_of all))
 
 -- a line is placed, and the others follow
-admit-on : (before : List SaidLine) (said : SaidLine) (lines : List NumberedLine) (b t : Bool) → is_too_much (before ++ said ∷ []) ≡ t → ReadsOn lines → (((if b then Err (BadOrder said.line) else (if t then Err (TooMuch said.line) else Ok said)) >>= λ s. Ok (reading_of (before ++ s ∷ []))) >>= λ next. read_from next lines) ≡ (((if b then Err (BadOrder said.line) else (if t then Err (TooMuch said.line) else Ok said)) >>= λ s. accepted (before ++ s ∷ []) lines) >>= λ all. Ok (reading_of all))
+admit-on : (before : List SaidLine) (said : SaidLine) (lines : List NumberedLine) (b t : Bool)
+    → is_too_much (before ++ said ∷ []) ≡ t → ReadsOn lines
+    → (((if b then Err (BadOrder said.line) else (if t then Err (TooMuch said.line) else Ok said)) >>= λ s.
+    Ok (reading_of (before ++ s ∷ []))) >>= λ next. read_from next lines)
+    ≡ (((if b then Err (BadOrder said.line) else (if t then Err (TooMuch said.line) else Ok said)) >>= λ s.
+    accepted (before ++ s ∷ []) lines) >>= λ all. Ok (reading_of all))
 admit-on before said lines true t is on = refl
 admit-on before said lines false true is on = refl
 admit-on before said lines false false is on = on (before ++ said ∷ []) is
 
 -- a line is read, and the others follow
-said-on : (before : List SaidLine) (line : ℕ) (lines : List NumberedLine) (r : Result Content ScriptFault) → is_too_much before ≡ false → ReadsOn lines → ((r >>= λ c. step (reading_of before) line c) >>= λ next. read_from next lines) ≡ (((r >>= λ c. admit before (record { line = line; content = c })) >>= λ said. accepted (before ++ said ∷ []) lines) >>= λ all. Ok (reading_of all))
+said-on : (before : List SaidLine) (line : ℕ) (lines : List NumberedLine) (r : Result Content ScriptFault)
+    → is_too_much before ≡ false → ReadsOn lines → ((r >>= λ c. step (reading_of before) line c) >>= λ next.
+    read_from next lines) ≡ (((r >>= λ c. admit before (record { line = line; content = c })) >>= λ said.
+    accepted (before ++ said ∷ []) lines) >>= λ all. Ok (reading_of all))
 said-on before line lines (Err fault) within on = refl
 said-on before line lines (Ok c) within on =
     let said : SaidLine = record { line = line; content = c } in
@@ -42,18 +51,23 @@ reads-on (line ∷ lines) before within = said-on before line.number lines (said
 own-script : (lines : List SaidLine) → script_in (reading_of lines) ≡ script_said lines
 own-script lines = λ i. record { actors = (reading_of lines).actors; phases = front_of-last_phase (own_phases lines) i }
 
-of-accepted : (r : Result (List SaidLine) ScriptFault) → ((r >>= λ all. Ok (reading_of all)) >>= λ reading. Ok (script_in reading)) ≡ (r >>= λ lines. Ok (script_said lines))
+of-accepted : (r : Result (List SaidLine) ScriptFault)
+    → ((r >>= λ all. Ok (reading_of all)) >>= λ reading. Ok (script_in reading))
+    ≡ (r >>= λ lines. Ok (script_said lines))
 of-accepted (Ok lines) = ap Ok (own-script lines)
 of-accepted (Err fault) = refl
 
 -- the scenario of all that was read is the one that the bytes are
-pub script_of-read : (bytes : List ℕ) → script_of bytes ≡ (read_from start (nonblank_lines bytes) >>= λ reading. Ok (script_in reading))
+pub script_of-read : (bytes : List ℕ) → script_of bytes
+    ≡ (read_from start (nonblank_lines bytes) >>= λ reading. Ok (script_in reading))
 unfolding script_of
 script_of-read bytes =
     let lines = nonblank_lines bytes in
-    sym (ap (λ (r : Result Reading ScriptFault). r >>= λ reading. Ok (script_in reading)) (reads-on lines [] refl) ∙ of-accepted (accepted [] lines))
+    sym (ap (λ (r : Result Reading ScriptFault). r >>= λ reading. Ok (script_in reading))
+    (reads-on lines [] refl) ∙ of-accepted (accepted [] lines))
 
-goes : (fault : ScriptFault) (r : Result Reading ScriptFault) → GivesReading {X = Reading} (Err fault) r → GivesReading {X = Script} (Err fault) (r >>= λ reading. Ok (script_in reading))
+goes : (fault : ScriptFault) (r : Result Reading ScriptFault) → GivesReading {X = Reading} (Err fault) r
+    → GivesReading {X = Script} (Err fault) (r >>= λ reading. Ok (script_in reading))
 goes (BadJson line) r h = ap (λ (x : Result Reading ScriptFault). x >>= λ reading. Ok (script_in reading)) h
 goes (BadShape line) r h = ap (λ (x : Result Reading ScriptFault). x >>= λ reading. Ok (script_in reading)) h
 goes (BadName line) r h = ap (λ (x : Result Reading ScriptFault). x >>= λ reading. Ok (script_in reading)) h
@@ -62,6 +76,9 @@ goes (TooMuch line) r h = ap (λ (x : Result Reading ScriptFault). x >>= λ read
 goes OutOfMemory r h = tt
 
 -- the fault of what was read is the fault of the bytes
-pub gives_fault : (fault : ScriptFault) (bytes : List ℕ) → GivesReading {X = Reading} (Err fault) (read_from start (nonblank_lines bytes)) → GivesReading {X = Script} (Err fault) (script_of bytes)
+pub gives_fault : (fault : ScriptFault) (bytes : List ℕ)
+    → GivesReading {X = Reading} (Err fault) (read_from start (nonblank_lines bytes))
+    → GivesReading {X = Script} (Err fault) (script_of bytes)
 gives_fault fault bytes h =
-    subst (GivesReading {X = Script} (Err fault)) (sym (script_of-read bytes)) (goes fault (read_from start (nonblank_lines bytes)) h)
+    subst (GivesReading {X = Script} (Err fault)) (sym (script_of-read bytes))
+    (goes fault (read_from start (nonblank_lines bytes)) h)

@@ -17,7 +17,8 @@ same-acting : (actors : List Actor) (c : Content) → SameNumbers actors (with_a
 same-acting actors (At at) c line known = refl
 same-acting actors (Acts act) (At at) line known = refl
 same-acting actors (Acts act) (Acts other) line known =
-    ap (λ (n : ℕ). Some (record { line = line; actor = n; act = other.act; lost = other.lost; times = other.times })) (actor_number-kept actors other.actor act.actor known)
+    ap (λ (n : ℕ). Some (record { line = line; actor = n; act = other.act; lost = other.lost; times = other.times }))
+    (actor_number-kept actors other.actor act.actor known)
 same-acting actors (Acts act) (Round losses) line known = refl
 same-acting actors (Round losses) c line known = refl
 
@@ -30,20 +31,30 @@ known-until actors (said ∷ more) known =
       | Round losses ↦ (known.0, known-until actors more known.1)
     ]
 
-acts-kept : (actors others : List Actor) (lines : List SaidLine) → SameNumbers actors others → AreKnown actors lines → acts_in others lines ≡ acts_in actors lines
+acts-kept : (actors others : List Actor) (lines : List SaidLine) → SameNumbers actors others → AreKnown actors lines
+    → acts_in others lines ≡ acts_in actors lines
 acts-kept actors others [] same known = refl
 acts-kept actors others (said ∷ more) same known =
     λ i. cons_option (same said.content said.line known.0 i) (acts-kept actors others more same known.1 i)
 
-kept : (actors others : List Actor) (lines : List SaidLine) → SameNumbers actors others → AreKnown actors lines → phases_of others lines ≡ phases_of actors lines
+kept : (actors others : List Actor) (lines : List SaidLine) → SameNumbers actors others → AreKnown actors lines
+    → phases_of others lines ≡ phases_of actors lines
 kept actors others [] same known = refl
 kept actors others (said ∷ more) same known =
-    elim said.content as (λ c. begun_by others c more ++ phases_of others more ≡ begun_by actors c more ++ phases_of actors more) [
-      | At at ↦ λ i. record { at = at; lines = acts-kept actors others (until_at more) same (known-until actors more known.1) i; round = round_in (until_at more) } ∷ kept actors others more same known.1 i
+    elim said.content as (λ c. begun_by others c more ++ phases_of others more ≡ begun_by actors c more
+    ++ phases_of actors more) [
+      | At at ↦ λ i. record {
+        at = at;
+        lines = acts-kept actors others (until_at more) same
+            (known-until actors more known.1) i;
+        round = round_in (until_at more);
+      }
+          ∷ kept actors others more same known.1 i
       | Acts act ↦ kept actors others more same known.1
       | Round losses ↦ kept actors others more same known.1
     ]
 
 -- the phases of lines stay when an actor acts on one more
-pub phases_of-kept : (actors : List Actor) (lines : List SaidLine) (c : Content) → AreKnown actors lines → phases_of (with_acting actors c) lines ≡ phases_of actors lines
+pub phases_of-kept : (actors : List Actor) (lines : List SaidLine) (c : Content) → AreKnown actors lines
+    → phases_of (with_acting actors c) lines ≡ phases_of actors lines
 phases_of-kept actors lines c known = kept actors (with_acting actors c) lines (same-acting actors c) known

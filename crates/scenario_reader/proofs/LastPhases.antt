@@ -26,7 +26,8 @@ last-pushed : (first : Phase) (phases : List Phase) (phase : Phase) → last_fro
 last-pushed first [] phase = refl
 last-pushed first (next ∷ more) phase = last-pushed next more phase
 
-front-pushed : (first : Phase) (phases : List Phase) (phase : Phase) → front_from first (phases ++ phase ∷ []) ≡ first ∷ phases
+front-pushed : (first : Phase) (phases : List Phase) (phase : Phase)
+    → front_from first (phases ++ phase ∷ []) ≡ first ∷ phases
 front-pushed first [] phase = refl
 front-pushed first (next ∷ more) phase = ap (λ ps. first ∷ ps) (front-pushed next more phase)
 

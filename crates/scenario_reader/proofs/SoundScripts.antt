@@ -28,15 +28,18 @@ abbrev Rise : ℕ → List NumberedLine → Type 0
 Rise upto [] = Unit {0}
 Rise upto (line ∷ lines) = (upto < line.number) × Rise line.number lines
 
-rise-if : (b : Bool) (upto n : ℕ) (text : List ℕ) (lines : List NumberedLine) → upto < n → ((low : ℕ) → low < n + 1 → Rise low lines) → Rise upto (cond b (record { number = n; text = text } ∷ lines) lines)
+rise-if : (b : Bool) (upto n : ℕ) (text : List ℕ) (lines : List NumberedLine) → upto < n
+    → ((low : ℕ) → low < n + 1 → Rise low lines) → Rise upto (cond b (record { number = n; text = text } ∷ lines) lines)
 rise-if true upto n text lines less more = (less, more n (omega arith))
 rise-if false upto n text lines less more = more upto (omega arith)
 
 -- the lines that aren't blank rise
-rise-from : (texts : List (List ℕ)) (upto n : ℕ) → upto < n → Rise upto (filter (λ (line : NumberedLine). not (is_blank line.text)) (numbered n texts))
+rise-from : (texts : List (List ℕ)) (upto n : ℕ) → upto < n
+    → Rise upto (filter (λ (line : NumberedLine). not (is_blank line.text)) (numbered n texts))
 rise-from [] upto n less = tt
 rise-from (text ∷ texts) upto n less =
-    rise-if (not (is_blank text)) upto n text (filter (λ (line : NumberedLine). not (is_blank line.text)) (numbered (n + 1) texts)) less (λ low h. rise-from texts low (n + 1) h)
+    rise-if (not (is_blank text)) upto n text (filter (λ (line : NumberedLine). not (is_blank line.text))
+    (numbered (n + 1) texts)) less (λ low h. rise-from texts low (n + 1) h)
 
 -- some number is the greatest
 abbrev IsSomeSound : Reading → Type 0
@@ -46,20 +49,25 @@ flaw-fits : (line : ℕ) (r : Result Content Flaw) → IfOk r FitsItsActor → I
 flaw-fits line (Ok c) fits = fits
 flaw-fits line (Err flaw) fits = tt
 
-then-sound : (r : Result Reading ScriptFault) (lines : List NumberedLine) (P : Reading → Type 0) → IfOk r P → ((reading : Reading) → P reading → IfOk (read_from reading lines) IsSomeSound) → IfOk (r >>= λ next. read_from next lines) IsSomeSound
+then-sound : (r : Result Reading ScriptFault) (lines : List NumberedLine) (P : Reading → Type 0) → IfOk r P
+    → ((reading : Reading) → P reading → IfOk (read_from reading lines) IsSomeSound)
+    → IfOk (r >>= λ next. read_from next lines) IsSomeSound
 then-sound (Ok reading) lines P sound more = more reading sound
 then-sound (Err fault) lines P sound more = tt
 
-said-sound : (upto : ℕ) (reading : Reading) (line : ℕ) (r : Result Content ScriptFault) → upto < line → IsSound upto reading → IfOk r FitsItsActor → IfOk (r >>= λ c. step reading line c) (IsSound line)
+said-sound : (upto : ℕ) (reading : Reading) (line : ℕ) (r : Result Content ScriptFault) → upto < line
+    → IsSound upto reading → IfOk r FitsItsActor → IfOk (r >>= λ c. step reading line c) (IsSound line)
 said-sound upto reading line (Ok c) less sound fits = step-sound upto line reading c less fits sound
 said-sound upto reading line (Err fault) less sound fits = tt
 
 -- lines that rise are read to what a scenario keeps
-read-sound : (lines : List NumberedLine) (upto : ℕ) (reading : Reading) → Rise upto lines → IsSound upto reading → IfOk (read_from reading lines) IsSomeSound
+read-sound : (lines : List NumberedLine) (upto : ℕ) (reading : Reading) → Rise upto lines → IsSound upto reading
+    → IfOk (read_from reading lines) IsSomeSound
 read-sound [] upto reading rise sound = (upto, sound)
 read-sound (line ∷ lines) upto reading rise sound =
     then-sound (step_on reading line) lines (IsSound line.number)
-    (said-sound upto reading line.number (said_on line) rise.0 sound (flaw-fits line.number (content_of line.text) (content_of-fits line.text)))
+    (said-sound upto reading line.number (said_on line) rise.0 sound
+    (flaw-fits line.number (content_of line.text) (content_of-fits line.text)))
     (λ next known. read-sound lines line.number next rise.1 known)
 
 start-sound : IsSound 0 start
@@ -72,9 +80,13 @@ start-sound = record {
   last = refl;
 }
 
-ended-sound : (upto : ℕ) (actors : List Actor) (closed : List Phase) (last : Option Phase) → All (IsPhase actors) closed → AllPairs IsBefore closed → MatchOption last (closed ≡ []) (IsLast actors closed upto) → All (IsPhase actors) (closed ++ option_to_list last) × AllPairs IsBefore (closed ++ option_to_list last)
-ended-sound upto actors closed None phases order last =
-    (subst (All (IsPhase actors)) (sym (append-nil closed)) phases, subst (AllPairs IsBefore) (sym (append-nil closed)) order)
+ended-sound : (upto : ℕ) (actors : List Actor) (closed : List Phase) (last : Option Phase) → All (IsPhase actors) closed
+    → AllPairs IsBefore closed → MatchOption last (closed ≡ []) (IsLast actors closed upto)
+    → All (IsPhase actors) (closed ++ option_to_list last) × AllPairs IsBefore (closed ++ option_to_list last)
+ended-sound upto actors closed None phases order last = (
+  subst (All (IsPhase actors)) (sym (append-nil closed)) phases,
+  subst (AllPairs IsBefore) (sym (append-nil closed)) order,
+)
 ended-sound upto actors closed (Some phase) phases order last =
     (All-push (IsPhase actors) closed phase phases last.own, all_pairs_push IsBefore closed phase order last.behind)
 
@@ -84,7 +96,8 @@ script-sound upto reading sound =
     let ended = ended-sound upto reading.actors reading.closed reading.last sound.closed sound.order sound.last in
     record { few = sound.few; distinct = sound.distinct; phases = ended.0; order = ended.1 }
 
-script-known : (r : Result Reading ScriptFault) → IfOk r IsSomeSound → IfOk (r >>= λ reading. Ok (script_in reading)) IsScript
+script-known : (r : Result Reading ScriptFault) → IfOk r IsSomeSound
+    → IfOk (r >>= λ reading. Ok (script_in reading)) IsScript
 script-known (Ok reading) known = script-sound known.0 reading known.1
 script-known (Err fault) known = tt
 
@@ -92,4 +105,5 @@ script-known (Err fault) known = tt
 pub script_of-sound : (bytes : List ℕ) → IfOk (script_of bytes) IsScript
 script_of-sound bytes =
     subst (λ (r : Result Script ScriptFault). IfOk r IsScript) (sym (script_of-read bytes))
-    (script-known (read_from start (nonblank_lines bytes)) (read-sound (nonblank_lines bytes) 0 start (rise-from (lines_of bytes) 0 1 (omega arith)) start-sound))
+    (script-known (read_from start (nonblank_lines bytes))
+    (read-sound (nonblank_lines bytes) 0 start (rise-from (lines_of bytes) 0 1 (omega arith)) start-sound))

@@ -18,11 +18,14 @@ use Rattle.what_if.specs.declared.standing.Holders.{Holders}
 use Rattle.what_if.proofs.Holding.{held-by_holders}
 
 -- a move, where the holders are those of the site
-pub move-by_holders : (site : Site) (before : Holders) → IsHolders (stays site []) before → (p : Placement) → move_by before p ≡ move_of site p
-move-by_holders site before h (On job cell) = λ i. Some (record { job = job; from = held-by_holders site before h job i; to = cell })
+pub move-by_holders : (site : Site) (before : Holders) → IsHolders (stays site []) before → (p : Placement)
+    → move_by before p ≡ move_of site p
+move-by_holders site before h (On job cell) = λ i. Some
+    (record { job = job; from = held-by_holders site before h job i; to = cell })
 move-by_holders site before h (NoRoom job) = refl
 
-pub whole_loss : (site : Site) (lost : List (List ℕ)) → IsSite site → (plan : Plan) → plan ≡ planned site lost → (parts : LossParts) → HasLossParts site lost parts → lost_from (length lost) plan parts ≡ lost_of site lost
+pub whole_loss : (site : Site) (lost : List (List ℕ)) → IsSite site → (plan : Plan) → plan ≡ planned site lost
+    → (parts : LossParts) → HasLossParts site lost parts → lost_from (length lost) plan parts ≡ lost_of site lost
 whole_loss site lost sound plan is parts h =
     ap (λ (p : Plan). lost_from (length lost) p parts) is
     ∙ (λ i. record {
@@ -42,7 +45,8 @@ whole_loss site lost sound plan is parts h =
       verdict = (planned site lost).verdict;
     })
 
-pub whole_show : (site : Site) → IsSite site → (plan : Plan) → plan ≡ planned site [] → (parts : ShownParts) → HasShownParts site parts → shown_from site plan parts ≡ shown_of site
+pub whole_show : (site : Site) → IsSite site → (plan : Plan) → plan ≡ planned site [] → (parts : ShownParts)
+    → HasShownParts site parts → shown_from site plan parts ≡ shown_of site
 whole_show site sound plan is parts h =
     ap (λ (p : Plan). shown_from site p parts) is
     ∙ (λ i. record {

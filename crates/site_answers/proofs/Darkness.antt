@@ -14,17 +14,21 @@ use Rattle.what_if.proofs.Agreeing.{filter-same}
 use Rattle.site_answers.specs.declared.dark.Shares.{Shares}
 
 -- the instances that a loss displaces
-pub displaced-by_scene : (s : Scene) → IsScene s → map process_of (filter (was_displaced s) s.site.now.wanted) ≡ displaced_processes s.site.now s.lost.now
+pub displaced-by_scene : (s : Scene) → IsScene s → map process_of (filter (was_displaced s) s.site.now.wanted)
+    ≡ displaced_processes s.site.now s.lost.now
 displaced-by_scene s h =
     ap (map process_of)
     (filter-same (was_displaced s) (λ (w : Wanted). does_wait s.site.now s.lost.now w && is_held s.site.now [] w.key)
     (λ w i. (not (is_some (h.after w.key i)) && not w.crashed) && is_some (h.before w.key i)) s.site.now.wanted)
 
 -- the instances that are held
-pub held-by_holders : (site : Site) (lost : List (List ℕ)) (holders : Holders) → IsHolders (stays site lost) holders → map process_of (filter (λ (w : Wanted). is_some (found holders w.key)) site.wanted) ≡ held_processes site lost
+pub held-by_holders : (site : Site) (lost : List (List ℕ)) (holders : Holders) → IsHolders (stays site lost) holders
+    → map process_of (filter (λ (w : Wanted). is_some (found holders w.key)) site.wanted) ≡ held_processes site lost
 held-by_holders site lost holders h =
     ap (map process_of)
-    (filter-same (λ (w : Wanted). is_some (found holders w.key)) (λ w. is_held site lost w.key) (λ w. ap (λ (o : Option (List ℕ)). is_some o) (h w.key)) site.wanted)
+    (filter-same (λ (w : Wanted). is_some (found holders w.key)) (λ w. is_held site lost w.key)
+    (λ w. ap (λ (o : Option (List ℕ)). is_some o) (h w.key)) site.wanted)
 
-pub dark-by_shares : {site : Site} {lost : List (List ℕ)} {shares : Shares} → AreShares site lost shares → (process : List ℕ) → is_dark_by shares process ≡ is_dark site lost process
+pub dark-by_shares : {site : Site} {lost : List (List ℕ)} {shares : Shares} → AreShares site lost shares
+    → (process : List ℕ) → is_dark_by shares process ≡ is_dark site lost process
 dark-by_shares h process = λ i. nat_lt 0 (h.displaced process i) && (h.held process i == 0)

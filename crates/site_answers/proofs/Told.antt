@@ -24,7 +24,8 @@ use Rattle.what_if.proofs.Few.{few_bare, few_jobs, few_stands}
 use Rattle.what_if.proofs.Lists.{shorter}
 use Rattle.what_if.proofs.Open.{AreAnswers-open}
 
-tag_room-bare : (ss : List Stand) (jobs left counting : List Job) (tag : Option (List ℕ)) → tag_room (map without_jobs ss) jobs left counting tag ≡ tag_room ss jobs left counting tag
+tag_room-bare : (ss : List Stand) (jobs left counting : List Job) (tag : Option (List ℕ))
+    → tag_room (map without_jobs ss) jobs left counting tag ≡ tag_room ss jobs left counting tag
 tag_room-bare ss jobs left counting tag = λ i. record {
   tag = tag;
   cells_left = count-map (has_tag tag) without_jobs ss i;
@@ -37,42 +38,63 @@ tag_room-bare ss jobs left counting tag = λ i. record {
 }
 
 -- the rooms of all tags, by the parts of a plan
-pub rooms-of_plan : (site : Site) (lost : List (List ℕ)) (counting : List Job) (before : List Stand) (jobs left : List Job) → before ≡ map without_jobs (stands_before site lost) → jobs ≡ jobs_of_loss site lost → left ≡ left_of site lost → map (tag_room before jobs left counting) (tags_of site.cells jobs) ≡ tag_rooms site lost counting
+pub rooms-of_plan : (site : Site) (lost : List (List ℕ)) (counting : List Job) (before : List Stand)
+    (jobs left : List Job) → before ≡ map without_jobs (stands_before site lost) → jobs ≡ jobs_of_loss site lost
+    → left ≡ left_of site lost → map (tag_room before jobs left counting) (tags_of site.cells jobs)
+    ≡ tag_rooms site lost counting
 rooms-of_plan site lost counting before jobs left b j l =
     (λ i. map (tag_room (b i) (j i) (l i) counting) (tags_of site.cells (j i)))
-    ∙ map-same (tag_room (map without_jobs (stands_before site lost)) (jobs_of_loss site lost) (left_of site lost) counting) (tag_room (stands_before site lost) (jobs_of_loss site lost) (left_of site lost) counting)
+    ∙ map-same (tag_room (map without_jobs (stands_before site lost)) (jobs_of_loss site lost)
+    (left_of site lost) counting) (tag_room (stands_before site lost) (jobs_of_loss site lost)
+    (left_of site lost) counting)
     (tag_room-bare (stands_before site lost) (jobs_of_loss site lost) (left_of site lost) counting)
     (tags_of site.cells (jobs_of_loss site lost))
 
 -- cells and jobs are few
-pub few_before : (site : Site) (lost : List (List ℕ)) (ss : List Stand) → IsSite site → ss ≡ map without_jobs (stands_before site lost) → length ss ≤ 2 ^ 32
+pub few_before : (site : Site) (lost : List (List ℕ)) (ss : List Stand) → IsSite site
+    → ss ≡ map without_jobs (stands_before site lost) → length ss ≤ 2 ^ 32
 few_before site lost ss h e = few_bare ss (open_cells site lost) (AreAnswers-open site lost h.cells) e
 
 few_waits : (site : Site) (lost : List (List ℕ)) → IsSite site → length (waits site lost) ≤ 2 ^ 32
 few_waits site lost h =
     let passed = filter (does_wait site lost) site.wanted in
-    omega (arith, length-append (map instance_job passed) site.pending, length-map passed instance_job, shorter (does_wait site lost) site.wanted, h.few)
+    omega (
+      arith,
+      length-append (map instance_job passed) site.pending,
+      length-map passed instance_job,
+      shorter (does_wait site lost) site.wanted,
+      h.few,
+    )
 
-pub few_waiting : (site : Site) (lost : List (List ℕ)) (jobs : List Job) → IsSite site → jobs ≡ jobs_of_loss site lost → length jobs ≤ 2 ^ 32
+pub few_waiting : (site : Site) (lost : List (List ℕ)) (jobs : List Job) → IsSite site → jobs ≡ jobs_of_loss site lost
+    → length jobs ≤ 2 ^ 32
 few_waiting site lost jobs h e = few_jobs jobs (waits site lost) (few_waits site lost h) e
 
-fewer_left : {X : Type 0} (tell : List Stand → Job → X) (ss : List Stand) (jobs : List Job) → length (left_over tell ss jobs) ≤ length jobs
+fewer_left : {X : Type 0} (tell : List Stand → Job → X) (ss : List Stand) (jobs : List Job)
+    → length (left_over tell ss jobs) ≤ length jobs
 fewer_left tell ss [] = omega arith
 fewer_left tell ss (job ∷ jobs) =
     let rest = fewer_left tell (stands_with job (best ss job) ss) jobs in
     either (best ss job) (tell ss job) (left_over tell (stands_with job (best ss job) ss) jobs) (length jobs) rest
   where
-    either : {X : Type 0} (o : Option Stand) (x : X) (xs : List X) (n : ℕ) → length xs ≤ n → length (if_none o x xs) ≤ suc n
+    either : {X : Type 0} (o : Option Stand) (x : X) (xs : List X) (n : ℕ) → length xs ≤ n
+        → length (if_none o x xs) ≤ suc n
     either None x xs n h = omega arith
     either (Some s) x xs n h = omega arith
 
-pub few_left : (site : Site) (lost : List (List ℕ)) (left : List Job) → IsSite site → left ≡ left_of site lost → length left ≤ 2 ^ 32
+pub few_left : (site : Site) (lost : List (List ℕ)) (left : List Job) → IsSite site → left ≡ left_of site lost
+    → length left ≤ 2 ^ 32
 few_left site lost left h e =
     subst (λ (js : List Job). length js ≤ 2 ^ 32) (sym e)
-    (omega (arith, fewer_left (λ turn (j : Job). j) (stands_before site lost) (jobs_of_loss site lost), few_waiting site lost (jobs_of_loss site lost) h refl))
+    (omega (
+      arith,
+      fewer_left (λ turn (j : Job). j) (stands_before site lost) (jobs_of_loss site lost),
+      few_waiting site lost (jobs_of_loss site lost) h refl,
+    ))
 
 -- all that waits has its turn
-pub all_in_order : (site : Site) (lost : List (List ℕ)) → IsSite site → length (jobs_of_loss site lost) ≡ length (waits site lost)
+pub all_in_order : (site : Site) (lost : List (List ℕ)) → IsSite site
+    → length (jobs_of_loss site lost) ≡ length (waits site lost)
 all_in_order site lost h =
     length-table turn_order turn_of IsKeyOrder-turn_order (waits site lost)
     (differ-by (λ (j : Job). j.job) turn_of same_turn (waits site lost) (h.jobs (does_wait site lost)))
@@ -86,7 +108,12 @@ same_many ss (job ∷ jobs) = same_many (stands_with job (best ss job) ss) jobs 
     either None = refl
     either (Some s) = length-map ss (λ (t : Stand). if same_name t.cell s.cell then with_job job t else t)
 
-pub few_then : (site : Site) (lost : List (List ℕ)) (ss : List Stand) → IsSite site → ss ≡ stands_then site lost → length ss ≤ 2 ^ 32
+pub few_then : (site : Site) (lost : List (List ℕ)) (ss : List Stand) → IsSite site → ss ≡ stands_then site lost
+    → length ss ≤ 2 ^ 32
 few_then site lost ss h e =
     subst (λ (xs : List Stand). length xs ≤ 2 ^ 32) (sym e)
-    (omega (arith, same_many (stands_before site lost) (jobs_of_loss site lost), few_stands (stands_before site lost) (open_cells site lost) (AreAnswers-open site lost h.cells) refl))
+    (omega (
+      arith,
+      same_many (stands_before site lost) (jobs_of_loss site lost),
+      few_stands (stands_before site lost) (open_cells site lost) (AreAnswers-open site lost h.cells) refl,
+    ))

@@ -24,9 +24,13 @@ module _ {K : Type 0} (eq : K → K → Bool) (exact : (a b : K) → eq a b ≡ 
         ] refl
       ] refl
 
-  pub counted_next : (q : K) (keys : List K) (i n : ℕ) (key : K) (old : K → Option ℕ) → i < length keys → key ≡ get_or keys i key → ((k : K) → unwrap_or (old k) 0 ≡ count_by (λ x. eq k x) (take i keys)) → n ≡ unwrap_or (old key) 0 → unwrap_or (cond (eq key q) (Some (n + 1)) (old q)) 0 ≡ count_by (λ x. eq q x) (take (i + 1) keys)
+  pub counted_next : (q : K) (keys : List K) (i n : ℕ) (key : K) (old : K → Option ℕ) → i < length keys
+      → key ≡ get_or keys i key → ((k : K) → unwrap_or (old k) 0 ≡ count_by (λ x. eq k x) (take i keys))
+      → n ≡ unwrap_or (old key) 0 → unwrap_or (cond (eq key q) (Some (n + 1)) (old q)) 0
+      ≡ count_by (λ x. eq q x) (take (i + 1) keys)
   counted_next q keys i n key old lt is so_far now =
-      elim (eq key q) as (λ b. eq key q ≡ b → unwrap_or (cond b (Some (n + 1)) (old q)) 0 ≡ count_by (λ x. eq q x) (take (i + 1) keys)) [
+      elim (eq key q) as (λ b. eq key q ≡ b → unwrap_or (cond b (Some (n + 1)) (old q)) 0
+      ≡ count_by (λ x. eq q x) (take (i + 1) keys)) [
         | true ↦ λ e.
             let same : key ≡ q = exact key q e in
             let passes : eq q (get_or keys i key) ≡ true = ap (eq q) (sym is) ∙ sym (turned key q) ∙ e in
@@ -40,4 +44,8 @@ module _ {K : Type 0} (eq : K → K → Bool) (exact : (a b : K) → eq a b ≡ 
 pub spot_from_test : (a b : Spot) → same_spot a b ≡ true → a ≡ b
 spot_from_test a b e =
     let both = and_parts (same_name a.process b.process) (same_name a.place b.place) e in
-    λ i. record { process = name_from_test a.process b.process both.0 i; place = name_from_test a.place b.place both.1 i }
+    λ i. record {
+      process = name_from_test a.process b.process both.0 i;
+      place =
+          name_from_test a.place b.place both.1 i;
+    }

@@ -34,7 +34,8 @@ IsKeyOrder-tag_order = record { total = options_total IsKeyOrder-name_order.tota
 
 pub IsKeyOrder-group_order : IsKeyOrder group_order
 IsKeyOrder-group_order = record {
-  total = then_total (on_total (λ g. g.zone) IsKeyOrder-name_order.total) (on_total (λ g. g.tag) IsKeyOrder-tag_order.total);
+  total = then_total (on_total (λ g. g.zone) IsKeyOrder-name_order.total)
+      (on_total (λ g. g.tag) IsKeyOrder-tag_order.total);
   exact = λ x y e i.
       let both = both_tie (name_order x.zone y.zone) (tag_order x.tag y.tag) e in
       record { zone = IsKeyOrder-name_order.exact x.zone y.zone both.0 i; tag = tags_exact x.tag y.tag both.1 i };
@@ -42,7 +43,8 @@ IsKeyOrder-group_order = record {
 
 pub IsKeyOrder-uneven_order : IsKeyOrder uneven_order
 IsKeyOrder-uneven_order = record {
-  total = then_total (on_total (λ u. u.spread.0) (back_total nat_cmp_total)) (on_total (λ u. u.process) IsKeyOrder-name_order.total);
+  total = then_total (on_total (λ u. u.spread.0) (back_total nat_cmp_total))
+      (on_total (λ u. u.process) IsKeyOrder-name_order.total);
   exact = λ x y e i.
       let both = both_tie (nat_cmp y.spread.0 x.spread.0) (name_order x.process y.process) e in
       record {
@@ -52,6 +54,8 @@ IsKeyOrder-uneven_order = record {
 }
 
 -- processes of unlike names, the larger spread first
-pub sorted_by_spread : (xs ys : List Uneven) → Differ (map (λ u. u.process) xs) → IsSortedByKey unevenness uneven_order ys → IsPermutation xs ys → ys ≡ by_spread xs
+pub sorted_by_spread : (xs ys : List Uneven) → Differ (map (λ u. u.process) xs)
+    → IsSortedByKey unevenness uneven_order ys → IsPermutation xs ys → ys ≡ by_spread xs
 sorted_by_spread xs ys differ sorted moved =
-    table-from_sorted uneven_order unevenness IsKeyOrder-uneven_order xs ys (differ-by (λ (u : Uneven). u.process) unevenness (λ x y e. ap (λ k. k.process) e) xs differ) sorted moved
+    table-from_sorted uneven_order unevenness IsKeyOrder-uneven_order xs ys
+    (differ-by (λ (u : Uneven). u.process) unevenness (λ x y e. ap (λ k. k.process) e) xs differ) sorted moved

@@ -29,14 +29,16 @@ use Rattle.what_if.proofs.Lists.{filter_differs}
 use Rattle.what_if.proofs.Names.{names_turned, tags_turned}
 
 -- a zone and a tag are among those of the cells
-pub has_cell-groups : (cells : List Answer) (zone : List ℕ) (tag : Option (List ℕ)) → list_any (λ g. same_group g (record { zone = zone; tag = tag })) (map group_of cells) ≡ has_cell cells zone tag
+pub has_cell-groups : (cells : List Answer) (zone : List ℕ) (tag : Option (List ℕ))
+    → list_any (λ g. same_group g (record { zone = zone; tag = tag })) (map group_of cells) ≡ has_cell cells zone tag
 has_cell-groups cells zone tag =
     let g : Group = record { zone = zone; tag = tag } in
     any-map (λ k. same_group k g) group_of cells
     ∙ any-same (λ (c : Answer). same_group (group_of c) g) (λ c. same_name zone c.zone && option_eq same_name tag c.tag)
     (λ c i. names_turned c.zone zone i && tags_turned c.tag tag i) cells
 
-module _ {site : Site} {cells : List Answer} {stays : List Stay} {zoning : Zoning} (h : IsZoning site cells stays zoning) (w : Wanted) where
+module _ {site : Site} {cells : List Answer} {stays : List Stay} {zoning : Zoning}
+    (h : IsZoning site cells stays zoning) (w : Wanted) where
   is_zone-by : (zone : List ℕ) → is_zone_by zoning w zone ≡ is_zone_of cells stays w zone
   is_zone-by zone = λ i. h.groups zone w.tag i || nat_lt 0 (h.counts w.key.process zone i)
 
@@ -49,7 +51,8 @@ module _ {site : Site} {cells : List Answer} {stays : List Stay} {zoning : Zonin
   zone_counts-by : zone_counts_by zoning w ≡ zone_counts site cells stays w
   zone_counts-by =
       ap (λ (zs : List (List ℕ)). map (zone_count_by zoning w) (filter (is_zone_by zoning w) zs)) h.zones
-      ∙ ap (map (zone_count_by zoning w)) (filter-same (is_zone_by zoning w) (is_zone_of cells stays w) is_zone-by (zone_names site))
+      ∙ ap (map (zone_count_by zoning w)) (filter-same (is_zone_by zoning w) (is_zone_of cells stays w) is_zone-by
+      (zone_names site))
       ∙ map-same (zone_count_by zoning w) count_in zone_count-by (filter (is_zone_of cells stays w) (zone_names site))
 
   pub uneven-by : uneven_by zoning w ≡ uneven_at site cells stays w
@@ -60,23 +63,32 @@ module _ {site : Site} {cells : List Answer} {stays : List Stay} {zoning : Zonin
   }
 
 -- what follows from the place of an instance
-then_of_place : {Y : Type 0} (f : Place → Option Y) (o : Option Stay) → option_and_then f (option_map place_of o) ≡ option_and_then (λ (s : Stay). f (place_of s)) o
+then_of_place : {Y : Type 0} (f : Place → Option Y) (o : Option Stay)
+    → option_and_then f (option_map place_of o) ≡ option_and_then (λ (s : Stay). f (place_of s)) o
 then_of_place f None = refl
 then_of_place f (Some s) = refl
 
 module _ {stays : List Stay} {tallies : Tallies} (h : AreTallies stays tallies) where
   abbrev one_cell : List ℕ → Stay → ℕ → ℕ → Option OnOneCell
   one_cell process s all here =
-      cond (nat_le 2 all && (all == here)) (Some (record { process = process; instances = all; cell = s.cell; zone = s.zone })) None
+      cond (nat_le 2 all && (all == here)) (Some (record {
+        process = process;
+        instances = all;
+        cell = s.cell;
+        zone =
+            s.zone;
+      })) None
 
   one_cell-by : (process : List ℕ) (s : Stay) → one_cell_by tallies process (place_of s) ≡ one_cell_at stays process s
   one_cell-by process s = λ i. one_cell process s (h.standing process i) (h.on_cell process s.cell i)
 
-  pub on_cell-by : (w : Wanted) → on_cell_by tallies w ≡ option_and_then (one_cell_at stays w.key.process) (find (is_of_process w.key.process) stays)
+  pub on_cell-by : (w : Wanted) → on_cell_by tallies w ≡ option_and_then (one_cell_at stays w.key.process)
+      (find (is_of_process w.key.process) stays)
   on_cell-by w =
       ap (option_and_then (one_cell_by tallies w.key.process)) (h.first w.key.process)
       ∙ then_of_place (one_cell_by tallies w.key.process) (find (is_of_process w.key.process) stays)
-      ∙ and_then-same (λ (s : Stay). one_cell_by tallies w.key.process (place_of s)) (one_cell_at stays w.key.process) (one_cell-by w.key.process) (find (is_of_process w.key.process) stays)
+      ∙ and_then-same (λ (s : Stay). one_cell_by tallies w.key.process (place_of s)) (one_cell_at stays w.key.process)
+      (one_cell-by w.key.process) (find (is_of_process w.key.process) stays)
 
   abbrev one_zone : List ℕ → Stay → ℕ → ℕ → Option InOneZone
   one_zone process s all here =
@@ -85,16 +97,20 @@ module _ {stays : List Stay} {tallies : Tallies} (h : AreTallies stays tallies) 
   one_zone-by : (process : List ℕ) (s : Stay) → one_zone_by tallies process (place_of s) ≡ one_zone_at stays process s
   one_zone-by process s = λ i. one_zone process s (h.standing process i) (h.in_zone process s.zone i)
 
-  pub in_zone-by : (w : Wanted) → in_zone_by tallies w ≡ option_and_then (one_zone_at stays w.key.process) (find (is_of_process w.key.process) stays)
+  pub in_zone-by : (w : Wanted) → in_zone_by tallies w ≡ option_and_then (one_zone_at stays w.key.process)
+      (find (is_of_process w.key.process) stays)
   in_zone-by w =
       ap (option_and_then (one_zone_by tallies w.key.process)) (h.first w.key.process)
       ∙ then_of_place (one_zone_by tallies w.key.process) (find (is_of_process w.key.process) stays)
-      ∙ and_then-same (λ (s : Stay). one_zone_by tallies w.key.process (place_of s)) (one_zone_at stays w.key.process) (one_zone-by w.key.process) (find (is_of_process w.key.process) stays)
+      ∙ and_then-same (λ (s : Stay). one_zone_by tallies w.key.process (place_of s)) (one_zone_at stays w.key.process)
+      (one_zone-by w.key.process) (find (is_of_process w.key.process) stays)
 
 -- no two uneven processes are one
-pub uneven_differ : (site : Site) (cells : List Answer) (stays : List Stay) → Differ (map (λ (u : Uneven). u.process) (uneven_in site cells stays))
+pub uneven_differ : (site : Site) (cells : List Answer) (stays : List Stay)
+    → Differ (map (λ (u : Uneven). u.process) (uneven_in site cells stays))
 uneven_differ site cells stays =
     let all = processes site in
     filter_differs (λ (u : Uneven). u.process) is_uneven (map (uneven_at site cells stays) all)
     (subst Differ (sym (map-map (λ (u : Uneven). u.process) (uneven_at site cells stays) all))
-    (differ-from_rising name_order (λ (w : Wanted). w.key.process) IsKeyOrder-name_order all (IsRising-table name_order (λ (w : Wanted). w.key.process) IsKeyOrder-name_order site.wanted)))
+    (differ-from_rising name_order (λ (w : Wanted). w.key.process) IsKeyOrder-name_order all
+    (IsRising-table name_order (λ (w : Wanted). w.key.process) IsKeyOrder-name_order site.wanted)))

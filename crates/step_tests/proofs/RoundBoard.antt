@@ -24,22 +24,58 @@ abbrev pub c2 : List ℕ
 c2 = 99 ∷ 50 ∷ []
 
 abbrev pub wants : (process domain : List ℕ) → ℕ → Desired
-wants process domain instances = record { process = process; domain = domain; instances = instances; memory = 64; disk = 128; tag = None; route = None; port = 8080 }
+wants process domain instances = record {
+  process = process;
+  domain = domain;
+  instances = instances;
+  memory = 64;
+  disk =
+      128;
+  tag = None;
+  route = None;
+  port = 8080;
+}
 
 abbrev pub claim : List ℕ → ℕ → ℕ → ℕ → List ℕ → Moment → Actual
-claim process index epoch number cell since = record { key = record { process = process; index = index }; presence = Ordinary; state = Claimed (record { epoch = epoch; number = number }) cell; count = 0; since = since; error = false; domain = None }
+claim process index epoch number cell since = record {
+  key = record { process = process; index = index };
+  presence =
+      Ordinary;
+  state = Claimed (record { epoch = epoch; number = number }) cell;
+  count = 0;
+  since = since;
+  error =
+      false;
+  domain = None;
+}
 
 abbrev pub joined : List ℕ → List ℕ → Amounts → ℕ → CellRow
-joined cell zone totals epoch = record { cell = cell; zone = zone; tag = None; totals = totals; epoch = epoch; until = 600; evacuating = false }
+joined cell zone totals epoch = record {
+  cell = cell;
+  zone = zone;
+  tag = None;
+  totals = totals;
+  epoch = epoch;
+  until =
+      600;
+  evacuating = false;
+}
 
 pub desired_board : (domain : List ℕ) → AreDesired (wants web domain 3 ∷ [])
 desired_board domain = record { rising = tt; few = omega arith; each = (omega arith, tt); wanted = omega arith }
 
-pub actual_board : (since : Moment) → AreActual 9 (claim web 0 0 1 c1 since ∷ claim web 1 1 1 c2 since ∷ claim web 2 0 2 c1 since ∷ [])
+pub actual_board : (since : Moment) → AreActual 9 (claim web 0 0 1 c1 since ∷ claim web 1 1 1 c2 since
+    ∷ claim web 2 0 2 c1 since ∷ [])
 actual_board since = record {
   rising = tt;
   few = omega arith;
-  each = (record { held = omega arith; suits = tt }, (record { held = omega arith; suits = tt }, (record { held = omega arith; suits = tt }, tt)));
+  each = (
+    record { held = omega arith; suits = tt },
+    (
+      record { held = omega arith; suits = tt },
+      (record { held = omega arith; suits = tt }, tt),
+    ),
+  );
 }
 
 -- nothing differs from nothing

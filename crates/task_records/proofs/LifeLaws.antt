@@ -26,7 +26,8 @@ completed_is_finished (Completed failed) e = refl
 completed_is_finished (Resolving failed) e = refl
 
 -- a task that has its outcome gets none by a move, and none by what comes after it
-none_from : (row : Task) (end : TaskEnd) (later : Task → ℕ) → NeverTurnsBack row end → is_unfinished row.state ≡ false → ((new : Task) → is_unfinished new.state ≡ false → later new ≡ 0) → completions_from row end later ≡ 0
+none_from : (row : Task) (end : TaskEnd) (later : Task → ℕ) → NeverTurnsBack row end → is_unfinished row.state ≡ false
+    → ((new : Task) → is_unfinished new.state ≡ false → later new ≡ 0) → completions_from row end later ≡ 0
 none_from row (Changed new) later back e none = grind (arith, common_steps)
 none_from row Gone later back e none = refl
 none_from row Same later back e none = none row e
@@ -35,10 +36,13 @@ none_from row (Refused refusal) later back e none = none row e
 none_after : (moves : List (TaskMove × Moment)) (row : Task) → is_unfinished row.state ≡ false → outcomes row moves ≡ 0
 none_after [] row e = refl
 none_after (move ∷ moves) row e =
-    none_from row (task_move row move.0 move.1) (λ new. outcomes new moves) (NeverTurnsBack-task_move row move.0 move.1) e (none_after moves)
+    none_from row (task_move row move.0 move.1) (λ new. outcomes new moves)
+    (NeverTurnsBack-task_move row move.0 move.1) e (none_after moves)
 
 -- a move gives an outcome only where what comes after it gives none
-once_from : (row : Task) (end : TaskEnd) (later : Task → ℕ) → ((new : Task) → is_unfinished new.state ≡ false → later new ≡ 0) → ((new : Task) → later new ≤ 1) → completions_from row end later ≤ 1
+once_from : (row : Task) (end : TaskEnd) (later : Task → ℕ)
+    → ((new : Task) → is_unfinished new.state ≡ false → later new ≡ 0) → ((new : Task) → later new ≤ 1)
+    → completions_from row end later ≤ 1
 once_from row (Changed new) later none once = grind (arith, common_steps, completed_is_finished)
 once_from row Gone later none once = omega arith
 once_from row Same later none once = once row

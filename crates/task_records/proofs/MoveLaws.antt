@@ -12,9 +12,11 @@ pub KeepsTask-task_move : (row : Task) (move : TaskMove) (now : Moment) → Keep
 KeepsTask-task_move row move now = grind (arith, common_steps)
 
 -- a task that has its outcome never waits for one again
-pub NeverTurnsBack-task_move : (row : Task) (move : TaskMove) (now : Moment) → NeverTurnsBack row (task_move row move now)
+pub NeverTurnsBack-task_move : (row : Task) (move : TaskMove) (now : Moment)
+    → NeverTurnsBack row (task_move row move now)
 NeverTurnsBack-task_move row move now = grind (arith, common_steps)
 
 -- a change is a completion exactly where the move is Complete or Cancel
-pub CompletesAsAsked-task_move : (row : Task) (move : TaskMove) (now : Moment) → CompletesAsAsked row move (task_move row move now)
+pub CompletesAsAsked-task_move : (row : Task) (move : TaskMove) (now : Moment)
+    → CompletesAsAsked row move (task_move row move now)
 CompletesAsAsked-task_move row move now = grind (arith, common_steps)

@@ -28,7 +28,8 @@ module _ {V T O : Type 0} (items : V → List T) (origin : V → O) (by : T → 
   abbrev L : State (Option V) (View T O) → Type 0
   L = Legal items origin by start
 
-  starts : (from : ℕ) → from < 18446744073709551616 → L (opening (from ∷ from ∷ []) (Some start ∷ []) (first_view (items start) (origin start)))
+  starts : (from : ℕ) → from < 18446744073709551616 → L (opening (from ∷ from ∷ []) (Some start ∷ [])
+      (first_view (items start) (origin start)))
   starts from fits =
       let log : List T = items start ++ [] in let first : View T O = first_view (items start) (origin start) in
       let Ok : ℕ → View T O → Type 0 = ViewOk by log [] 1 one_owner (origin start) from 0 in
@@ -56,14 +57,23 @@ module _ {V T O : Type 0} (items : V → List T) (origin : V → O) (by : T → 
         apart = λ i j t v w at_i at_j _ _. lone_place first v i at_i ∙ sym (lone_place first w j at_j);
         each = each_cons Ok first [] first_ok (each_nil (λ i. Ok (suc i)));
         unused = λ n _. refl;
-        slot_is = inl (start, refl, sym (append-nil (items start)), refl, each_cons (λ _ (v : View T O). v.turn ≡ false) first [] refl (each_nil (λ _ (v : View T O). v.turn ≡ false)));
+        slot_is = inl (
+          start,
+          refl,
+          sym (append-nil (items start)),
+          refl,
+          each_cons (λ _ (v : View T O). v.turn ≡ false) first [] refl
+              (each_nil (λ _ (v : View T O). v.turn ≡ false)),
+        );
       }
 
   pub starts_with : (from : ℕ) → from < 18446744073709551616 → (slots : List (Option V)) → slots ≡ Some start ∷ []
       → L (opening (from ∷ from ∷ []) slots (first_view (items start) (origin start)))
-  starts_with from fits slots is = subst (λ (xs : List (Option V)). L (opening (from ∷ from ∷ []) xs (first_view (items start) (origin start)))) (sym is) (starts from fits)
+  starts_with from fits slots is = subst (λ (xs : List (Option V)).
+      L (opening (from ∷ from ∷ []) xs (first_view (items start) (origin start)))) (sym is) (starts from fits)
 
-  module _ (id : ℕ) (v : View T O) (all : HasAll v) (s : State (Option V) (View T O)) (l : L s) (at : get_elem? s.views id ≡ some v) where
+  module _ (id : ℕ) (v : View T O) (all : HasAll v) (s : State (Option V) (View T O)) (l : L s)
+      (at : get_elem? s.views id ≡ some v) where
     given_is : v.given ≡ l.given
     given_is = (l.each id v at).first_is all.number_is
 
@@ -74,7 +84,8 @@ module _ {V T O : Type 0} (items : V → List T) (origin : V → O) (by : T → 
     no_seat : (n i : ℕ) → n < l.given → n ≢ 0 → l.owner n ≡ suc i → ⊥
     no_seat n i below some_number owned =
         let g = given_is in let found = all.all n (omega arith) (omega arith) in
-        let gone : l.owner n ≡ 0 = ap l.owner (sym found.3) ∙ ((l.each id v at).joined_are found.0 found.1 found.2).gone in
+        let gone : l.owner n ≡ 0 = ap l.owner (sym found.3) ∙
+        ((l.each id v at).joined_are found.0 found.1 found.2).gone in
         no_less 0 (omega arith)
 
     no_turn : (i : ℕ) (u : View T O) → get_elem? s.views i ≡ some u → u.turn ≡ true → ⊥
@@ -84,7 +95,8 @@ module _ {V T O : Type 0} (items : V → List T) (origin : V → O) (by : T → 
         let n : ℕ = number.0 in let has = ok.number_is n number.1 in
         dite (ℕ_discrete n 0)
         (λ (e : n ≡ 0).
-        let same : i ≡ id = two_seats (l.owner 0) i id (subst (λ (k : ℕ). l.owner k ≡ suc i) e has.owned) zero_is.owned in
+        let same : i ≡ id = two_seats (l.owner 0) i id (subst (λ (k : ℕ). l.owner k ≡ suc i) e has.owned) zero_is.owned
+        in
         let is : u ≡ v = one_there s.views id u v (subst (λ (k : ℕ). get_elem? s.views k ≡ some u) same at_i) at in
         false_true v.turn all.no_turn (sym (ap (λ (y : View T O). y.turn) is) ∙ on))
         (λ (ne : n ≢ 0). no_seat n i has.below ne has.owned)
@@ -92,7 +104,8 @@ module _ {V T O : Type 0} (items : V → List T) (origin : V → O) (by : T → 
     abbrev At : Option V → Type 0
     At found = (x : V) × (found ≡ Some x) × IsLeft items origin by start v x
 
-    left_there : (found : Option V) → ((y : Option V) → get_elem? s.homes 0 ≡ some (some y) → found ≡ y) → SlotIs items origin (origin start) (items start ++ l.fresh) s.homes s.views → At found
+    left_there : (found : Option V) → ((y : Option V) → get_elem? s.homes 0 ≡ some (some y) → found ≡ y)
+        → SlotIs items origin (origin start) (items start ++ l.fresh) s.homes s.views → At found
     left_there found is (inl home) =
         let own = l.each id v at in let x : V = home.0 in
         let g = given_is in (
@@ -104,13 +117,16 @@ module _ {V T O : Type 0} (items : V → List T) (origin : V → O) (by : T → 
             source = home.3;
             own = zero_is.mine_is;
             seen = subst (λ (k : List T). Begins v.seen k) (sym home.2) own.seen_is;
-            told = λ k e at_k. let ok = own.joined_are k e at_k in (ok.mine_is, subst (λ (k : List T). Begins e.seen k) (sym home.2) ok.seen_is);
+            told = λ k e at_k. let ok = own.joined_are k e at_k in
+                (ok.mine_is, subst (λ (k : List T). Begins e.seen k) (sym home.2) ok.seen_is);
             no_others = λ n past. l.unused n (omega arith);
           },
         )
     left_there found is (inr out) = absurd (no_turn out.1.0 out.1.1 out.1.2 out.1.3)
 
-  pub left_behind : (id : ℕ) (v : View T O) → HasAll v → (ws : List ℕ) (xs : List (Option V)) → Final (Seen L id v) ws xs
+  pub left_behind : (id : ℕ) (v : View T O) → HasAll v → (ws : List ℕ) (xs : List (Option V))
+      → Final (Seen L id v) ws xs
       → (found : Option V) → get_elem? xs 0 ≡ some found → (x : V) × (found ≡ Some x) × IsLeft items origin by start v x
   left_behind id v all ws xs end found at = let s = end.0 in
-      left_there id v all s end.1.0 end.1.1 found (λ y home. some-injective found y (sym at ∙ end.4 0 y home)) end.1.0.slot_is
+      left_there id v all s end.1.0 end.1.1 found (λ y home. some-injective found y (sym at ∙ end.4 0 y home))
+      end.1.0.slot_is

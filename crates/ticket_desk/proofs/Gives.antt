@@ -15,7 +15,8 @@ module _ {V T O : Type 0} (items : V → List T) (origin : V → O) (by : T → 
   abbrev L : State (Option V) (View T O) → Type 0
   L = Legal items origin by start
 
-  module _ (id : ℕ) (v : View T O) (first : v.number ≡ Some 0) (room : v.given < 4096) (s : State (Option V) (View T O)) (l : L s) (at : get_elem? s.views id ≡ some v) where
+  module _ (id : ℕ) (v : View T O) (first : v.number ≡ Some 0) (room : v.given < 4096) (s : State (Option V) (View T O))
+      (l : L s) (at : get_elem? s.views id ≡ some v) where
     abbrev log : List T
     log = items start ++ l.fresh
 
@@ -44,7 +45,8 @@ module _ {V T O : Type 0} (items : V → List T) (origin : V → O) (by : T → 
     zero_is = (l.each id v at).number_is 0 first
 
     owner_old : (n : ℕ) → n < l.given → owner' n ≡ l.owner n
-    owner_old n lt = ap (λ b. cond b (suc (length s.views)) (l.owner n)) (ne_eqb n l.given (λ (e : n ≡ l.given). no_less n (omega arith)))
+    owner_old n lt = ap (λ b. cond b (suc (length s.views)) (l.owner n))
+        (ne_eqb n l.given (λ (e : n ≡ l.given). no_less n (omega arith)))
 
     owner_new : owner' l.given ≡ suc (length s.views)
     owner_new = ap (λ b. cond b (suc (length s.views)) (l.owner l.given)) (eq-eqb l.given l.given refl)
@@ -75,7 +77,13 @@ module _ {V T O : Type 0} (items : V → List T) (origin : V → O) (by : T → 
       ticket_is = own.ticket_is;
       note_is = own.note_is;
       number_is = λ n e. let k = own.number_is n e in
-          record { below = (let b = k.below in omega arith); owned = owner_old n k.below ∙ k.owned; mine_is = k.mine_is; origin_is = k.origin_is };
+          record {
+            below = (let b = k.below in omega arith);
+            owned = owner_old n k.below ∙ k.owned;
+            mine_is =
+                k.mine_is;
+            origin_is = k.origin_is;
+          };
       first_is = λ e. ap suc given_is;
       seen_is = own.seen_is;
       turn_is = own.turn_is;
@@ -95,7 +103,8 @@ module _ {V T O : Type 0} (items : V → List T) (origin : V → O) (by : T → 
             mine_is = sym (l.unused l.given (omega arith));
             origin_is = zero_is.origin_is;
           });
-      first_is = λ e. let z : v.given ≡ 0 = some_same v.given 0 e in let b = zero_is.below in let g = given_is in absurd (no_less 0 (omega arith));
+      first_is = λ e. let z : v.given ≡ 0 = some_same v.given 0 e in let b = zero_is.below in let g = given_is in
+          absurd (no_less 0 (omega arith));
       seen_is = own.seen_is;
       turn_is = λ e. absurd (false_true false refl e);
       joined_are = each_nil (λ _ e. ToldOk by log l.fresh given' owner' e);
@@ -105,7 +114,8 @@ module _ {V T O : Type 0} (items : V → List T) (origin : V → O) (by : T → 
     other_ok : (j : ℕ) (u : View T O) → j ≢ id → get_elem? s.views j ≡ some u → Ok j u
     other_ok j u ne at_j =
         let ok = l.each j u at_j in
-        view_kept by (origin start) log log l.fresh l.fresh l.given given' l.owner owner' l.served l.served (waiting s.views) (waiting s.views) j u ok
+        view_kept by (origin start) log log l.fresh l.fresh l.given given' l.owner owner' l.served l.served
+        (waiting s.views) (waiting s.views) j u ok
         (λ t e fits near. near) (begins_itself log) ok.turn_is
         (λ n e below owned. (omega arith, owner_old n below ∙ owned, refl))
         (λ e. absurd (ne (two_seats (l.owner 0) j id (ok.number_is 0 e).owned zero_is.owned)))
@@ -129,8 +139,10 @@ module _ {V T O : Type 0} (items : V → List T) (origin : V → O) (by : T → 
       each = subst (λ (k : ℕ). EachAt (ViewOk by log l.fresh given' owner' (origin start) l.served k) views) (sym wait)
           (each_push Ok mid right (each_set Ok s.views id left left_ok other_ok) right_ok);
       unused = λ n past. l.unused n (omega arith);
-      slot_is = slot_push items origin (origin start) log s.homes mid right refl (slot_set items origin (origin start) log s.homes s.views id v left at refl l.slot_is);
+      slot_is = slot_push items origin (origin start) log s.homes mid right refl
+          (slot_set items origin (origin start) log s.homes s.views id v left at refl l.slot_is);
     }
 
-  pub splits_number : (id : ℕ) (v : View T O) → v.number ≡ Some 0 → v.given < 4096 → Splits L id v (next_given v) (newly_given v)
+  pub splits_number : (id : ℕ) (v : View T O) → v.number ≡ Some 0 → v.given < 4096
+      → Splits L id v (next_given v) (newly_given v)
   splits_number id v first room s l at = given_on id v first room s l at

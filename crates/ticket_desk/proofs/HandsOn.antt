@@ -15,8 +15,10 @@ use Rattle.ticket_desk.proofs.Lists.{Own, own_added, by_both, each_set, count_se
 use Rattle.ticket_desk.proofs.Views.{apart_same, view_kept, not_true, false_true, some_none, some_same, none_some, no_less, two_seats}
 use Rattle.ticket_desk.proofs.Wraps.{served_next, nearer}
 
-nothing_more : {T : Type 0} (by : T → ℕ) (m : ℕ) (fresh more : List T) → by_number by m more ≡ [] → by_number by m (fresh ++ more) ≡ by_number by m fresh
-nothing_more by m fresh more e = by_both by m fresh more ∙ ap (λ xs. by_number by m fresh ++ xs) e ∙ append-nil (by_number by m fresh)
+nothing_more : {T : Type 0} (by : T → ℕ) (m : ℕ) (fresh more : List T) → by_number by m more ≡ []
+    → by_number by m (fresh ++ more) ≡ by_number by m fresh
+nothing_more by m fresh more e = by_both by m fresh more ∙ ap (λ xs. by_number by m fresh ++ xs) e ∙ append-nil
+    (by_number by m fresh)
 
 module _ {V T O : Type 0} (items : V → List T) (origin : V → O) (by : T → ℕ) (start : V) where
   abbrev St : Type 0
@@ -28,7 +30,8 @@ module _ {V T O : Type 0} (items : V → List T) (origin : V → O) (by : T → 
   abbrev L : St → Type 0
   L = Legal items origin by start
 
-  module _ (id n t : ℕ) (me : M) (numbered : me.0.number ≡ Some n) (ticket : me.0.ticket ≡ Some t) (on : me.0.turn ≡ true)
+  module _ (id n t : ℕ) (me : M) (numbered : me.0.number ≡ Some n) (ticket : me.0.ticket ≡ Some t)
+      (on : me.0.turn ≡ true)
       (x : V) (out : me.1 ≡ (0, Some x) ∷ []) (from : me.0.origin ≡ Some (origin x))
       (s : St) (l : L s) (at : get_elem? s.views id ≡ some me.0) (new : Own by n me.0.seen (items x)) where
     abbrev source : O
@@ -77,7 +80,8 @@ module _ {V T O : Type 0} (items : V → List T) (origin : V → O) (by : T → 
     fewer : q' + 1 ≡ q
     fewer =
         let c = count_set (λ (v : View T O). is_some v.ticket) s.views id me.0 w at in
-        let z : cond {A = ℕ} (is_some me.0.ticket) 1 0 ≡ 1 = ap (λ (o : Option ℕ). cond {A = ℕ} (is_some o) 1 0) ticket in omega arith
+        let z : cond {A = ℕ} (is_some me.0.ticket) 1 0 ≡ 1 =
+        ap (λ (o : Option ℕ). cond {A = ℕ} (is_some o) 1 0) ticket in omega arith
 
     other_turn : (j : ℕ) (u : View T O) → j ≢ id → get_elem? s.views j ≡ some u → u.turn ≡ true → ⊥
     other_turn j u ne at_j on_j = ne (l.apart j id l.served u me.0 at_j at ((l.each j u at_j).turn_is on_j).0 served_is)
@@ -85,7 +89,8 @@ module _ {V T O : Type 0} (items : V → List T) (origin : V → O) (by : T → 
     told_on : (e : Told T) → ToldOk by log l.fresh l.given l.owner e → ToldOk by log' fresh' l.given l.owner e
     told_on e ok =
         let owned = ((l.each id me.0 at).number_is n numbered).owned in
-        let other : e.number ≢ n = λ (same : e.number ≡ n). let z : l.owner n ≡ 0 = subst (λ (k : ℕ). l.owner k ≡ 0) same ok.gone in no_less 0 (omega arith) in
+        let other : e.number ≢ n = λ (same : e.number ≡ n). let z : l.owner n ≡ 0 =
+        subst (λ (k : ℕ). l.owner k ≡ 0) same ok.gone in no_less 0 (omega arith) in
         record {
           below = ok.below;
           gone = ok.gone;
@@ -109,20 +114,23 @@ module _ {V T O : Type 0} (items : V → List T) (origin : V → O) (by : T → 
       heard_are = λ k xs at_k. begins_on xs log log' (own.heard_are k xs at_k) grows;
     }
 
-    other_view : (j : ℕ) (u : View T O) → j ≢ id → get_elem? s.views j ≡ some u → ViewOk by log' fresh' l.given l.owner source served' q' j u
+    other_view : (j : ℕ) (u : View T O) → j ≢ id → get_elem? s.views j ≡ some u
+        → ViewOk by log' fresh' l.given l.owner source served' q' j u
     other_view j u ne at_j =
         let ok = l.each j u at_j in
         let owned = ((l.each id me.0 at).number_is n numbered).owned in
         view_kept by source log log' l.fresh fresh' l.given l.given l.owner l.owner l.served served' q q' j u ok
         (λ k has fits near. nearer l.served k q q' l.served_fits fits
-        (λ (same : k ≡ l.served). ne (l.apart j id k u me.0 at_j at has (served_is ∙ ap (λ (z : ℕ). Some z) (sym same)))) fewer near)
+        (λ (same : k ≡ l.served). ne (l.apart j id k u me.0 at_j at has
+        (served_is ∙ ap (λ (z : ℕ). Some z) (sym same)))) fewer near)
         grows
         (λ on_j. absurd (other_turn j u ne at_j on_j))
         (λ m has below owned_j. (
           below,
           owned_j,
           nothing_more by m l.fresh new.more (new.others m
-              (λ (same : m ≡ n). ne (two_seats (l.owner n) j id (subst (λ (z : ℕ). l.owner z ≡ suc j) same owned_j) owned))),
+              (λ (same : m ≡ n). ne (two_seats (l.owner n) j id
+              (subst (λ (z : ℕ). l.owner z ≡ suc j) same owned_j) owned))),
         ))
         ok.first_is told_on
 
@@ -131,14 +139,16 @@ module _ {V T O : Type 0} (items : V → List T) (origin : V → O) (by : T → 
         let below = ((l.each id me.0 at).number_is n numbered).below in
         nothing_more by m l.fresh new.more (new.others m (λ (same : m ≡ n). no_less m (omega arith))) ∙ l.unused m past
 
-    slot_home : SlotIs items origin source log s.homes s.views → SlotIs items origin source log' (put_back s.homes me.1) (set s.views id w)
+    slot_home : SlotIs items origin source log s.homes s.views
+        → SlotIs items origin source log' (put_back s.homes me.1) (set s.views id w)
     slot_home (inl home) = absurd (false_true me.0.turn (home.4 id me.0 at) on)
     slot_home (inr gone) = inl (
       x,
       ap (λ c. put_back s.homes c) out ∙ ap (λ hs. set hs 0 (some (Some x))) gone.0,
       log_is,
       some_same (origin x) source (sym from ∙ ((l.each id me.0 at).number_is n numbered).origin_is),
-      each_set (λ _ (u : View T O). u.turn ≡ false) s.views id w refl (λ j u ne at_j. not_true u.turn (λ on_j. other_turn j u ne at_j on_j)),
+      each_set (λ _ (u : View T O). u.turn ≡ false) s.views id w refl
+          (λ j u ne at_j. not_true u.turn (λ on_j. other_turn j u ne at_j on_j)),
     )
 
     handed_on : (next : ℕ) → next ≡ (t + 1) % 18446744073709551616 → L (stepped s 1 next id me.1 w gives)
@@ -162,13 +172,15 @@ module _ {V T O : Type 0} (items : V → List T) (origin : V → O) (by : T → 
           slot_is = slot_home l.slot_is;
         }
 
-  pub hands_on : (slots id n t next : ℕ) (me : M) → IsDone items origin by n t me → next ≡ (t + 1) % 18446744073709551616
+  pub hands_on : (slots id n t next : ℕ) (me : M) → IsDone items origin by n t me
+      → next ≡ (t + 1) % 18446744073709551616
       → Allows L slots id me 1 (λ _. next) (λ _. HandsOn items (step slots 1 next 0 none) me next)
   hands_on slots id n t next me done is s l _ at _ =
       let x : V = done.3.0 in let out : me.1 ≡ (0, Some x) ∷ [] = done.3.1 in (
         after_turn me.0 (items x),
         gives,
         tt,
-        handed_on id n t me done.0 done.1 done.2 x out done.3.3 s l at (own_added by n me.0.seen (items x) done.3.2) next is,
+        handed_on id n t me done.0 done.1 done.2 x out done.3.3 s l at
+            (own_added by n me.0.seen (items x) done.3.2) next is,
         (x, out, λ k. (after_turn me.0 (items x), rest (out k))),
       )

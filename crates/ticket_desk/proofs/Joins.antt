@@ -21,8 +21,10 @@ module _ {V T O : Type 0} (items : V → List T) (origin : V → O) (by : T → 
   abbrev L : State (Option V) (View T O) → Type 0
   L = Legal items origin by start
 
-  module _ (id other n : ℕ) (v w : View T O) (numbered : w.number ≡ Some n) (free : w.ticket ≡ None) (s : State (Option V) (View T O)) (l : L s)
-      (at : get_elem? s.views id ≡ some v) (ne_seats : other ≢ id) (at_mid : get_elem? (set s.views id (joined_with v w)) other ≡ some w) where
+  module _ (id other n : ℕ) (v w : View T O) (numbered : w.number ≡ Some n) (free : w.ticket ≡ None)
+      (s : State (Option V) (View T O)) (l : L s)
+      (at : get_elem? s.views id ≡ some v) (ne_seats : other ≢ id)
+      (at_mid : get_elem? (set s.views id (joined_with v w)) other ≡ some w) where
     abbrev log : List T
     log = items start ++ l.fresh
 
@@ -50,14 +52,16 @@ module _ {V T O : Type 0} (items : V → List T) (origin : V → O) (by : T → 
     -- a number of another seat keeps its owner
     owner_old : (m j : ℕ) → j ≢ other → l.owner m ≡ suc j → owner' m ≡ suc j
     owner_old m j ne owned =
-        ap (λ b. cond b 0 (l.owner m)) (ne_eqb m n (λ (e : m ≡ n). ne (two_seats (l.owner n) j other (subst (λ (k : ℕ). l.owner k ≡ suc j) e owned) number_is.owned)))
+        ap (λ b. cond b 0 (l.owner m)) (ne_eqb m n (λ (e : m ≡ n).
+        ne (two_seats (l.owner n) j other (subst (λ (k : ℕ). l.owner k ≡ suc j) e owned) number_is.owned)))
         ∙ owned
 
     wait : waiting views ≡ waiting s.views
     wait =
         let a = count_set (λ (u : View T O). is_some u.ticket) s.views id v both at in
         let b = count_set (λ (u : View T O). is_some u.ticket) mid other w spent_view at_mid in
-        let z : cond {A = ℕ} (is_some w.ticket) 1 0 ≡ 0 = ap (λ (o : Option ℕ). cond {A = ℕ} (is_some o) 1 0) free in omega arith
+        let z : cond {A = ℕ} (is_some w.ticket) 1 0 ≡ 0 = ap (λ (o : Option ℕ). cond {A = ℕ} (is_some o) 1 0) free in
+        omega arith
 
     count : numbers views ≤ numbers s.views
     count =
@@ -65,7 +69,13 @@ module _ {V T O : Type 0} (items : V → List T) (origin : V → O) (by : T → 
         let b = count_set (λ (u : View T O). is_some u.number) mid other w spent_view at_mid in omega arith
 
     told_on : (e : Told T) → ToldOk by log l.fresh l.given l.owner e → ToldOk by log l.fresh l.given owner' e
-    told_on e ok = record { below = ok.below; gone = cond_zero (eqb e.number n) (l.owner e.number) ok.gone; mine_is = ok.mine_is; seen_is = ok.seen_is }
+    told_on e ok = record {
+      below = ok.below;
+      gone = cond_zero (eqb e.number n) (l.owner e.number) ok.gone;
+      mine_is =
+          ok.mine_is;
+      seen_is = ok.seen_is;
+    }
 
     told_new : ToldOk by log l.fresh l.given owner' (as_told w)
     told_new =
@@ -85,18 +95,26 @@ module _ {V T O : Type 0} (items : V → List T) (origin : V → O) (by : T → 
       ticket_is = own.ticket_is;
       note_is = own.note_is;
       number_is = λ m e. let k = own.number_is m e in
-          record { below = k.below; owned = owner_old m id (λ e. ne_seats (sym e)) k.owned; mine_is = k.mine_is; origin_is = k.origin_is };
+          record {
+            below = k.below;
+            owned = owner_old m id (λ e. ne_seats (sym e)) k.owned;
+            mine_is =
+                k.mine_is;
+            origin_is = k.origin_is;
+          };
       first_is = own.first_is;
       seen_is = own.seen_is;
       turn_is = own.turn_is;
-      joined_are = each_cons (λ _ e. ToldOk by log l.fresh l.given owner' e) (as_told w) v.joined told_new (λ k e at_k. told_on e (own.joined_are k e at_k));
+      joined_are = each_cons (λ _ e. ToldOk by log l.fresh l.given owner' e) (as_told w) v.joined told_new
+          (λ k e at_k. told_on e (own.joined_are k e at_k));
       heard_are = own.heard_are;
     }
 
     other_ok : (j : ℕ) (u : View T O) → j ≢ other → get_elem? s.views j ≡ some u → Ok j u
     other_ok j u ne at_j =
         let ok = l.each j u at_j in
-        view_kept by (origin start) log log l.fresh l.fresh l.given l.given l.owner owner' l.served l.served (waiting s.views) (waiting s.views) j u ok
+        view_kept by (origin start) log log l.fresh l.fresh l.given l.given l.owner owner' l.served l.served
+        (waiting s.views) (waiting s.views) j u ok
         (λ t e fits near. near) (begins_itself log) ok.turn_is
         (λ m e below owned. (below, owner_old m j ne owned, refl)) ok.first_is told_on
 
@@ -113,12 +131,16 @@ module _ {V T O : Type 0} (items : V → List T) (origin : V → O) (by : T → 
       few = ((let f = l.few in let c = count in omega arith), l.few.1);
       apart = apart_same mid other w spent_view at_mid (inr refl) (apart_same s.views id v both at (inl refl) l.apart);
       each = subst (λ (k : ℕ). EachAt (ViewOk by log l.fresh l.given owner' (origin start) l.served k) views) (sym wait)
-          (each_set Ok mid other spent_view (spent_ok items origin by start log l.fresh l.given owner' (origin start) l.served (waiting s.views) other)
-          (λ j u ne at_j. each_set (λ j u. j ≢ other → Ok j u) s.views id both (λ _. both_ok) (λ k x _ at_k ne_k. other_ok k x ne_k at_k) j u at_j ne));
+          (each_set Ok mid other spent_view (spent_ok items origin by start log l.fresh l.given owner'
+          (origin start) l.served (waiting s.views) other)
+          (λ j u ne at_j. each_set (λ j u. j ≢ other → Ok j u) s.views id both (λ _. both_ok)
+          (λ k x _ at_k ne_k. other_ok k x ne_k at_k) j u at_j ne));
       unused = l.unused;
       slot_is = slot_set items origin (origin start) log s.homes mid other w spent_view at_mid (sym off)
           (slot_set items origin (origin start) log s.homes s.views id v both at refl l.slot_is);
     }
 
-  pub joins_pass : (id other n : ℕ) (v w : View T O) → w.number ≡ Some n → w.ticket ≡ None → Joins L id v other w (joined_with v w) spent_view
-  joins_pass id other n v w numbered free s l at apart_seats at_mid = joined_on id other n v w numbered free s l at apart_seats at_mid
+  pub joins_pass : (id other n : ℕ) (v w : View T O) → w.number ≡ Some n → w.ticket ≡ None
+      → Joins L id v other w (joined_with v w) spent_view
+  joins_pass id other n v w numbered free s l at apart_seats at_mid =
+      joined_on id other n v w numbered free s l at apart_seats at_mid

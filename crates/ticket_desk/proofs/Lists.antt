@@ -23,21 +23,25 @@ module _ {A : Type 0} where
   pub one_there : (l : List A) (i : ℕ) (a b : A) → get_elem? l i ≡ some a → get_elem? l i ≡ some b → a ≡ b
   one_there l i a b e f = some-injective a b (sym e ∙ f)
 
-  pub at_end : (l : List A) (a b : A) (j : ℕ) → get_elem? (l ++ a ∷ []) j ≡ some b → (get_elem? l j ≡ some b) ⊎ ((j ≡ length l) × (a ≡ b))
+  pub at_end : (l : List A) (a b : A) (j : ℕ) → get_elem? (l ++ a ∷ []) j ≡ some b
+      → (get_elem? l j ≡ some b) ⊎ ((j ≡ length l) × (a ≡ b))
   at_end [] a b zero e = inr (refl, some-injective a b e)
   at_end [] a b (suc j) e = absurd (some-ne-none b (sym e))
   at_end (x ∷ xs) a b zero e = inl e
-  at_end (x ∷ xs) a b (suc j) e = ⊎_elim (λ (t : get_elem? xs j ≡ some b). inl t) (λ (t : (j ≡ length xs) × (a ≡ b)). inr (ap suc t.0, t.1)) (at_end xs a b j e)
+  at_end (x ∷ xs) a b (suc j) e = ⊎_elim (λ (t : get_elem? xs j ≡ some b). inl t)
+      (λ (t : (j ≡ length xs) × (a ≡ b)). inr (ap suc t.0, t.1)) (at_end xs a b j e)
 
   module _ (P : ℕ → A → Type 0) where
-    pub each_set : (l : List A) (i : ℕ) (w : A) → P i w → ((j : ℕ) (x : A) → j ≢ i → get_elem? l j ≡ some x → P j x) → EachAt P (set l i w)
+    pub each_set : (l : List A) (i : ℕ) (w : A) → P i w → ((j : ℕ) (x : A) → j ≢ i → get_elem? l j ≡ some x → P j x)
+        → EachAt P (set l i w)
     each_set l i w here else j x at = ⊎_elim
         (λ (t : (j ≡ i) × (w ≡ x)). subst (λ (y : ℕ × A). P y.0 y.1) (λ k. (sym t.0 k, t.1 k)) here)
         (λ (t : (j ≢ i) × (get_elem? l j ≡ some x)). else j x t.0 t.1) (at_set l i j w x at)
 
     pub each_push : (l : List A) (w : A) → EachAt P l → P (length l) w → EachAt P (l ++ w ∷ [])
     each_push l w before last j x at = ⊎_elim (λ (t : get_elem? l j ≡ some x). before j x t)
-        (λ (t : (j ≡ length l) × (w ≡ x)). subst (λ (y : ℕ × A). P y.0 y.1) (λ k. (sym t.0 k, t.1 k)) last) (at_end l w x j at)
+        (λ (t : (j ≡ length l) × (w ≡ x)). subst (λ (y : ℕ × A). P y.0 y.1) (λ k. (sym t.0 k, t.1 k)) last)
+        (at_end l w x j at)
 
     pub each_cons : (x : A) (l : List A) → P zero x → EachAt (λ i. P (suc i)) l → EachAt P (x ∷ l)
     each_cons x l here below zero y e = subst (P zero) (some-injective x y e) here
@@ -46,18 +50,22 @@ module _ {A : Type 0} where
     pub each_nil : EachAt P []
     each_nil i x e = absurd (some-ne-none x (sym e))
 
-  pub count_set : (p : A → Bool) (l : List A) (i : ℕ) (v w : A) → get_elem? l i ≡ some v → count_by p (set l i w) + cond (p v) 1 0 ≡ count_by p l + cond (p w) 1 0
+  pub count_set : (p : A → Bool) (l : List A) (i : ℕ) (v w : A) → get_elem? l i ≡ some v
+      → count_by p (set l i w) + cond (p v) 1 0 ≡ count_by p l + cond (p w) 1 0
   count_set p l i v w at = let r = get_within l i v at in
-      subst (λ (x : A). count_by p (set l i w) + cond (p x) 1 0 ≡ count_by p l + cond (p w) 1 0) r.1 (sum_by-set (λ x. cond (p x) 1 0) l i w v r.0)
+      subst (λ (x : A). count_by p (set l i w) + cond (p x) 1 0 ≡ count_by p l + cond (p w) 1 0) r.1
+      (sum_by-set (λ x. cond (p x) 1 0) l i w v r.0)
 
   pub count_push : (p : A → Bool) (l : List A) (w : A) → count_by p (l ++ w ∷ []) ≡ count_by p l + cond (p w) 1 0
   count_push p l w = sum_by_push (λ x. cond (p x) 1 0) l w
 
-  pub count_le : (p q : A → Bool) (l : List A) → ((i : ℕ) (v : A) → get_elem? l i ≡ some v → p v ≡ true → q v ≡ true) → count_by p l ≤ count_by q l
+  pub count_le : (p q : A → Bool) (l : List A) → ((i : ℕ) (v : A) → get_elem? l i ≡ some v → p v ≡ true → q v ≡ true)
+      → count_by p l ≤ count_by q l
   count_le p q [] h = zero-le
   count_le p q (x ∷ xs) h =
       let a = sum_by-cons (λ (y : A). cond (p y) 1 0) x xs in let b = sum_by-cons (λ (y : A). cond (q y) 1 0) x xs in
-      let r = count_le p q xs (λ i v at. h (suc i) v at) in let here = weight_le (p x) (q x) (h zero x refl) in omega arith
+      let r = count_le p q xs (λ i v at. h (suc i) v at) in let here = weight_le (p x) (q x) (h zero x refl) in
+      omega arith
 
   pub begins_itself : (l : List A) → Begins l l
   begins_itself l = ([], sym (append-nil l))
@@ -86,5 +94,17 @@ module _ {A : Type 0} where
     not_one n m x e ne = ap (λ b. cond b (x ∷ []) []) (ne_eqb (by x) m (λ f. ne (sym f ∙ e)))
 
     pub own_added : (n : ℕ) (before after : List A) → Adds by n before after → Own n before after
-    own_added n before after (inl same) = record { more = []; grows = same ∙ sym (append-nil before); own = refl; others = λ m ne. refl }
-    own_added n before after (inr new) = record { more = new.0 ∷ []; grows = new.1; own = own_one n new.0 new.2; others = λ m ne. not_one n m new.0 new.2 ne }
+    own_added n before after (inl same) = record {
+      more = [];
+      grows = same ∙ sym (append-nil before);
+      own =
+          refl;
+      others = λ m ne. refl;
+    }
+    own_added n before after (inr new) = record {
+      more = new.0 ∷ [];
+      grows = new.1;
+      own =
+          own_one n new.0 new.2;
+      others = λ m ne. not_one n m new.0 new.2 ne;
+    }

@@ -14,7 +14,8 @@ get_or_any (x ∷ xs) (suc k) d e lt = get_or_any xs k d e (omega arith)
 
 module _ {A : Type 0} where
   -- what holds at each place, read by index
-  pub each_by_index : (P : ℕ → A → Type 0) (l : List A) → ((k : ℕ) (d : A) → k < length l → P k (get_or l k d)) → EachAt P l
+  pub each_by_index : (P : ℕ → A → Type 0) (l : List A) → ((k : ℕ) (d : A) → k < length l → P k (get_or l k d))
+      → EachAt P l
   each_by_index P l h k a at = let r = get_within l k a at in subst (P k) r.1 (h k a r.0)
 
   pub by_index : (P : ℕ → A → Type 0) (l : List A) → EachAt P l → (k : ℕ) (d : A) → k < length l → P k (get_or l k d)
@@ -29,7 +30,8 @@ module _ {V T O : Type 0} where
   pub same_then : (p q r : Pass V T O) → IsSamePass p q → IsSamePass q r → IsSamePass p r
   same_then p q r a b = record { desk = b.desk ∙ a.desk; number = b.number ∙ a.number; given = b.given ∙ a.given }
 
-  pub pass_stays : (z : TableId) (many k : ℕ) (p q : Pass V T O) → IsSamePass p q → IsPass z many k p → IsPass z many k q
+  pub pass_stays : (z : TableId) (many k : ℕ) (p q : Pass V T O) → IsSamePass p q → IsPass z many k p
+      → IsPass z many k q
   pass_stays z many k p q same is = record {
     desk = same.desk ∙ is.desk;
     number = same.number ∙ is.number;
@@ -38,11 +40,13 @@ module _ {V T O : Type 0} where
 
   -- passes that stay the same are still all passes of their desk
   pub all_stay : (z : TableId) (ps qs : List (Pass V T O)) → length qs ≡ length ps
-      → ((k : ℕ) (d : Pass V T O) → k < length ps → IsSamePass (get_or ps k d) (get_or qs k d)) → AreAll z ps → AreAll z qs
+      → ((k : ℕ) (d : Pass V T O) → k < length ps → IsSamePass (get_or ps k d) (get_or qs k d)) → AreAll z ps
+      → AreAll z qs
   all_stay z ps qs same_length same all = (
     subst (λ (n : ℕ). 0 < n) (sym same_length) all.0,
     each_by_index (IsPass z (length qs)) qs (λ k d lt.
         let lt' : k < length ps = subst (λ (n : ℕ). k < n) same_length lt in
         subst (λ (n : ℕ). IsPass z n k (get_or qs k d)) (sym same_length)
-        (pass_stays z (length ps) k (get_or ps k d) (get_or qs k d) (same k d lt') (by_index (IsPass z (length ps)) ps all.1 k d lt'))),
+        (pass_stays z (length ps) k (get_or ps k d) (get_or qs k d) (same k d lt')
+        (by_index (IsPass z (length ps)) ps all.1 k d lt'))),
   )

@@ -29,17 +29,20 @@ module _ {V T O : Type 0} (items : V → List T) (origin : V → O) where
     pub is : m2 ≡ (at_work m0.0 t value, (0, Some value) ∷ [])
     pub fits : Fits items origin m0.0 value
 
-  pub taken : (m0 m1 m2 : M) (t : ℕ) → IsIdle m0 → m1 ≡ (record m0.0 { ticket = Some t }, m0.1) → TakesTurn items origin m1 m2 → Taken m0 t m2
+  pub taken : (m0 m1 m2 : M) (t : ℕ) → IsIdle m0 → m1 ≡ (record m0.0 { ticket = Some t }, m0.1)
+      → TakesTurn items origin m1 m2 → Taken m0 t m2
   taken m0 m1 m2 t idle drawn took = let x : V = took.0 in record {
     value = x;
-    is = took.1 ∙ ap (λ (m : M). (record m.0 { turn = true; seen = items x }, (0, Some x) ∷ m.1)) drawn ∙ ap (λ c. (at_work m0.0 t x, (0, Some x) ∷ c)) idle.no_slot;
+    is = took.1 ∙ ap (λ (m : M). (record m.0 { turn = true; seen = items x }, (0, Some x) ∷ m.1)) drawn ∙ ap
+        (λ c. (at_work m0.0 t x, (0, Some x) ∷ c)) idle.no_slot;
     fits = subst (λ (m : M). Fits items origin m.0 x) drawn took.2;
   }
 
   pub in_slot : (m0 : M) (t : ℕ) (m2 : M) (k : Taken m0 t m2) → m2.1 ≡ (0, Some k.value) ∷ rest m2.1
   in_slot m0 t m2 k = let e = ap (λ (m : M). m.1) k.is in e ∙ ap (λ c. (0, Some k.value) ∷ c) (sym (ap rest e))
 
-  module _ (m0 : M) (t : ℕ) (m2 m3 m4 : M) (k : Taken m0 t m2) (value left : V) (found : Option V) (out : m2.1 ≡ (0, found) ∷ rest m2.1) (found_is : found ≡ Some value)
+  module _ (m0 : M) (t : ℕ) (m2 m3 m4 : M) (k : Taken m0 t m2) (value left : V) (found : Option V)
+      (out : m2.1 ≡ (0, found) ∷ rest m2.1) (found_is : found ≡ Some value)
       (m3_is : m3 ≡ (m2.0, (0, None) ∷ rest m2.1)) (m4_is : m4 ≡ (m3.0, (0, Some left) ∷ rest m3.1)) where
     pub same_value : k.value ≡ value
     unfolding in_hand
@@ -47,10 +50,13 @@ module _ {V T O : Type 0} (items : V → List T) (origin : V → O) where
 
     pub back : m4 ≡ (at_work m0.0 t k.value, (0, Some left) ∷ [])
     back =
-        m4_is ∙ ap (λ (m : M). (m.0, (0, Some left) ∷ rest m.1)) m3_is ∙ ap (λ (m : M). (m.0, (0, Some left) ∷ rest m.1)) k.is
+        m4_is ∙ ap (λ (m : M). (m.0, (0, Some left) ∷ rest m.1)) m3_is ∙ ap
+        (λ (m : M). (m.0, (0, Some left) ∷ rest m.1)) k.is
 
-    module _ {F R : Type 0} (g : Once F (MutBor V × Unit {0}) (R × (MutBor V × Unit {0}))) (f : F) (by : T → ℕ) (n : ℕ) (r : R)
-        (asked : JobKeeps items origin g f by n m0.0) (idle : IsIdle m0) (numbered : m0.0.number ≡ Some n) (ran : FnOnceReturnsAtMut g f value r left) where
+    module _ {F R : Type 0} (g : Once F (MutBor V × Unit {0}) (R × (MutBor V × Unit {0}))) (f : F) (by : T → ℕ) (n : ℕ)
+        (r : R)
+        (asked : JobKeeps items origin g f by n m0.0) (idle : IsIdle m0) (numbered : m0.0.number ≡ Some n)
+        (ran : FnOnceReturnsAtMut g f value r left) where
       ran_there : FnOnceReturnsAtMut g f k.value r left
       ran_there = subst (λ x. FnOnceReturnsAtMut g f x r left) (sym same_value) ran
 
@@ -70,7 +76,8 @@ module _ {V T O : Type 0} (items : V → List T) (origin : V → O) where
         ),
       )
 
-      pub turned : (m5 : M) → ((y : V) × (m4.1 ≡ (0, Some y) ∷ []) × (m5 ≡ (after_turn m4.0 (items y), []))) → Turned items origin g f by n m0.0 m5.0 r
+      pub turned : (m5 : M) → ((y : V) × (m4.1 ≡ (0, Some y) ∷ []) × (m5 ≡ (after_turn m4.0 (items y), [])))
+          → Turned items origin g f by n m0.0 m5.0 r
       unfolding in_hand
       turned m5 home =
           let y : V = home.0 in
@@ -87,10 +94,17 @@ module _ {V T O : Type 0} (items : V → List T) (origin : V → O) where
                 ap (λ (m : M). m.0) home.2
                 ∙ ap (λ (z : V). after_turn m4.0 (items z)) same
                 ∙ ap (λ (m : M). after_turn m.0 log) back
-                ∙ (λ j. record m0.0 { ticket = sym idle.no_ticket j; turn = sym idle.no_turn j; seen = log; mine = more });
+                ∙ (λ j. record m0.0 {
+                  ticket = sym idle.no_ticket j;
+                  turn = sym idle.no_turn j;
+                  seen = log;
+                  mine =
+                      more;
+                });
           }
 
 -- what a call of the job says, at the value before it and the value after it
-pub ran_once : {V F R : Type 0} (g : Once F (MutBor V × Unit {0}) (R × (MutBor V × Unit {0}))) (f : F) (p q : MutBor V) (r : R) → g.post f (p, tt) (r, (q, tt))
+pub ran_once : {V F R : Type 0} (g : Once F (MutBor V × Unit {0}) (R × (MutBor V × Unit {0}))) (f : F) (p q : MutBor V)
+    (r : R) → g.post f (p, tt) (r, (q, tt))
     → FnOnceReturnsAtMut g f p.now r q.now
 ran_once g f p q r met = record { shown = p; shows = refl; left = q; met = met; leaves = refl }

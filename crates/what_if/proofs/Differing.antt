@@ -28,7 +28,8 @@ pub tail-differs : {X : Type 0} (x : X) (xs : List X) → Differ (x ∷ xs) → 
 tail-differs x xs h i j d lt below = h (suc i) (suc j) d (omega arith) (omega arith)
 
 -- two lists behind one another
-pub differ-append : {X : Type 0} (xs ys : List X) → Differ xs → Differ ys → All (λ x. All (λ y. x ≢ y) ys) xs → Differ (xs ++ ys)
+pub differ-append : {X : Type 0} (xs ys : List X) → Differ xs → Differ ys → All (λ x. All (λ y. x ≢ y) ys) xs
+    → Differ (xs ++ ys)
 differ-append [] ys hx hy apart = hy
 differ-append (x ∷ xs) ys hx hy apart =
     AllPairs-cons (λ a b. a ≢ b) x (xs ++ ys)
@@ -44,7 +45,8 @@ module _ {X A : Type 0} (f : X → A) where
   all_front : (P : A → Type 0) (xs ys : List X) → All P (map f (xs ++ ys)) → All P (map f xs)
   all_front P [] ys h = All-nil P
   all_front P (x ∷ xs) ys h =
-      All-cons P (f x) (map f xs) (All-head P (f x) (map f (xs ++ ys)) h) (all_front P xs ys (All-tail P (f x) (map f (xs ++ ys)) h))
+      All-cons P (f x) (map f xs) (All-head P (f x) (map f (xs ++ ys)) h)
+      (all_front P xs ys (All-tail P (f x) (map f (xs ++ ys)) h))
 
   pub differ-front : (xs ys : List X) → Differ (map f (xs ++ ys)) → Differ (map f xs)
   differ-front [] ys h = differ-none
@@ -105,7 +107,8 @@ module _ {K X : Type 0} (R : K → K → Ordering) (key : X → K) (o : IsKeyOrd
   pub absent_row : (k : K) (xs : List X) → All (λ a. k ≢ a) (map key xs) → find_row R key k xs ≡ None
   absent_row k [] h = refl
   absent_row k (x ∷ xs) h =
-      ap (λ (b : Bool). cond b (Some x) (find_row R key k xs)) (no_tie k (key x) (All-head (λ a. k ≢ a) (key x) (map key xs) h))
+      ap (λ (b : Bool). cond b (Some x) (find_row R key k xs))
+      (no_tie k (key x) (All-head (λ a. k ≢ a) (key x) (map key xs) h))
       ∙ absent_row k xs (All-tail (λ a. k ≢ a) (key x) (map key xs) h)
 
   -- and one that a row has is, where no two rows have one key
@@ -116,7 +119,8 @@ module _ {K X : Type 0} (R : K → K → Ordering) (key : X → K) (o : IsKeyOrd
       ∙ ap (λ (b : Bool). cond b (Some x) (find_row R key (key x) ys)) (ties_itself R o (key x))
   found x (y ∷ ys) differ (suc k, lt, at) =
       let inside : Contains ys x = (k, omega arith, at) in
-      let apart : key y ≢ key x = All-contains (λ a. key y ≢ a) (map key ys) (key x) (head-differs (key y) (map key ys) differ) (Contains-mapped key ys x inside) in
+      let apart : key y ≢ key x = All-contains (λ a. key y ≢ a) (map key ys) (key x)
+      (head-differs (key y) (map key ys) differ) (Contains-mapped key ys x inside) in
       ap (λ (b : Bool). cond b (Some y) (find_row R key (key x) ys)) (no_tie (key x) (key y) (λ e. apart (sym e)))
       ∙ found x ys (tail-differs (key y) (map key ys) differ) inside
 
@@ -129,8 +133,10 @@ module _ {K X : Type 0} (R : K → K → Ordering) (key : X → K) (o : IsKeyOrd
   pub length-table : (xs : List X) → Differ (map key xs) → length (table R key xs) ≡ length xs
   length-table [] h = refl
   length-table (x ∷ xs) h =
-      let none : find_row R key (key x) (table R key xs) ≡ None = find_row-table R key o (key x) xs ∙ absent_row (key x) xs (head-differs (key x) (map key xs) h) in
-      let one : length (put_row R key x (table R key xs)) ≡ length (table R key xs) + 1 = length-put_row_new R key o x (table R key xs) (IsRising-table R key o xs) none in
+      let none : find_row R key (key x) (table R key xs) ≡ None =
+      find_row-table R key o (key x) xs ∙ absent_row (key x) xs (head-differs (key x) (map key xs) h) in
+      let one : length (put_row R key x (table R key xs)) ≡ length (table R key xs) + 1 =
+      length-put_row_new R key o x (table R key xs) (IsRising-table R key o xs) none in
       let rest : length (table R key xs) ≡ length xs = length-table xs (tail-differs (key x) (map key xs) h) in
       omega arith
 
@@ -138,13 +144,15 @@ module _ {K X : Type 0} (R : K → K → Ordering) (key : X → K) where
   -- what holds of each row holds of those of the table
   pub All-table : (P : X → Type 0) (xs : List X) → All P xs → All P (table R key xs)
   All-table P [] h = h
-  All-table P (x ∷ xs) h = All-put_row R key P x (table R key xs) (All-head P x xs h) (All-table P xs (All-tail P x xs h))
+  All-table P (x ∷ xs) h = All-put_row R key P x (table R key xs) (All-head P x xs h)
+      (All-table P xs (All-tail P x xs h))
 
   put_adds : (f : X → ℕ) (x : X) (xs : List X) → sum_by f (put_row R key x xs) ≤ f x + sum_by f xs
   put_adds f x [] = omega (arith, sum_by-cons f x [])
   put_adds f x (y ∷ ys) =
       let whole : sum_by f (y ∷ ys) ≡ f y + sum_by f ys = sum_by-cons f y ys in
-      elim (R (key x) (key y)) as (λ c. sum_by f (by_order c (x ∷ y ∷ ys) (x ∷ ys) (y ∷ put_row R key x ys)) ≤ f x + sum_by f (y ∷ ys)) [
+      elim (R (key x) (key y)) as (λ c. sum_by f (by_order c (x ∷ y ∷ ys) (x ∷ ys) (y ∷ put_row R key x ys))
+      ≤ f x + sum_by f (y ∷ ys)) [
         | Less ↦ omega (arith, sum_by-cons f x (y ∷ ys))
         | Equal ↦ omega (arith, sum_by-cons f x ys)
         | Greater ↦ omega (arith, sum_by-cons f y (put_row R key x ys), put_adds f x ys)

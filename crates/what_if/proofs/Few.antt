@@ -26,11 +26,13 @@ one_more true n m h = omega arith
 one_more false n m h = omega arith
 
 -- a table has no more rows than there are
-pub table_few : {K X : Type 0} (R : K → K → Ordering) (key : X → K) → IsKeyOrder R → (xs : List X) → length (table R key xs) ≤ length xs
+pub table_few : {K X : Type 0} (R : K → K → Ordering) (key : X → K) → IsKeyOrder R → (xs : List X)
+    → length (table R key xs) ≤ length xs
 table_few R key o [] = omega arith
 table_few R key o (x ∷ xs) =
     let rest = table_few R key o xs in
-    let more = one_more (is_some (find_row R key (key x) (table R key xs))) (length (table R key xs)) (length xs) rest in
+    let more = one_more (is_some (find_row R key (key x) (table R key xs))) (length (table R key xs))
+    (length xs) rest in
     let same = length-put_row R key o x (table R key xs) (IsRising-table R key o xs) in
     omega (arith, more, same)
 
@@ -45,14 +47,20 @@ stands_few cells =
 pub waits_few : (site : Site) (h : Holders) → length (waits_by site h) ≤ length site.wanted + length site.pending
 waits_few site h =
     let both = length-append (map instance_job (filter (does_wait_by h) site.wanted)) site.pending in
-    omega (arith, both, length-map (filter (does_wait_by h) site.wanted) instance_job, shorter (does_wait_by h) site.wanted)
+    omega (
+      arith,
+      both,
+      length-map (filter (does_wait_by h) site.wanted) instance_job,
+      shorter (does_wait_by h) site.wanted,
+    )
 
 -- the cells of an auction, and the jobs of one, are few
 pub few_stands : (ss : List Stand) (cells : List Answer) → AreAnswers cells → ss ≡ stands_of cells → length ss ≤ 2 ^ 32
 few_stands ss cells h e =
     subst (λ (xs : List Stand). length xs ≤ 2 ^ 32) (sym e) (omega (arith, stands_few cells, h.few))
 
-pub few_bare : (ss : List Stand) (cells : List Answer) → AreAnswers cells → ss ≡ map without_jobs (stands_of cells) → length ss ≤ 2 ^ 32
+pub few_bare : (ss : List Stand) (cells : List Answer) → AreAnswers cells → ss ≡ map without_jobs (stands_of cells)
+    → length ss ≤ 2 ^ 32
 few_bare ss cells h e =
     subst (λ (xs : List Stand). length xs ≤ 2 ^ 32) (sym e)
     (omega (arith, stands_few cells, h.few, length-map (stands_of cells) without_jobs))

@@ -36,10 +36,19 @@ pub record HasParts (site : Site) (lost : List (List ℕ)) (p : Plan) : Type 0 w
 pub whole_plan : (site : Site) (lost : List (List ℕ)) (p : Plan) → HasParts site lost p → p ≡ planned site lost
 whole_plan site lost p h =
     ap (λ (x : List Job). plan_with x p.before p.placements p.left p.without_room p.stands p.displaced p.verdict) h.jobs
-    ∙ ap (λ (x : List Stand). plan_with (jobs_of_loss site lost) x p.placements p.left p.without_room p.stands p.displaced p.verdict) h.before
-    ∙ ap (λ (x : List Placement). plan_with (jobs_of_loss site lost) (map without_jobs (stands_before site lost)) x p.left p.without_room p.stands p.displaced p.verdict) h.placements
-    ∙ ap (λ (x : List Job). plan_with (jobs_of_loss site lost) (map without_jobs (stands_before site lost)) (plan site lost) x p.without_room p.stands p.displaced p.verdict) h.left
-    ∙ ap (λ (x : List Unplaced). plan_with (jobs_of_loss site lost) (map without_jobs (stands_before site lost)) (plan site lost) (left_of site lost) x p.stands p.displaced p.verdict) h.without_room
-    ∙ ap (λ (x : List Stand). plan_with (jobs_of_loss site lost) (map without_jobs (stands_before site lost)) (plan site lost) (left_of site lost) (unplaced_of site lost) x p.displaced p.verdict) h.stands
-    ∙ ap (λ (x : ℕ). plan_with (jobs_of_loss site lost) (map without_jobs (stands_before site lost)) (plan site lost) (left_of site lost) (unplaced_of site lost) (stands_then site lost) x p.verdict) h.displaced
-    ∙ ap (λ (x : Verdict). plan_with (jobs_of_loss site lost) (map without_jobs (stands_before site lost)) (plan site lost) (left_of site lost) (unplaced_of site lost) (stands_then site lost) (length (displaced site lost)) x) h.verdict
+    ∙ ap (λ (x : List Stand). plan_with (jobs_of_loss site lost) x p.placements p.left p.without_room p.stands
+    p.displaced p.verdict) h.before
+    ∙ ap (λ (x : List Placement). plan_with (jobs_of_loss site lost)
+    (map without_jobs (stands_before site lost)) x p.left p.without_room p.stands p.displaced p.verdict)
+    h.placements
+    ∙ ap (λ (x : List Job). plan_with (jobs_of_loss site lost) (map without_jobs (stands_before site lost))
+    (plan site lost) x p.without_room p.stands p.displaced p.verdict) h.left
+    ∙ ap (λ (x : List Unplaced). plan_with (jobs_of_loss site lost) (map without_jobs (stands_before site lost))
+    (plan site lost) (left_of site lost) x p.stands p.displaced p.verdict) h.without_room
+    ∙ ap (λ (x : List Stand). plan_with (jobs_of_loss site lost) (map without_jobs (stands_before site lost))
+    (plan site lost) (left_of site lost) (unplaced_of site lost) x p.displaced p.verdict) h.stands
+    ∙ ap (λ (x : ℕ). plan_with (jobs_of_loss site lost) (map without_jobs (stands_before site lost)) (plan site lost)
+    (left_of site lost) (unplaced_of site lost) (stands_then site lost) x p.verdict) h.displaced
+    ∙ ap (λ (x : Verdict). plan_with (jobs_of_loss site lost) (map without_jobs (stands_before site lost))
+    (plan site lost) (left_of site lost) (unplaced_of site lost) (stands_then site lost)
+    (length (displaced site lost)) x) h.verdict

@@ -11,26 +11,33 @@ use Rattle.auctioneer.specs.declared.stand.Stand.{Stand}
 use Rattle.what_if.specs.Plans.{if_none, is_left, left_over}
 
 -- what is told of a job stands behind what was told before
-moved_over : {X : Type 0} (found : Option Stand) (x : X) (told rest : List X) → (told ++ if_none found x []) ++ rest ≡ told ++ if_none found x rest
+moved_over : {X : Type 0} (found : Option Stand) (x : X) (told rest : List X)
+    → (told ++ if_none found x []) ++ rest ≡ told ++ if_none found x rest
 moved_over None x told rest = append_assoc told (x ∷ []) rest
 moved_over {X} (Some s) x told rest = ap (λ (xs : List X). xs ++ rest) (append-nil told)
 
 -- what is told of the jobs left over, with one job more
-pub left_next : {X : Type 0} (tell : List Stand → Job → X) (stands next : List Stand) (job : Job) (rest : List Job) (told more : List X) → next ≡ stands_with job (best stands job) stands → more ≡ told ++ if_none (best stands job) (tell stands job) [] → more ++ left_over tell next rest ≡ told ++ left_over tell stands (job ∷ rest)
+pub left_next : {X : Type 0} (tell : List Stand → Job → X) (stands next : List Stand) (job : Job) (rest : List Job)
+    (told more : List X) → next ≡ stands_with job (best stands job) stands
+    → more ≡ told ++ if_none (best stands job) (tell stands job) []
+    → more ++ left_over tell next rest ≡ told ++ left_over tell stands (job ∷ rest)
 left_next {X} tell stands next job rest told more stood is =
     ap (λ (xs : List X). xs ++ left_over tell next rest) is
     ∙ moved_over (best stands job) (tell stands job) told (left_over tell next rest)
     ∙ ap (λ (ss : List Stand). told ++ if_none (best stands job) (tell stands job) (left_over tell ss rest)) stood
 
 -- the placements, with one job more
-pub placed_next : (stands next : List Stand) (job : Job) (rest : List Job) (told more : List Placement) → next ≡ stands_with job (best stands job) stands → more ≡ told ++ placement_on job (best stands job) ∷ [] → more ++ auction_from next rest ≡ told ++ auction_from stands (job ∷ rest)
+pub placed_next : (stands next : List Stand) (job : Job) (rest : List Job) (told more : List Placement)
+    → next ≡ stands_with job (best stands job) stands → more ≡ told ++ placement_on job (best stands job) ∷ []
+    → more ++ auction_from next rest ≡ told ++ auction_from stands (job ∷ rest)
 placed_next stands next job rest told more stood is =
     ap (λ (xs : List Placement). xs ++ auction_from next rest) is
     ∙ append_assoc told (placement_on job (best stands job) ∷ []) (auction_from next rest)
     ∙ ap (λ (ss : List Stand). told ++ placement_on job (best stands job) ∷ auction_from ss rest) stood
 
 -- placing a job leaves as many cells
-pub few_next : (stands next : List Stand) (job : Job) → next ≡ stands_with job (best stands job) stands → length stands ≤ 2 ^ 32 → length next ≤ 2 ^ 32
+pub few_next : (stands next : List Stand) (job : Job) → next ≡ stands_with job (best stands job) stands
+    → length stands ≤ 2 ^ 32 → length next ≤ 2 ^ 32
 few_next stands next job stood few = rw (stood, as_many (best stands job) stands job) few
   where
     as_many : (found : Option Stand) (ss : List Stand) (j : Job) → length (stands_with j found ss) ≡ length ss
@@ -38,11 +45,14 @@ few_next stands next job stood few = rw (stood, as_many (best stands job) stands
     as_many (Some s) ss j = length-map ss (λ (t : Stand). if same_name t.cell s.cell then with_job j t else t)
 
 -- what is told if there is no best cell is told if the job is left over
-pub if_left : {X : Type 0} (found : Option Stand) (job : Job) (x : X) → cond (is_left (placement_on job found)) (x ∷ []) [] ≡ if_none found x []
+pub if_left : {X : Type 0} (found : Option Stand) (job : Job) (x : X)
+    → cond (is_left (placement_on job found)) (x ∷ []) [] ≡ if_none found x []
 if_left None job x = refl
 if_left (Some s) job x = refl
 
 -- and with the cells as its turn found them, since it takes no room
-pub told_at_turn : {X : Type 0} (tell : List Stand → Job → X) (found : Option Stand) (ss : List Stand) (job : Job) → cond (is_left (placement_on job found)) (tell (stands_with job found ss) job ∷ []) [] ≡ if_none found (tell ss job) []
+pub told_at_turn : {X : Type 0} (tell : List Stand → Job → X) (found : Option Stand) (ss : List Stand) (job : Job)
+    → cond (is_left (placement_on job found)) (tell (stands_with job found ss) job ∷ []) []
+    ≡ if_none found (tell ss job) []
 told_at_turn tell None ss job = refl
 told_at_turn tell (Some s) ss job = refl

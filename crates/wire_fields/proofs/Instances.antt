@@ -17,7 +17,8 @@ use Rattle.wire_fields.proofs.Pairs.{bind_ok, IsField-pair}
 pub IsField-instance : IsField FitsInstance field_instance instance_at
 unfolding field_instance instance_at
 IsField-instance =
-    IsField-pair {Z = Instance} (λ epoch number. record { epoch = epoch; number = number }) (λ i. i.epoch) (λ i. i.number)
+    IsField-pair {Z = Instance} (λ epoch number. record { epoch = epoch; number = number }) (λ i. i.epoch)
+    (λ i. i.number)
     (record { made = λ z. refl; one_of = λ x y. refl; other_of = λ x y. refl }) IsField-u64 IsField-u32
 
 -- ---- an instance or none
@@ -39,15 +40,18 @@ abbrev behind : List ℕ → Bool × ℕ → Result (Option Instance × ℕ) Fie
 behind bytes t = cond t.0 (instance_at bytes t.1 >>= seen) (Ok (None, t.1))
 
 told : (bytes : List ℕ) (at : ℕ) (b : Bool) (start : ℕ) (o : Option Instance) (after : ℕ) → IsBytes bytes
-    → TextStandsAt bytes at (field_truth b) → start ≡ at + length (field_truth b) → behind bytes (b, start) ≡ Ok (o, after) → Spells bytes at o after
+    → TextStandsAt bytes at (field_truth b) → start ≡ at + length (field_truth b)
+    → behind bytes (b, start) ≡ Ok (o, after) → Spells bytes at o after
 unfolding field_truth field_optional_instance
 told bytes at false start o after ib stands place e =
     let pair = ok_is {X = Option Instance × ℕ} (None, start) (o, after) e in
-    subst (λ (p : Option Instance × ℕ). Spells bytes at p.0 p.1) pair (record { stands = stands; place = place; fits = tt })
+    subst (λ (p : Option Instance × ℕ). Spells bytes at p.0 p.1) pair
+    (record { stands = stands; place = place; fits = tt })
 told bytes at true start o after ib stands place e =
     let i = bind_ok (instance_at bytes start) seen (o, after) e in
     let inner = IsField-instance.spelled bytes start i.0.0 i.0.1 ib i.1 in
-    let there : TextStandsAt bytes (at + length (field_truth true)) (field_instance i.0.0) = subst (λ (n : ℕ). TextStandsAt bytes n (field_instance i.0.0)) place inner.0 in
+    let there : TextStandsAt bytes (at + length (field_truth true)) (field_instance i.0.0) =
+    subst (λ (n : ℕ). TextStandsAt bytes n (field_instance i.0.0)) place inner.0 in
     let pair = ok_is {X = Option Instance × ℕ} (Some i.0.0, i.0.1) (o, after) i.2 in
     subst (λ (p : Option Instance × ℕ). Spells bytes at p.0 p.1) pair (record {
       stands = StandsAt-append bytes at (field_truth true) (field_instance i.0.0) stands there;
@@ -55,28 +59,34 @@ told bytes at true start o after ib stands place e =
       fits = inner.2;
     })
 
-optional_again : (bytes : List ℕ) (at : ℕ) (o : Option Instance) → FitsOptional o → TextStandsAt bytes at (field_optional_instance o)
+optional_again : (bytes : List ℕ) (at : ℕ) (o : Option Instance) → FitsOptional o
+    → TextStandsAt bytes at (field_optional_instance o)
     → optional_instance_at bytes at ≡ Ok (o, at + length (field_optional_instance o))
 unfolding field_truth field_optional_instance optional_instance_at
-optional_again bytes at None fits stands = ap (λ (r : Result (Bool × ℕ) FieldFault). r >>= behind bytes) (IsField-truth.again bytes at false tt stands)
+optional_again bytes at None fits stands = ap (λ (r : Result (Bool × ℕ) FieldFault). r >>= behind bytes)
+    (IsField-truth.again bytes at false tt stands)
 optional_again bytes at (Some i) fits stands =
     let flag = IsField-truth.again bytes at true tt (StandsAt-front bytes at (1 ∷ []) (field_instance i) stands) in
-    let inner = IsField-instance.again bytes (at + 1) i fits (StandsAt-back bytes at (1 ∷ []) (field_instance i) stands) in
+    let inner = IsField-instance.again bytes (at + 1) i fits
+    (StandsAt-back bytes at (1 ∷ []) (field_instance i) stands) in
     let place : at + 1 + length (field_instance i) ≡ at + length (1 ∷ field_instance i) = omega arith in
     ap (λ (r : Result (Bool × ℕ) FieldFault). r >>= behind bytes) flag
     ∙ ap (λ (r : Result (Instance × ℕ) FieldFault). r >>= seen) inner
     ∙ ap (λ (n : ℕ). Ok (Some i, n)) place
 
-optional_cut : (bytes : List ℕ) (at k : ℕ) (o : Option Instance) → FitsOptional o → k < length (field_optional_instance o)
+optional_cut : (bytes : List ℕ) (at k : ℕ) (o : Option Instance) → FitsOptional o
+    → k < length (field_optional_instance o)
     → drop at bytes ≡ take k (field_optional_instance o) → optional_instance_at bytes at ≡ Err (Short (length bytes))
 unfolding field_truth field_optional_instance optional_instance_at
-optional_cut bytes at zero o fits lt e = ap (λ (r : Result (Bool × ℕ) FieldFault). r >>= behind bytes) (IsField-truth.cut bytes at 0 true tt (omega arith) e)
+optional_cut bytes at zero o fits lt e = ap (λ (r : Result (Bool × ℕ) FieldFault). r >>= behind bytes)
+    (IsField-truth.cut bytes at 0 true tt (omega arith) e)
 optional_cut bytes at (suc k) None fits lt e = absurd (omega arith)
 optional_cut bytes at (suc k) (Some i) fits lt e =
     let flag = IsField-truth.again bytes at true tt (record { rest = take k (field_instance i); parts = e }) in
     let rest-is : drop (at + 1) bytes ≡ take k (field_instance i) = sym (drop-drop 1 at bytes) ∙ ap (drop 1) e in
     let inner = IsField-instance.cut bytes (at + 1) k i fits (omega arith) rest-is in
-    ap (λ (r : Result (Bool × ℕ) FieldFault). r >>= behind bytes) flag ∙ ap (λ (r : Result (Instance × ℕ) FieldFault). r >>= seen) inner
+    ap (λ (r : Result (Bool × ℕ) FieldFault). r >>= behind bytes) flag ∙ ap
+    (λ (r : Result (Instance × ℕ) FieldFault). r >>= seen) inner
 
 pub IsField-optional_instance : IsField (λ o. IfSome o FitsInstance) field_optional_instance optional_instance_at
 unfolding optional_instance_at

@@ -14,7 +14,8 @@ use Rattle.wire_fields.specs.Laws.{IsField}
 use Rattle.wire_fields.specs.Reading.{name_at, optional_name_at}
 use Rattle.wire_fields.proofs.Fronts.{Takes, IsFront, not_bad, not_ended, held, IsField-from_front}
 
-if_held : {X : Type 0} (b : Bool) (x y : X) (m n : ℕ) → cond b (Holds x m) Bad ≡ Holds y n → (b ≡ true) × (x ≡ y) × (m ≡ n)
+if_held : {X : Type 0} (b : Bool) (x y : X) (m n : ℕ) → cond b (Holds x m) Bad ≡ Holds y n
+    → (b ≡ true) × (x ≡ y) × (m ≡ n)
 if_held true x y m n e = let same = held x y m n e in (refl, same.0, same.1)
 if_held false x y m n e = absurd cc
 
@@ -30,14 +31,16 @@ name_spelled (len ∷ rest) name n e =
     let tests = neither (eqb len 0) (ltb 80 len) fit.0 in
     let more = eqb-false len 0 tests.0 in
     let most : len ≤ 80 = ltb-false 80 len tests.1 in
-    let open_ = not_ended (ltb (length rest) len) (cond (list_all is_name_byte (take len rest)) (Holds (take len rest) (1 + len)) Bad) name n fit.1 in
+    let open_ = not_ended (ltb (length rest) len) (cond (list_all is_name_byte (take len rest))
+    (Holds (take len rest) (1 + len)) Bad) name n fit.1 in
     let there : len ≤ length rest = ltb-false (length rest) len open_.0 in
     let good = if_held (list_all is_name_byte (take len rest)) (take len rest) name (1 + len) n open_.1 in
     let taken : length (take len rest) ≡ len = length-take-le len rest there in
     let len-is : length name ≡ len = ap length (sym good.1) ∙ taken in
     record {
       rest = drop len rest;
-      parts = ap (λ (l : ℕ). l ∷ rest) (sym len-is) ∙ ap (λ (r : List ℕ). length name ∷ r) (sym (take-append-drop len rest) ∙ ap (λ (t : List ℕ). t ++ drop len rest) good.1);
+      parts = ap (λ (l : ℕ). l ∷ rest) (sym len-is) ∙ ap (λ (r : List ℕ). length name ∷ r)
+          (sym (take-append-drop len rest) ∙ ap (λ (t : List ℕ). t ++ drop len rest) good.1);
       count = sym good.2 ∙ omega (arith, len-is);
       fits = record {
         not_empty = let ne : len ≡ 0 → ⊥ = more in omega (arith, len-is);
@@ -53,15 +56,18 @@ name_opens name is =
     let b : ltb 80 (length name) ≡ false = le-ltb 80 (length name) is.not_too_long in
     rw (a, b) refl
 
-name_again : (name rest : List ℕ) → IsName name → name_front (field_name name ++ rest) ≡ Holds name (length (field_name name))
+name_again : (name rest : List ℕ) → IsName name → name_front (field_name name ++ rest)
+    ≡ Holds name (length (field_name name))
 unfolding field_name
 name_again name rest is =
-    let long : ltb (length (name ++ rest)) (length name) ≡ false = le-ltb _ _ (omega (arith, length-append name rest)) in
+    let long : ltb (length (name ++ rest)) (length name) ≡ false =
+    le-ltb _ _ (omega (arith, length-append name rest)) in
     let good : list_all is_name_byte name ≡ true = list_all-from_AllPass is_name_byte name is.each in
     let count : 1 + length name ≡ suc (length name) = omega arith in
     rw (name_opens name is, long, take_at name rest (length name) refl, good, count) refl
 
-name_cut : (name : List ℕ) (k : ℕ) → IsName name → k < length (field_name name) → name_front (take k (field_name name)) ≡ Ends
+name_cut : (name : List ℕ) (k : ℕ) → IsName name → k < length (field_name name)
+    → name_front (take k (field_name name)) ≡ Ends
 unfolding field_name
 name_cut name zero is lt = refl
 name_cut name (suc k) is lt =
@@ -85,14 +91,16 @@ abbrev FitsOptional : Option (List ℕ) → Type 0
 FitsOptional o = IfSome o IsName
 
 -- the value that is seen in another way
-map_held : (f : Front (List ℕ)) (o : Option (List ℕ)) (n : ℕ) → front_map Some f ≡ Holds o n → (name : List ℕ) × (f ≡ Holds name n) × (Some name ≡ o)
+map_held : (f : Front (List ℕ)) (o : Option (List ℕ)) (n : ℕ) → front_map Some f ≡ Holds o n
+    → (name : List ℕ) × (f ≡ Holds name n) × (Some name ≡ o)
 map_held (Holds name m) o n e =
     let same = held (Some name) o m n e in
     (name, ap (λ (k : ℕ). Holds name k) same.1, same.0)
 map_held Ends o n e = absurd cc
 map_held Bad o n e = absurd cc
 
-none_spelled : (len : ℕ) (rest : List ℕ) (o : Option (List ℕ)) (n : ℕ) → len ≡ 0 → ◌≡◌ {A = Front (Option (List ℕ))} (Holds None 1) (Holds o n)
+none_spelled : (len : ℕ) (rest : List ℕ) (o : Option (List ℕ)) (n : ℕ) → len ≡ 0
+    → ◌≡◌ {A = Front (Option (List ℕ))} (Holds None 1) (Holds o n)
     → Takes FitsOptional field_optional_name (len ∷ rest) o n
 unfolding field_optional_name
 none_spelled len rest o n zero_is e =
@@ -100,7 +108,8 @@ none_spelled len rest o n zero_is e =
     subst (λ (p : Option (List ℕ)). Takes FitsOptional field_optional_name (len ∷ rest) p n) same.0
     (record { rest = rest; parts = ap (λ (l : ℕ). l ∷ rest) zero_is; count = sym same.1; fits = tt })
 
-some_spelled : (bytes : List ℕ) (o : Option (List ℕ)) (n : ℕ) → front_map Some (name_front bytes) ≡ Holds o n → Takes FitsOptional field_optional_name bytes o n
+some_spelled : (bytes : List ℕ) (o : Option (List ℕ)) (n : ℕ) → front_map Some (name_front bytes) ≡ Holds o n
+    → Takes FitsOptional field_optional_name bytes o n
 unfolding field_optional_name
 some_spelled bytes o n e =
     let name = map_held (name_front bytes) o n e in
@@ -108,10 +117,12 @@ some_spelled bytes o n e =
     subst (λ (p : Option (List ℕ)). Takes FitsOptional field_optional_name bytes p n) name.2
     (record { rest = takes.rest; parts = takes.parts; count = takes.count; fits = takes.fits })
 
-optional_name_spelled : (bytes : List ℕ) (o : Option (List ℕ)) (n : ℕ) → optional_name_front bytes ≡ Holds o n → Takes FitsOptional field_optional_name bytes o n
+optional_name_spelled : (bytes : List ℕ) (o : Option (List ℕ)) (n : ℕ) → optional_name_front bytes ≡ Holds o n
+    → Takes FitsOptional field_optional_name bytes o n
 optional_name_spelled [] o n e = absurd cc
 optional_name_spelled (len ∷ rest) o n e =
-    elim (eqb len 0) as (λ b. eqb len 0 ≡ b → cond b (Holds None 1) (front_map Some (name_front (len ∷ rest))) ≡ Holds o n → Takes FitsOptional field_optional_name (len ∷ rest) o n) [
+    elim (eqb len 0) as (λ b. eqb len 0 ≡ b → cond b (Holds None 1) (front_map Some (name_front (len ∷ rest)))
+    ≡ Holds o n → Takes FitsOptional field_optional_name (len ∷ rest) o n) [
       | true ↦ λ is_zero f. none_spelled len rest o n (eqb-true len 0 is_zero) f
       | false ↦ λ more f. some_spelled (len ∷ rest) o n f
     ] refl e
@@ -120,15 +131,18 @@ otherwise : {X : Type 0} (b : Bool) (x y : X) → b ≡ false → cond b x y ≡
 otherwise b x y is_false = rw is_false refl
 
 name_is_some : (name : List ℕ) → IsName name → eqb (length name) 0 ≡ false
-name_is_some name is = let positive : 0 < length name = is.not_empty in ne_eqb (length name) 0 (λ e. absurd (omega arith))
+name_is_some name is = let positive : 0 < length name = is.not_empty in
+    ne_eqb (length name) 0 (λ e. absurd (omega arith))
 
-optional_name_again : (o : Option (List ℕ)) (rest : List ℕ) → FitsOptional o → optional_name_front (field_optional_name o ++ rest) ≡ Holds o (length (field_optional_name o))
+optional_name_again : (o : Option (List ℕ)) (rest : List ℕ) → FitsOptional o
+    → optional_name_front (field_optional_name o ++ rest) ≡ Holds o (length (field_optional_name o))
 unfolding field_name field_optional_name
 optional_name_again None rest fits = refl
 optional_name_again (Some name) rest is =
     otherwise _ _ _ (name_is_some name is) ∙ ap (front_map Some) (name_again name rest is)
 
-optional_name_cut : (o : Option (List ℕ)) (k : ℕ) → FitsOptional o → k < length (field_optional_name o) → optional_name_front (take k (field_optional_name o)) ≡ Ends
+optional_name_cut : (o : Option (List ℕ)) (k : ℕ) → FitsOptional o → k < length (field_optional_name o)
+    → optional_name_front (take k (field_optional_name o)) ≡ Ends
 unfolding field_name field_optional_name
 optional_name_cut None zero fits lt = refl
 optional_name_cut None (suc k) fits lt = absurd (omega arith)
@@ -146,10 +160,12 @@ IsField-optional_name = IsField-from_front (record {
 
 -- ---- reading the bytes of a name
 
-none_is : (field : List ℕ) (r : Result (List ℕ) NameFault) → list_all is_name_byte field ≡ false → IfOk r (λ name. IsName name × (name ≡ field)) → result_ok r ≡ None
+none_is : (field : List ℕ) (r : Result (List ℕ) NameFault) → list_all is_name_byte field ≡ false
+    → IfOk r (λ name. IsName name × (name ≡ field)) → result_ok r ≡ None
 none_is field (Err fault) bad ok = refl
 none_is field (Ok name) bad ok =
-    let good : list_all is_name_byte field ≡ true = ap (list_all is_name_byte) (sym ok.1) ∙ list_all-from_AllPass is_name_byte name ok.0.each in
+    let good : list_all is_name_byte field ≡ true = ap (list_all is_name_byte)
+    (sym ok.1) ∙ list_all-from_AllPass is_name_byte name ok.0.each in
     let apart : true ≡ false = sym good ∙ bad in
     absurd cc
 
@@ -158,7 +174,13 @@ pub result_ok-reading : (field : List ℕ) (r : Result (List ℕ) NameFault) →
     → IfOk r (λ name. IsName name × (name ≡ field)) → (IsName field → r ≡ Ok field)
     → result_ok r ≡ cond (list_all is_name_byte field) (Some field) None
 result_ok-reading field r more most ok whole =
-    elim (list_all is_name_byte field) as (λ b. list_all is_name_byte field ≡ b → result_ok r ≡ cond b (Some field) None) [
-      | true ↦ λ good. ap result_ok (whole (record { not_empty = more; not_too_long = most; each = AllPass-from_list_all is_name_byte field good }))
+    elim (list_all is_name_byte field) as (λ b. list_all is_name_byte field ≡ b
+    → result_ok r ≡ cond b (Some field) None) [
+      | true ↦ λ good. ap result_ok (whole (record {
+        not_empty = more;
+        not_too_long = most;
+        each =
+            AllPass-from_list_all is_name_byte field good;
+      }))
       | false ↦ λ bad. none_is field r bad ok
     ] refl

@@ -14,7 +14,8 @@ use Rattle.wire_fields.proofs.Fronts.{IsFront, not_ended, held, IsField-from_fro
 -- what is used of a width
 pub record IsWide (w : Width) (limit : ℕ) : Type 0 where
   pub len : (n : ℕ) → length (to_be_bytes w n) ≡ byte_len w
-  pub back : (bytes : List ℕ) → length bytes ≡ byte_len w → IsBytes bytes → to_be_bytes w (from_be_bytes w bytes) ≡ bytes
+  pub back : (bytes : List ℕ) → length bytes ≡ byte_len w → IsBytes bytes
+      → to_be_bytes w (from_be_bytes w bytes) ≡ bytes
   pub again : (n : ℕ) → n < limit → from_be_bytes w (to_be_bytes w n) ≡ n
   pub below : (bytes : List ℕ) → IsBytes bytes → from_be_bytes w bytes < limit
 
@@ -65,7 +66,8 @@ IsFront-number w limit wide = record {
       let same = held (from_be_bytes w front) n len count open_.1 in
       let long : len ≤ length bytes = ltb-false _ _ open_.0 in
       let ib-front = IsBytes-take len bytes ib in
-      let front-is : to_be_bytes w n ≡ front = rw (← same.0) (wide.back front (omega (arith, length-take len bytes)) ib-front) in
+      let front-is : to_be_bytes w n ≡ front = rw (← same.0)
+      (wide.back front (omega (arith, length-take len bytes)) ib-front) in
       record {
         rest = drop len bytes;
         parts = rw front-is (sym (take-append-drop len bytes));
@@ -74,11 +76,13 @@ IsFront-number w limit wide = record {
       };
   again = λ n rest lt.
       let len = wide.len n in
-      let long : ltb (length (to_be_bytes w n ++ rest)) (byte_len w) ≡ false = le-ltb _ _ (omega (arith, length-append (to_be_bytes w n) rest)) in
+      let long : ltb (length (to_be_bytes w n ++ rest)) (byte_len w) ≡ false =
+      le-ltb _ _ (omega (arith, length-append (to_be_bytes w n) rest)) in
       rw (long, take_at (to_be_bytes w n) rest (byte_len w) len, wide.again n lt, len) refl;
   cut = λ n k lt below.
       let len = wide.len n in
-      let short : ltb (length (take k (to_be_bytes w n))) (byte_len w) ≡ true = lt-ltb _ _ (omega (arith, length-take k (to_be_bytes w n))) in
+      let short : ltb (length (take k (to_be_bytes w n))) (byte_len w) ≡ true =
+      lt-ltb _ _ (omega (arith, length-take k (to_be_bytes w n))) in
       rw short refl;
 }
 

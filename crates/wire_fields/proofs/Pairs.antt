@@ -10,12 +10,14 @@ use Rattle.wire_fields.proofs.Places.{StandsAt-append, StandsAt-front, StandsAt-
 use Rattle.wire_fields.proofs.Fronts.{IsRead, IsRead-written, ok_is}
 
 -- the value of a reading that did not fail
-pub bind_ok : {A B E : Type 0} (r : Result A E) (f : A → Result B E) (y : B) → (r >>= f) ≡ Ok y → (x : A) × (r ≡ Ok x) × (f x ≡ Ok y)
+pub bind_ok : {A B E : Type 0} (r : Result A E) (f : A → Result B E) (y : B) → (r >>= f) ≡ Ok y
+    → (x : A) × (r ≡ Ok x) × (f x ≡ Ok y)
 bind_ok (Ok x) f y e = (x, refl, e)
 bind_ok (Err d) f y e = absurd cc
 
 -- a reading of a field, and of another behind it, put together
-abbrev pub pair_at : {X Y Z : Type 0} → (X → Y → Z) → (List ℕ → ℕ → Result (X × ℕ) FieldFault) → (List ℕ → ℕ → Result (Y × ℕ) FieldFault)
+abbrev pub pair_at : {X Y Z : Type 0} → (X → Y → Z) → (List ℕ → ℕ → Result (X × ℕ) FieldFault)
+    → (List ℕ → ℕ → Result (Y × ℕ) FieldFault)
     → List ℕ → ℕ → Result (Z × ℕ) FieldFault
 pair_at make first second bytes at = first bytes at >>= λ x. second bytes x.1 >>= λ y. Ok (make x.0 y.0, y.1)
 
@@ -33,11 +35,14 @@ take-append_back a b k le =
 
 pub IsField-pair : {X Y Z : Type 0} {FitsX : X → Type 0} {FitsY : Y → Type 0} {s : X → List ℕ} {t : Y → List ℕ}
     {first : List ℕ → ℕ → Result (X × ℕ) FieldFault} {second : List ℕ → ℕ → Result (Y × ℕ) FieldFault}
-    (make : X → Y → Z) (one : Z → X) (other : Z → Y) → IsMade make one other → IsField FitsX s first → IsField FitsY t second
+    (make : X → Y → Z) (one : Z → X) (other : Z → Y) → IsMade make one other → IsField FitsX s first
+    → IsField FitsY t second
     → IsField (λ z. FitsX (one z) × FitsY (other z)) (λ z. s (one z) ++ t (other z)) (pair_at make first second)
 IsField-pair {X} {Y} {Z} {FitsX} {FitsY} {s} {t} {first} {second} make one other parts is js =
-    let behind : List ℕ → X × ℕ → Result (Z × ℕ) FieldFault = λ bytes x. second bytes x.1 >>= λ y. Ok (make x.0 y.0, y.1) in
-    let reads : IsRead (λ z. FitsX (one z) × FitsY (other z)) (λ z. s (one z) ++ t (other z)) (pair_at make first second) = record {
+    let behind : List ℕ → X × ℕ → Result (Z × ℕ) FieldFault = λ bytes x. second bytes x.1 >>= λ y.
+    Ok (make x.0 y.0, y.1) in
+    let reads : IsRead (λ z. FitsX (one z) × FitsY (other z)) (λ z. s (one z) ++ t (other z))
+    (pair_at make first second) = record {
       again = λ bytes at z fits stands.
           let a = s (one z) in
           let b = t (other z) in
@@ -55,13 +60,17 @@ IsField-pair {X} {Y} {Z} {FitsX} {FitsY} {s} {t} {first} {second} make one other
           let y = bind_ok (second bytes x.0.1) (λ y. Ok (make x.0.0 y.0, y.1)) (z, after) x.2 in
           let front = is.spelled bytes at x.0.0 x.0.1 ib x.1 in
           let back = js.spelled bytes x.0.1 y.0.0 y.0.1 ib y.1 in
-          let there : TextStandsAt bytes (at + length (s x.0.0)) (t y.0.0) = subst (λ (n : ℕ). TextStandsAt bytes n (t y.0.0)) front.1 back.0 in
+          let there : TextStandsAt bytes (at + length (s x.0.0)) (t y.0.0) =
+          subst (λ (n : ℕ). TextStandsAt bytes n (t y.0.0)) front.1 back.0 in
           let both = StandsAt-append bytes at (s x.0.0) (t y.0.0) front.0 there in
-          let place : y.0.1 ≡ at + length (s x.0.0 ++ t y.0.0) = omega (arith, length-append (s x.0.0) (t y.0.0), front.1, back.1) in
-          let pair : ◌≡◌ {A = Z × ℕ} (make x.0.0 y.0.0, y.0.1) (z, after) = ok_is {X = Z × ℕ} (make x.0.0 y.0.0, y.0.1) (z, after) y.2 in
+          let place : y.0.1 ≡ at + length (s x.0.0 ++ t y.0.0) =
+          omega (arith, length-append (s x.0.0) (t y.0.0), front.1, back.1) in
+          let pair : ◌≡◌ {A = Z × ℕ} (make x.0.0 y.0.0, y.0.1) (z, after) =
+          ok_is {X = Z × ℕ} (make x.0.0 y.0.0, y.0.1) (z, after) y.2 in
           let one-is : x.0.0 ≡ one z = sym (parts.one_of x.0.0 y.0.0) ∙ ap (λ (p : Z × ℕ). one p.0) pair in
           let other-is : y.0.0 ≡ other z = sym (parts.other_of x.0.0 y.0.0) ∙ ap (λ (p : Z × ℕ). other p.0) pair in
-          let text : s x.0.0 ++ t y.0.0 ≡ s (one z) ++ t (other z) = ap (λ (v : X). s v ++ t y.0.0) one-is ∙ ap (λ (v : Y). s (one z) ++ t v) other-is in (
+          let text : s x.0.0 ++ t y.0.0 ≡ s (one z) ++ t (other z) =
+          ap (λ (v : X). s v ++ t y.0.0) one-is ∙ ap (λ (v : Y). s (one z) ++ t v) other-is in (
             subst (TextStandsAt bytes at) text both,
             sym (ap (λ (p : Z × ℕ). p.1) pair) ∙ place ∙ ap (λ (w : List ℕ). at + length w) text,
             (subst FitsX one-is front.2, subst FitsY other-is back.2),
@@ -74,12 +83,16 @@ IsField-pair {X} {Y} {Z} {FitsX} {FitsY} {s} {t} {first} {second} make one other
           elim (cases_lt k (length a)) [
             | inl inside ↦
                 let front-is : drop at bytes ≡ take k a = e ∙ take-append-le k a b (omega arith) in
-                ap (λ (r : Result (X × ℕ) FieldFault). r >>= behind bytes) (is.cut bytes at k (one z) fits.0 inside front-is)
+                ap (λ (r : Result (X × ℕ) FieldFault). r >>= behind bytes)
+                (is.cut bytes at k (one z) fits.0 inside front-is)
             | inr past ↦
                 let whole : drop at bytes ≡ a ++ take (k - length a) b = e ∙ take-append_back a b k past in
                 let e1 = is.again bytes at (one z) fits.0 (record { rest = take (k - length a) b; parts = whole }) in
-                let rest-is : drop (at + length a) bytes ≡ take (k - length a) b = sym (drop-drop (length a) at bytes) ∙ ap (drop (length a)) whole ∙ drop_at a (take (k - length a) b) (length a) refl in
-                let e2 = js.cut bytes (at + length a) (k - length a) (other z) fits.1 (omega (arith, length-append a b)) rest-is in
+                let rest-is : drop (at + length a) bytes ≡ take (k - length a) b =
+                sym (drop-drop (length a) at bytes) ∙ ap (drop (length a)) whole ∙ drop_at a (take (k - length a) b)
+                (length a) refl in
+                let e2 = js.cut bytes (at + length a) (k - length a) (other z) fits.1
+                (omega (arith, length-append a b)) rest-is in
                 ap (λ (r : Result (X × ℕ) FieldFault). r >>= behind bytes) e1
                 ∙ ap (λ (r : Result (Y × ℕ) FieldFault). r >>= λ y. Ok (make (one z) y.0, y.1)) e2
           ];

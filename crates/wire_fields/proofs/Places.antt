@@ -16,12 +16,15 @@ IsBytes-take n bytes h i =
     ]
 
 -- two texts, one behind the other, are one
-pub StandsAt-append : (bytes : List ℕ) (at : ℕ) (a b : List ℕ) → TextStandsAt bytes at a → TextStandsAt bytes (at + length a) b → TextStandsAt bytes at (a ++ b)
+pub StandsAt-append : (bytes : List ℕ) (at : ℕ) (a b : List ℕ) → TextStandsAt bytes at a
+    → TextStandsAt bytes (at + length a) b → TextStandsAt bytes at (a ++ b)
 StandsAt-append bytes at a b first second =
-    let rest-is : drop (at + length a) bytes ≡ first.rest = sym (drop-drop (length a) at bytes) ∙ ap (drop (length a)) first.parts ∙ drop_at a first.rest (length a) refl in
+    let rest-is : drop (at + length a) bytes ≡ first.rest =
+    sym (drop-drop (length a) at bytes) ∙ ap (drop (length a)) first.parts ∙ drop_at a first.rest (length a) refl in
     record {
       rest = second.rest;
-      parts = first.parts ∙ ap (λ (r : List ℕ). a ++ r) (sym rest-is ∙ second.parts) ∙ sym (append_assoc a b second.rest);
+      parts = first.parts ∙ ap (λ (r : List ℕ). a ++ r) (sym rest-is ∙ second.parts) ∙ sym
+          (append_assoc a b second.rest);
     }
 
 -- the front of a text that stands there stands there
@@ -29,7 +32,8 @@ pub StandsAt-front : (bytes : List ℕ) (at : ℕ) (a b : List ℕ) → TextStan
 StandsAt-front bytes at a b both = record { rest = b ++ both.rest; parts = both.parts ∙ append_assoc a b both.rest }
 
 -- the back of it stands behind the front
-pub StandsAt-back : (bytes : List ℕ) (at : ℕ) (a b : List ℕ) → TextStandsAt bytes at (a ++ b) → TextStandsAt bytes (at + length a) b
+pub StandsAt-back : (bytes : List ℕ) (at : ℕ) (a b : List ℕ) → TextStandsAt bytes at (a ++ b)
+    → TextStandsAt bytes (at + length a) b
 StandsAt-back bytes at a b both =
     record {
       rest = both.rest;
@@ -38,7 +42,8 @@ StandsAt-back bytes at a b both =
     }
 
 -- what was written stands there
-pub StandsAt-written : (out : List ℕ) (at : ℕ) (text : List ℕ) → at ≤ length out → TextStandsAt (written out at text) at text
+pub StandsAt-written : (out : List ℕ) (at : ℕ) (text : List ℕ) → at ≤ length out
+    → TextStandsAt (written out at text) at text
 unfolding written
 StandsAt-written out at text fits = record {
   rest = drop (at + length text) out;
@@ -46,15 +51,19 @@ StandsAt-written out at text fits = record {
 }
 
 -- two writes, one behind the other, leave what one leaves
-written-then : (out mid new : List ℕ) (at after : ℕ) (a b : List ℕ) → mid ≡ written out at a → after ≡ at + length a → new ≡ written mid after b
+written-then : (out mid new : List ℕ) (at after : ℕ) (a b : List ℕ) → mid ≡ written out at a → after ≡ at + length a
+    → new ≡ written mid after b
     → at ≤ length out → new ≡ written out at (a ++ b)
 unfolding written
 written-then out mid new at after a b mid-is after-is new-is fits =
     let front : List ℕ = take at out ++ a in
     let len : length front ≡ at + length a = omega (arith, length-append (take at out) a, length-take-le at out fits) in
-    let split : mid ≡ front ++ drop (at + length a) out = mid-is ∙ sym (append_assoc (take at out) a (drop (at + length a) out)) in
-    let taken : take after mid ≡ front = ap (take after) split ∙ take_at front (drop (at + length a) out) after (omega (arith, len, after-is)) in
-    let behind : drop after mid ≡ drop (at + length a) out = ap (drop after) split ∙ drop_at front (drop (at + length a) out) after (omega (arith, len, after-is)) in
+    let split : mid ≡ front ++ drop (at + length a) out =
+    mid-is ∙ sym (append_assoc (take at out) a (drop (at + length a) out)) in
+    let taken : take after mid ≡ front = ap (take after) split ∙ take_at front (drop (at + length a) out) after
+    (omega (arith, len, after-is)) in
+    let behind : drop after mid ≡ drop (at + length a) out =
+    ap (drop after) split ∙ drop_at front (drop (at + length a) out) after (omega (arith, len, after-is)) in
     let dropped : drop (after + length b) mid ≡ drop (at + length (a ++ b)) out =
     sym (drop-drop (length b) after mid) ∙ ap (drop (length b)) behind ∙ drop-drop (length b) (at + length a) out
     ∙ ap (λ (n : ℕ). drop n out) (omega (arith, length-append a b)) in
@@ -64,7 +73,8 @@ written-then out mid new at after a b mid-is after-is new-is fits =
     ∙ ap (λ (t : List ℕ). take at out ++ t) (sym (append_assoc a b (drop (at + length (a ++ b)) out)))
 
 -- two writes, one behind the other, are one
-pub Puts-then : {old mid new : List ℕ} {at middle after : ℕ} {a b : List ℕ} → at ≤ length old → PutsText old at a mid middle → PutsText mid middle b new after
+pub Puts-then : {old mid new : List ℕ} {at middle after : ℕ} {a b : List ℕ} → at ≤ length old
+    → PutsText old at a mid middle → PutsText mid middle b new after
     → PutsText old at (a ++ b) new after
 Puts-then {old} {mid} {new} {at} {middle} {after} {a} {b} fits first second = record {
   bytes = written-then old mid new at middle a b first.bytes first.place second.bytes fits;

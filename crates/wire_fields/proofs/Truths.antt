@@ -7,7 +7,8 @@ use Rattle.wire_fields.specs.Laws.{IsField}
 use Rattle.wire_fields.specs.Reading.{truth_at}
 use Rattle.wire_fields.proofs.Fronts.{Takes, held, IsField-from_front}
 
-truth_spelled : (bytes : List ℕ) (b : Bool) (n : ℕ) → truth_front bytes ≡ Holds b n → Takes (λ _. Unit {0}) field_truth bytes b n
+truth_spelled : (bytes : List ℕ) (b : Bool) (n : ℕ) → truth_front bytes ≡ Holds b n
+    → Takes (λ _. Unit {0}) field_truth bytes b n
 unfolding field_truth
 truth_spelled [] b n e = absurd cc
 truth_spelled (zero ∷ rest) false n e = record { rest = rest; parts = refl; count = cc; fits = tt }
@@ -15,7 +16,8 @@ truth_spelled (zero ∷ rest) true n e = let apart : false ≡ true = (held fals
 truth_spelled (suc zero ∷ rest) true n e = record { rest = rest; parts = refl; count = cc; fits = tt }
 truth_spelled (suc zero ∷ rest) false n e = let apart : true ≡ false = (held true false 1 n e).0 in absurd cc
 truth_spelled (suc (suc c) ∷ rest) b n e =
-    let bad : truth_front (suc (suc c) ∷ rest) ≡ Bad = rw (ne_eqb (suc (suc c)) 0 (λ e. absurd (omega arith)), ne_eqb (suc (suc c)) 1 (λ e. absurd (omega arith))) refl in
+    let bad : truth_front (suc (suc c) ∷ rest) ≡ Bad = rw
+    (ne_eqb (suc (suc c)) 0 (λ e. absurd (omega arith)), ne_eqb (suc (suc c)) 1 (λ e. absurd (omega arith))) refl in
     let apart : ◌≡◌ {A = Front Bool} Bad (Holds b n) = sym bad ∙ e in
     absurd cc
 

@@ -27,8 +27,11 @@ returns-clause-sound c =
     let s = c.index_mut-stand.result.now in
     let took : c.take.new.self ≡ with_job job s = c.in_ok-take.ensures.ok in
     let is : s ≡ get_or items c.args.at s = c.index_mut-stand.ensures.value in
-    let sound : IsSoundStand s = subst IsSoundStand (sym is) (All-get_or IsSoundStand items c.args.at s c.requires.best.inside c.requires.sound.each) in
-    let room = HasRoom-can_take job s (subst (λ (x : Stand). can_take job x ≡ true) (sym is) (c.requires.best.fits s)) in
+    let sound : IsSoundStand s = subst IsSoundStand (sym is)
+    (All-get_or IsSoundStand items c.args.at s c.requires.best.inside c.requires.sound.each) in
+    let room = HasRoom-can_take job s (subst (λ (x : Stand). can_take job x ≡ true) (sym is) (c.requires.best.fits s))
+    in
     subst (λ (x : Stand). AreStands (set items c.args.at x)) (sym took)
     (AreStands-set items c.args.at (with_job job s)
-    (ap (λ (x : Stand). x.cell) (get_or_read items c.args.at s c.requires.best.inside is (with_job job s))) (IsSound-with_job job s room sound) c.requires.sound)
+    (ap (λ (x : Stand). x.cell) (get_or_read items c.args.at s c.requires.best.inside is (with_job job s)))
+    (IsSound-with_job job s room sound) c.requires.sound)

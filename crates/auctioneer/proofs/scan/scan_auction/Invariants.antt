@@ -7,5 +7,6 @@ use Rattle.auctioneer.proofs.scan.scan_auction.Given as goal
 abbrev pub invariant-loop-job : goal.invariant-loop-job
 invariant-loop-job l = record {
   sound : AreStands l.stands.items;
-  so_far : l.list ++ auction_from l.stands.items (drop l.job-index l.job-items) ≡ auction l.fn.cells (in_order l.fn.jobs);
+  so_far : l.list ++ auction_from l.stands.items (drop l.job-index l.job-items)
+      ≡ auction l.fn.cells (in_order l.fn.jobs);
 }

@@ -10,4 +10,5 @@ use Rattle.auctioneer.proofs.spots.order_of.Goals as goal
 pub returns : goal.returns
 returns c =
     subst (λ r. IfOk r (IsFromIterResult spot_order c.args.spots.now)) c.in_ok-collect.was
-    (fact_from_collect (λ xs s. IsFromIterResult spot_order xs s) c.collect.result c.collect.ensures.ran (YieldsList-from_copied (YieldsList-from_slice c.args.spots.now cc)))
+    (fact_from_collect (λ xs s. IsFromIterResult spot_order xs s) c.collect.result c.collect.ensures.ran
+    (YieldsList-from_copied (YieldsList-from_slice c.args.spots.now cc)))

@@ -10,5 +10,13 @@ returns-clause-sound c =
     let a = c.args.answer.now in
     let jobs : c.in_ok-jobs_of.field-0 ≡ jobs_of a.containers = c.in_ok-jobs_of.ensures ∙ ap jobs_of c.items.ensures in
     let small : a.totals.containers < 2 ^ 32 = omega arith in
-    subst (λ (js : List JobName). IsSoundStand (record { cell = a.cell; zone = a.zone; tag = a.tag; totals = a.totals; free = a.free; jobs = js })) (sym jobs)
+    subst (λ (js : List JobName). IsSoundStand (record {
+      cell = a.cell;
+      zone = a.zone;
+      tag = a.tag;
+      totals =
+          a.totals;
+      free = a.free;
+      jobs = js;
+    })) (sym jobs)
     (IsSound-stand_of a c.requires small)

@@ -9,6 +9,10 @@ use Rattle.auctioneer.proofs.turns.in_order.Goals as goal
 pub returns : goal.returns
 returns c =
     let jobs = c.args.jobs.now in
-    let sorted : IsSortedByKey turn_of turn_order c.sort_unstable_by_key.new.self.items = c.sort_unstable_by_key.ensures.sorted turn_of (answers_always _ _ _ (λ f a r g h. search rules)) in
-    let moved : IsPermutation jobs c.sort_unstable_by_key.new.self.items = subst (λ xs. IsPermutation xs c.sort_unstable_by_key.new.self.items) c.in_ok-sorted.ensures.items c.sort_unstable_by_key.ensures.permutation in
-    table-from_sorted turn_order turn_of IsKeyOrder-turn_order jobs c.sort_unstable_by_key.new.self.items (turns_differ jobs c.requires) sorted moved
+    let sorted : IsSortedByKey turn_of turn_order c.sort_unstable_by_key.new.self.items =
+    c.sort_unstable_by_key.ensures.sorted turn_of (answers_always _ _ _ (λ f a r g h. search rules)) in
+    let moved : IsPermutation jobs c.sort_unstable_by_key.new.self.items =
+    subst (λ xs. IsPermutation xs c.sort_unstable_by_key.new.self.items) c.in_ok-sorted.ensures.items
+    c.sort_unstable_by_key.ensures.permutation in
+    table-from_sorted turn_order turn_of IsKeyOrder-turn_order jobs c.sort_unstable_by_key.new.self.items
+    (turns_differ jobs c.requires) sorted moved

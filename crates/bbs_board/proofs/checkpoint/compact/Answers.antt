@@ -16,7 +16,8 @@ pub returns-then-not-has_to_compact-clause-knows : goal.returns-then-not-has_to_
 returns-then-not-has_to_compact-clause-knows g c =
     let no : c.has_to_compact.result ≡ false = search rules in
     let idle : has_to_compact c.args.journal.now ≡ false = sym c.has_to_compact.ensures.due ∙ no in
-    settled_has c.args.journal.now c.mend.new.self (is_ok c.mend.result) idle c.has_to_compact.ensures.read c.requires.whole c.mend.ensures.settles
+    settled_has c.args.journal.now c.mend.new.self (is_ok c.mend.result) idle c.has_to_compact.ensures.read
+    c.requires.whole c.mend.ensures.settles
 
 pub move_on-requires-clause-few : goal.move_on-requires-clause-few
 move_on-requires-clause-few g c =
@@ -27,7 +28,9 @@ pub returns-clause-stands : goal.returns-clause-stands
 returns-clause-stands g c =
     let yes : c.has_to_compact.result ≡ true = search rules in
     let due : has_to_compact c.args.journal.now ≡ true = sym c.has_to_compact.ensures.due ∙ yes in
-    stands_moved g.D.Disk.told c.args.journal.now c.move_on.new.journal (is_ok c.move_on.result) c.args.head.now due c.move_on.ensures.moves
+    stands_moved g.D.Disk.told c.args.journal.now c.move_on.new.journal
+    (is_ok c.move_on.result) c.args.head.now due c.move_on.ensures.moves
 
 pub returns-clause-knows : goal.returns-clause-knows
-returns-clause-knows g c = moved_has c.args.journal.now c.move_on.new.journal (is_ok c.move_on.result) c.move_on.ensures.knows
+returns-clause-knows g c = moved_has c.args.journal.now c.move_on.new.journal
+    (is_ok c.move_on.result) c.move_on.ensures.knows

@@ -23,6 +23,8 @@ put_op-requires c = λ fits.
 pub returns-clause-bytes : goal.returns-clause-bytes
 unfolding spelled
 returns-clause-bytes c =
-    let kind = subst (λ (n : ℕ). PutsText c.args.out.now 0 (field_number w8 n) c.put_u8-at.new.out c.put_u8-at.result) c.kind_of.ensures c.put_u8-at.ensures in
-    let within : c.put_u8-at.result ≤ length c.put_u8-at.new.out = omega (arith, c.requires, c.put_u8-at.ensures.place, c.put_u8-at.auto.out, length-field_u8 c.kind_of.result) in
+    let kind = subst (λ (n : ℕ). PutsText c.args.out.now 0 (field_number w8 n) c.put_u8-at.new.out c.put_u8-at.result)
+    c.kind_of.ensures c.put_u8-at.ensures in
+    let within : c.put_u8-at.result ≤ length c.put_u8-at.new.out =
+    omega (arith, c.requires, c.put_u8-at.ensures.place, c.put_u8-at.auto.out, length-field_u8 c.kind_of.result) in
     Puts-then (omega arith) kind (Puts-then within c.put_u32-at.ensures c.put_op.ensures.bytes)

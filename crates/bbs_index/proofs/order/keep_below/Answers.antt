@@ -8,5 +8,6 @@ returns-then-count-len-clause-items c = filter_same _ _ _ (λ x b f' k. search r
 
 pub returns-else-count-len-clause-items : goal.returns-else-count-len-clause-items
 returns-else-count-len-clause-items c =
-    let few : length c.args.numbers.now.items ≤ c.args.count = omega (arith, c.if-count-len.false, c.len.ensures, c.args.numbers.now.ok.0) in
+    let few : length c.args.numbers.now.items ≤ c.args.count =
+    omega (arith, c.if-count-len.false, c.len.ensures, c.args.numbers.now.ok.0) in
     sym (filter_few c.args.count c.args.numbers.now.items c.requires few)

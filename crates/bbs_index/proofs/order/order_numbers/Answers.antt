@@ -7,7 +7,12 @@ pub push_lacking-requires-clause-order : goal.push_lacking-requires-clause-order
 push_lacking-requires-clause-order g c = (IsOrder-filter _ _ _ c.requires.order c.keep_below.ensures.items).0
 
 pub push_lacking-requires-clause-few : goal.push_lacking-requires-clause-few
-push_lacking-requires-clause-few g c = omega (arith, c.keep_below.new.numbers.ok.0, (IsOrder-filter _ _ _ c.requires.order c.keep_below.ensures.items).1)
+push_lacking-requires-clause-few g c = omega (
+  arith,
+  c.keep_below.new.numbers.ok.0,
+  (IsOrder-filter _ _ _ c.requires.order c.keep_below.ensures.items).1,
+)
 
 pub returns-clause-order : goal.returns-clause-order
-returns-clause-order g c = IsPermutation-trans _ c.push_lacking.new.numbers.items c.sort_numbers.new.numbers.items c.push_lacking.ensures.order c.sort_numbers.ensures.permutation
+returns-clause-order g c = IsPermutation-trans _ c.push_lacking.new.numbers.items c.sort_numbers.new.numbers.items
+    c.push_lacking.ensures.order c.sort_numbers.ensures.permutation

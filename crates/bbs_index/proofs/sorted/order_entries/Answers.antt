@@ -12,6 +12,9 @@ returns-clause-rows g c =
     let rows = values c.args.map.now in
     let keys = c.as_slice-keys.result.now in
     let are = c.as_slice-keys.ensures ∙ c.keys.ensures.rest in
-    let count : length keys ≡ length rows = ap length are ∙ length-map entries (λ e. e.0) ∙ sym (length-map entries (λ e. e.1)) in
-    AreNumbered-by_keys g.met.X.Rowed.ordered g.met.X.Key.Eq.laws g.met.X.Key.Ord.matches_eq g.X.Rowed.key entries c.requires.shelf c.keys.ensures.unique keys are
-    (range_with_len 0 (length keys)) c.follow.new.self.numbers (AreNumbered-range rows (length keys) count) c.follow.ensures.order c.follow.ensures.sorted
+    let count : length keys ≡ length rows = ap length are ∙ length-map entries (λ e. e.0) ∙ sym
+    (length-map entries (λ e. e.1)) in
+    AreNumbered-by_keys g.met.X.Rowed.ordered g.met.X.Key.Eq.laws g.met.X.Key.Ord.matches_eq g.X.Rowed.key entries
+    c.requires.shelf c.keys.ensures.unique keys are
+    (range_with_len 0 (length keys)) c.follow.new.self.numbers
+    (AreNumbered-range rows (length keys) count) c.follow.ensures.order c.follow.ensures.sorted

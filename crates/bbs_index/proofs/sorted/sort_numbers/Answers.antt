@@ -15,10 +15,14 @@ on_ok (Err fault) is p = cc
 
 pub returns-then-is_ok-clause-sorted : goal.returns-then-is_ok-clause-sorted
 returns-then-is_ok-clause-sorted g c =
-    on_ok c.sort_by.result (sym c.is_ok.ensures.value ∙ c.if-is_ok.true) c.sort_by.ensures.sorted (λ m n. is_lt (option_cmp g.X.Key.Ord.cmp (slice_get c.args.keys.now m) (slice_get c.args.keys.now n)))
-    (ranks_by (options_total g.met.X.Rowed.ordered.total) (slice_get c.args.keys.now)) (always_returns_same _ _ _ (λ a r f k. search rules))
+    on_ok c.sort_by.result (sym c.is_ok.ensures.value ∙ c.if-is_ok.true) c.sort_by.ensures.sorted
+    (λ m n. is_lt (option_cmp g.X.Key.Ord.cmp (slice_get c.args.keys.now m) (slice_get c.args.keys.now n)))
+    (ranks_by (options_total g.met.X.Rowed.ordered.total) (slice_get c.args.keys.now))
+    (always_returns_same _ _ _ (λ a r f k. search rules))
 
 pub returns-clause-sorted : goal.returns-clause-sorted
 returns-clause-sorted g c =
-    c.sort_unstable_by.ensures.sorted (λ m n. is_lt (option_cmp g.X.Key.Ord.cmp (slice_get c.args.keys.now m) (slice_get c.args.keys.now n)))
-    (ranks_by (options_total g.met.X.Rowed.ordered.total) (slice_get c.args.keys.now)) (always_returns_same _ _ _ (λ a r f k. search rules))
+    c.sort_unstable_by.ensures.sorted (λ m n. is_lt (option_cmp g.X.Key.Ord.cmp (slice_get c.args.keys.now m)
+    (slice_get c.args.keys.now n)))
+    (ranks_by (options_total g.met.X.Rowed.ordered.total) (slice_get c.args.keys.now))
+    (always_returns_same _ _ _ (λ a r f k. search rules))

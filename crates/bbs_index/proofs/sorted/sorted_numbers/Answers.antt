@@ -10,7 +10,10 @@ use Rattle.bbs_index.proofs.sorted.sorted_numbers.Goals as goal
 pub returns : goal.returns
 returns g c =
     let keys = c.as_slice-keys.result.now in
-    AreNumbered-by_keys g.met.X.Rowed.ordered g.met.X.Key.Eq.laws g.met.X.Key.Ord.matches_eq g.X.Rowed.key c.args.map.now.entries c.requires c.keys.ensures.unique keys (c.as_slice-keys.ensures ∙ c.keys.ensures.rest)
-    c.number_entries.new.numbers.items c.sort_by.new.self.items c.number_entries.ensures.numbers c.in_ok-sort_by.ensures.permutation
+    AreNumbered-by_keys g.met.X.Rowed.ordered g.met.X.Key.Eq.laws g.met.X.Key.Ord.matches_eq g.X.Rowed.key
+    c.args.map.now.entries c.requires c.keys.ensures.unique keys (c.as_slice-keys.ensures ∙ c.keys.ensures.rest)
+    c.number_entries.new.numbers.items c.sort_by.new.self.items c.number_entries.ensures.numbers
+    c.in_ok-sort_by.ensures.permutation
     (c.in_ok-sort_by.ensures.sorted (λ m n. is_lt (option_cmp g.X.Key.Ord.cmp (slice_get keys m) (slice_get keys n)))
-    (ranks_by (options_total g.met.X.Rowed.ordered.total) (slice_get keys)) (always_returns_same _ _ _ (λ a r f k. search rules)))
+    (ranks_by (options_total g.met.X.Rowed.ordered.total) (slice_get keys))
+    (always_returns_same _ _ _ (λ a r f k. search rules)))

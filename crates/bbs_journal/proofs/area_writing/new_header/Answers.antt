@@ -24,20 +24,42 @@ marked_is : marked ≡ mark newest
 unfolding field_number
 marked_is = refl
 
-header_text : (generation size : ℕ) → (marked ++ field_number w64 generation) ++ field_number w32 size ≡ mark newest ++ (field_number w64 generation ++ field_number w32 size)
+header_text : (generation size : ℕ) → (marked ++ field_number w64 generation) ++ field_number w32 size ≡ mark newest
+    ++ (field_number w64 generation ++ field_number w32 size)
 header_text generation size =
-    append_assoc marked (field_number w64 generation) (field_number w32 size) ∙ ap (λ (l : List ℕ). l ++ (field_number w64 generation ++ field_number w32 size)) marked_is
+    append_assoc marked (field_number w64 generation) (field_number w32 size) ∙ ap
+    (λ (l : List ℕ). l ++ (field_number w64 generation ++ field_number w32 size)) marked_is
 
 pub put_u64-numbered-requires : goal.put_u64-numbered-requires
-put_u64-numbered-requires c = omega (arith, length-field_number w64 c.args.generation, c.put_bytes-marked.ensures.place, c.put_bytes-marked.auto.out)
+put_u64-numbered-requires c = omega (
+  arith,
+  length-field_number w64 c.args.generation,
+  c.put_bytes-marked.ensures.place,
+  c.put_bytes-marked.auto.out,
+)
 
 pub put_u32-end-requires : goal.put_u32-end-requires
 put_u32-end-requires c =
-    omega (arith, length-field_number w64 c.args.generation, length-field_number w32 c.args.size, c.put_bytes-marked.ensures.place, c.put_bytes-marked.auto.out, c.put_u64-numbered.ensures.place, c.put_u64-numbered.auto.out)
+    omega (
+      arith,
+      length-field_number w64 c.args.generation,
+      length-field_number w32 c.args.size,
+      c.put_bytes-marked.ensures.place,
+      c.put_bytes-marked.auto.out,
+      c.put_u64-numbered.ensures.place,
+      c.put_u64-numbered.auto.out,
+    )
 
 pub returns : goal.returns
 returns c =
     puts_all _ _ _
-    (omega (arith, length-append (marked ++ field_number w64 c.args.generation) (field_number w32 c.args.size), length-append marked (field_number w64 c.args.generation), length-field_number w64 c.args.generation, length-field_number w32 c.args.size))
-    (Puts-then (omega arith) (Puts-then (omega arith) c.put_bytes-marked.ensures c.put_u64-numbered.ensures) c.put_u32-end.ensures)
+    (omega (
+      arith,
+      length-append (marked ++ field_number w64 c.args.generation) (field_number w32 c.args.size),
+      length-append marked (field_number w64 c.args.generation),
+      length-field_number w64 c.args.generation,
+      length-field_number w32 c.args.size,
+    ))
+    (Puts-then (omega arith) (Puts-then (omega arith) c.put_bytes-marked.ensures c.put_u64-numbered.ensures)
+    c.put_u32-end.ensures)
     ∙ header_text c.args.generation c.args.size

@@ -10,7 +10,8 @@ returns-in_err-write_at-clause-does g c =
 pub returns-in_err-write_at-2-clause-does : goal.returns-in_err-write_at-2-clause-does
 returns-in_err-write_at-2-clause-does g c =
     let failed : is_ok c.from_residual-in_err-write_at-2.result ≡ false = search rules in
-    rw failed (fails_at_second _ _ _ c.requires.size _ c.requires.shut _ c.in_ok-write_at.ensures.does _ _ c.in_err-write_at-2.ensures.does)
+    rw failed (fails_at_second _ _ _ c.requires.size _ c.requires.shut _ c.in_ok-write_at.ensures.does _ _
+    c.in_err-write_at-2.ensures.does)
 
 pub write_synced-requires : goal.write_synced-requires
 write_synced-requires g c =
@@ -18,4 +19,5 @@ write_synced-requires g c =
 
 pub returns-clause-does : goal.returns-clause-does
 returns-clause-does g c =
-    ends_all _ _ _ c.requires.size _ c.requires.shut _ c.in_ok-write_at.ensures.does _ c.in_ok-write_at-2.ensures.does _ _ c.write_synced.ensures.does
+    ends_all _ _ _ c.requires.size _ c.requires.shut _ c.in_ok-write_at.ensures.does _ c.in_ok-write_at-2.ensures.does _
+    _ c.write_synced.ensures.does

@@ -19,17 +19,42 @@ put_u16-at-requires c = omega (arith, length-field_number w16 (length c.args.pay
 
 pub put_bytes-end-requires : goal.put_bytes-end-requires
 put_bytes-end-requires c =
-    omega (arith, length-field_number w16 (length c.args.payload.now), c.requires.room, c.requires.fits.1, c.put_u16-at.ensures.place, c.put_u16-at.auto.out)
+    omega (
+      arith,
+      length-field_number w16 (length c.args.payload.now),
+      c.requires.room,
+      c.requires.fits.1,
+      c.put_u16-at.ensures.place,
+      c.put_u16-at.auto.out,
+    )
 
 pub put_u8-requires : goal.put_u8-requires
 put_u8-requires c =
-    omega (arith, length-field_number w16 (length c.args.payload.now), length-field_number w8 0, c.requires.room, c.requires.fits.1, c.put_u16-at.ensures.place, c.put_u16-at.auto.out, c.put_bytes-end.ensures.place, c.put_bytes-end.auto.out)
+    omega (
+      arith,
+      length-field_number w16 (length c.args.payload.now),
+      length-field_number w8 0,
+      c.requires.room,
+      c.requires.fits.1,
+      c.put_u16-at.ensures.place,
+      c.put_u16-at.auto.out,
+      c.put_bytes-end.ensures.place,
+      c.put_bytes-end.auto.out,
+    )
 
 pub returns-clause-len : goal.returns-clause-len
 returns-clause-len c =
-    omega (arith, length-field_number w16 (length c.args.payload.now), length-field_number w8 0, c.put_u16-at.ensures.place, c.put_bytes-end.ensures.place, c.put_u8.ensures.place)
+    omega (
+      arith,
+      length-field_number w16 (length c.args.payload.now),
+      length-field_number w8 0,
+      c.put_u16-at.ensures.place,
+      c.put_bytes-end.ensures.place,
+      c.put_u8.ensures.place,
+    )
 
 pub returns-clause-bytes : goal.returns-clause-bytes
 returns-clause-bytes c =
-    take_puts _ _ _ _ (Puts-then (omega arith) (Puts-then (omega arith) c.put_u16-at.ensures c.put_bytes-end.ensures) c.put_u8.ensures)
+    take_puts _ _ _ _ (Puts-then (omega arith) (Puts-then (omega arith) c.put_u16-at.ensures c.put_bytes-end.ensures)
+    c.put_u8.ensures)
     ∙ body_text c.args.payload.now

@@ -6,4 +6,6 @@ use Rattle.bbs_journal.proofs.find.read_area.Goals as goal
 
 pub returns-in-Err-clause-fault : goal.returns-in-Err-clause-fault
 returns-in-Err-clause-fault g c c' shows chosen =
-    fails_is _ (headed c') (headed_err c' _ _ chosen.active (size_is c' _ _ _ _ chosen c.bytes.ensures (c.in_ok-len.ensures.shows c' shows) c.check_head.ensures.value ∙ c.in-Err.is))
+    fails_is _ (headed c') (headed_err c' _ _ chosen.active
+    (size_is c' _ _ _ _ chosen c.bytes.ensures (c.in_ok-len.ensures.shows c' shows) c.check_head.ensures.value ∙
+    c.in-Err.is))

@@ -16,7 +16,8 @@ invariant-loop-piece g l = record {
   few : l.at ≤ l.start + 515 * length l.payloads.items;
   stood : g.D.Disk.fault_count l.disk ≡ g.D.Disk.fault_count l.initial.disk;
   does : Goes (g.D.Disk.told l.initial.disk) (g.D.Disk.told l.disk) Peeks;
-  shows : (c : Image) → Shows (g.D.Disk.told l.disk) c → l.len ≡ length (c l.area) → (more : List (List ℕ)) (broken : Option ℕ) (end : ℕ) → AreFrames more broken end l.at (drop l.at (c l.area))
+  shows : (c : Image) → Shows (g.D.Disk.told l.disk) c → l.len ≡ length (c l.area)
+      → (more : List (List ℕ)) (broken : Option ℕ) (end : ℕ) → AreFrames more broken end l.at (drop l.at (c l.area))
       → AreFrames (payloads_of l.payloads.items ++ more) broken end l.start (drop l.start (c l.area));
 }
 

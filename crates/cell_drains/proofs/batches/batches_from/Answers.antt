@@ -10,5 +10,6 @@ loop-seat-preserved c =
     let i = c.loop-seat.seat-index in
     let s = c.seat-item.result in
     c.in_ok-add_cell.ensures (drop (i + 1) cells)
-    ∙ ap (λ (rest : List Seat). c.loop-seat.done.items ++ batches_from c.args.most c.loop-seat.batch rest) (sym (drop_next cells i s c.loop-seat-test.true c.seat-item.is))
+    ∙ ap (λ (rest : List Seat). c.loop-seat.done.items ++ batches_from c.args.most c.loop-seat.batch rest)
+    (sym (drop_next cells i s c.loop-seat-test.true c.seat-item.is))
     ∙ c.loop-seat.invariant

@@ -5,5 +5,6 @@ use Rattle.cell_drains.proofs.moves.count_one.Goals as goal
 
 pub returns : goal.returns
 returns c = λ other.
-    counted_more (get same_counted c.args.times.now) (get same_counted c.insert.new.self) c.args.job.now other c.times_in-count.result c.as_counted-key.result
+    counted_more (get same_counted c.args.times.now) (get same_counted c.insert.new.self) c.args.job.now other
+    c.times_in-count.result c.as_counted-key.result
     c.times_in-count.ensures c.as_counted-key.ensures (c.in_ok-insert.ensures.updates.0 (as_counted other))

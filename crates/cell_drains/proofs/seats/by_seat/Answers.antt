@@ -12,5 +12,6 @@ table_of-requires c = IsKeyOrder-seat_order.exact
 pub returns : goal.returns
 returns c =
     c.in_ok-made.ensures
-    ∙ ap (λ (rs : List (Seat × Seat)). map (λ (p : Seat × Seat). p.1) (table seat_order (λ (p : Seat × Seat). p.0) rs)) (c.deref.ensures.value ∙ c.in_ok-rows.ensures)
+    ∙ ap (λ (rs : List (Seat × Seat)). map (λ (p : Seat × Seat). p.1) (table seat_order (λ (p : Seat × Seat). p.0) rs))
+    (c.deref.ensures.value ∙ c.in_ok-rows.ensures)
     ∙ rows-of_table seat_order (λ (s : Seat). s) c.args.cells.now

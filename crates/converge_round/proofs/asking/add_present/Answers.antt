@@ -7,5 +7,6 @@ use Rattle.converge_round.proofs.asking.add_present.Goals as goal
 
 pub loop-row-preserved : goal.loop-row-preserved
 loop-row-preserved c =
-    kept_more (present_at c.args.now) c.args.rows.now c.loop-row.row-index c.row-item.result c.args.present.now c.loop-row.present _ c.loop-row-test.true c.row-item.is c.loop-row.invariant
+    kept_more (present_at c.args.now) c.args.rows.now c.loop-row.row-index c.row-item.result c.args.present.now
+    c.loop-row.present _ c.loop-row-test.true c.row-item.is c.loop-row.invariant
     (c.in_ok-add.ensures ∙ ap (λ (o : Option CellRow). c.loop-row.present ++ option_to_list o) c.present_at.ensures)

@@ -11,5 +11,6 @@ returns-in-Some c =
     let cells = c.args.cells.now in
     let rep = c.index-cells-at.result in
     if_ok _ (Hears cells c.args.cell.now c.args.epoch) _
-    (λ o e. hears_at cells c.args.cell.now c.args.epoch c.in-Some.at rep (c.in-Some.ensures (names_of cells) c.requires) c.index-cells-at.is c.answer_under.ensures.store o e)
+    (λ o e. hears_at cells c.args.cell.now c.args.epoch c.in-Some.at rep
+    (c.in-Some.ensures (names_of cells) c.requires) c.index-cells-at.is c.answer_under.ensures.store o e)
     c.answer_under.ensures.answer

@@ -23,15 +23,18 @@ loop-command-preserved g c =
     record {
       keeps = g.met.P.Port.goes_on c.args.port.now c.loop-command.port c.call_once.new.port i.keeps p.keeps;
       number = p.number ∙ i.number;
-      own = own_more _ _ (Contains list) _ _ _ _ i.number (contains-as list k c.command-item.result c.loop-command-test.true c.command-item.is) i.own p.own;
-      noted = each-more-by IsNoted _ _ list k c.command-item.result _ _ _ i.number c.loop-command-test.true c.command-item.is i.noted p.noted;
+      own = own_more _ _ (Contains list) _ _ _ _ i.number (contains-as list k c.command-item.result
+          c.loop-command-test.true c.command-item.is) i.own p.own;
+      noted = each-more-by IsNoted _ _ list k c.command-item.result _ _ _ i.number c.loop-command-test.true
+          c.command-item.is i.noted p.noted;
     }
 
 pub returns-in-Err-clause-own : goal.returns-in-Err-clause-own
 returns-in-Err-clause-own g c =
     let i = c.loop-command.invariant in
     let list = c.args.commands.now in
-    own_more _ _ (Contains list) _ _ _ _ i.number (contains-as list c.loop-command.command-index c.command-item.result c.loop-command-test.true c.command-item.is) i.own c.in-Err.ensures.own
+    own_more _ _ (Contains list) _ _ _ _ i.number (contains-as list c.loop-command.command-index c.command-item.result
+    c.loop-command-test.true c.command-item.is) i.own c.in-Err.ensures.own
 
 pub returns-in-Err-clause-cause : goal.returns-in-Err-clause-cause
 returns-in-Err-clause-cause g c =

@@ -8,7 +8,8 @@ abbrev pub invariant-loop-command : goal.invariant-loop-command
 invariant-loop-command g l = record {
   keeps : g.P.Port.keeps l.initial.port l.port;
   number : g.P.Port.number l.port ≡ g.P.Port.number l.initial.port;
-  own : AreOf (g.P.Port.number l.initial.port) (Contains l.commands) (g.P.Port.view l.initial.port) (g.P.Port.view l.port);
+  own : AreOf (g.P.Port.number l.initial.port) (Contains l.commands) (g.P.Port.view l.initial.port)
+      (g.P.Port.view l.port);
   noted : Each (IsNoted (g.P.Port.number l.initial.port)) (take l.command-index l.commands)
       (calling (g.P.Port.view l.initial.port) l.initial.tally) (calling (g.P.Port.view l.port) l.tally);
 }

@@ -5,4 +5,5 @@ use Rattle.converge_round.proofs.closing.stores_of.Goals as goal
 
 pub loop-rep-preserved : goal.loop-rep-preserved
 loop-rep-preserved c =
-    kept_more answer_of c.args.cells.now c.loop-rep.rep-index c.rep-item.result [] c.loop-rep.stores _ c.loop-rep-test.true c.rep-item.is c.loop-rep.invariant c.in_ok-add_store.ensures
+    kept_more answer_of c.args.cells.now c.loop-rep.rep-index c.rep-item.result [] c.loop-rep.stores _
+    c.loop-rep-test.true c.rep-item.is c.loop-rep.invariant c.in_ok-add_store.ensures

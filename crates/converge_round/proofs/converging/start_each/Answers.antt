@@ -25,8 +25,10 @@ loop-answer-preserved g c =
     let places = c.args.places.now in
     let k = c.loop-answer.answer-index in
     let item = c.answer-item.result in
-    let within : k < length places.roomy = subst (λ (xs : List Answer). k < length xs) c.items-answer-items.ensures c.loop-answer-test.true in
-    let is : item ≡ get_or places.roomy k item = subst (λ (xs : List Answer). item ≡ get_or xs k item) c.items-answer-items.ensures c.answer-item.is in
+    let within : k < length places.roomy = subst (λ (xs : List Answer). k < length xs) c.items-answer-items.ensures
+    c.loop-answer-test.true in
+    let is : item ≡ get_or places.roomy k item = subst (λ (xs : List Answer). item ≡ get_or xs k item)
+    c.items-answer-items.ensures c.answer-item.is in
     record {
       index = index-kept _ _ c.args.index.now p.cells i.index;
       keeps = g.met.P.Port.goes_on c.args.port.now c.loop-answer.port c.start_on.new.port i.keeps p.keeps;
@@ -34,7 +36,8 @@ loop-answer-preserved g c =
       own = own_more _ _ (IsClaimFor c.args.now places places.roomy) _ _ _ _ i.number
           (claim_for_one c.args.now places k item within is) i.own p.own;
       cells = keep-then _ _ _ i.cells p.cells;
-      serves = each-more-by (λ by. ServesOne by c.args.now places) _ _ places.roomy k item _ _ _ i.number within is i.serves p.serves;
+      serves = each-more-by (λ by. ServesOne by c.args.now places) _ _ places.roomy k item _ _ _ i.number within is
+          i.serves p.serves;
     }
 
 pub returns-in-Err-clause-own : goal.returns-in-Err-clause-own
@@ -46,8 +49,10 @@ returns-in-Err-start_on-clause-own g c =
     let places = c.args.places.now in
     let k = c.loop-answer.answer-index in
     let item = c.answer-item.result in
-    let within : k < length places.roomy = subst (λ (xs : List Answer). k < length xs) c.items-answer-items.ensures c.loop-answer-test.true in
-    let is : item ≡ get_or places.roomy k item = subst (λ (xs : List Answer). item ≡ get_or xs k item) c.items-answer-items.ensures c.answer-item.is in
+    let within : k < length places.roomy = subst (λ (xs : List Answer). k < length xs) c.items-answer-items.ensures
+    c.loop-answer-test.true in
+    let is : item ≡ get_or places.roomy k item = subst (λ (xs : List Answer). item ≡ get_or xs k item)
+    c.items-answer-items.ensures c.answer-item.is in
     own_more _ _ (IsClaimFor c.args.now places places.roomy) _ _ _ _ i.number
     (claim_for_one c.args.now places k item within is) i.own c.in-Err-start_on.ensures.own
 

@@ -15,6 +15,7 @@ invariant-loop-answer g l = record {
       (g.P.Port.view l.initial.port) (g.P.Port.view l.port);
   cells : KeepReps l.initial.cells l.cells;
   serves : Each (ServesOne (g.P.Port.number l.initial.port) l.now l.places) (take l.answer-index l.places.roomy)
-      (course (g.P.Port.view l.initial.port) l.initial.tally l.initial.cells (wire_at (g.W.Wire.ends l.initial.wire) (g.W.Wire.losses l.initial.wire)))
+      (course (g.P.Port.view l.initial.port) l.initial.tally l.initial.cells
+      (wire_at (g.W.Wire.ends l.initial.wire) (g.W.Wire.losses l.initial.wire)))
       (course (g.P.Port.view l.port) l.tally l.cells (wire_at (g.W.Wire.ends l.wire) (g.W.Wire.losses l.wire)));
 }

@@ -10,15 +10,18 @@ returns-in-Err-clause-own g c = asked_looks _ _ _ _ c.in-Err.ensures.looks
 
 pub returns-in-Ok-clause-own : goal.returns-in-Ok-clause-own
 returns-in-Ok-clause-own g c =
-    asked_list _ _ (λ rows. work rows c.args.now) _ _ _ _ c.in-Ok.ensures.number c.in-Ok.ensures.looks (c.items.ensures ∙ c.in-Ok.ensures.work) c.call_each.ensures.own
+    asked_list _ _ (λ rows. work rows c.args.now) _ _ _ _ c.in-Ok.ensures.number c.in-Ok.ensures.looks
+    (c.items.ensures ∙ c.in-Ok.ensures.work) c.call_each.ensures.own
 
 pub returns-in-Ok-clause-called : goal.returns-in-Ok-clause-called
 returns-in-Ok-clause-called g c =
-    on_ok _ _ _ (λ f. called_read _ _ (λ rows. work rows c.args.now) _ _ _ _ _ _ c.in-Ok.ensures.number c.in-Ok.ensures.looks (c.items.ensures ∙ c.in-Ok.ensures.work) f) c.call_each.ensures.noted
+    on_ok _ _ _ (λ f. called_read _ _ (λ rows. work rows c.args.now) _ _ _ _ _ _ c.in-Ok.ensures.number
+    c.in-Ok.ensures.looks (c.items.ensures ∙ c.in-Ok.ensures.work) f) c.call_each.ensures.noted
 
 pub returns-in-Err-clause-cause : goal.returns-in-Err-clause-cause
 returns-in-Err-clause-cause g c = caused_by_want _ _ _
 
 pub returns-in-Ok-clause-cause : goal.returns-in-Ok-clause-cause
 returns-in-Ok-clause-cause g c =
-    causes_before c.call_each.result _ _ _ _ _ c.in-Ok.ensures.number (later_looks _ _ c.in-Ok.ensures.looks) c.call_each.ensures.cause
+    causes_before c.call_each.result _ _ _ _ _ c.in-Ok.ensures.number
+    (later_looks _ _ c.in-Ok.ensures.looks) c.call_each.ensures.cause

@@ -8,8 +8,10 @@ use Rattle.converge_round.proofs.opening.hear_of.Goals as goal
 
 pub overflow_cast-result : goal.overflow_cast-result
 overflow_cast-result g c =
-    let same : c.len.result ≡ length (present c.args.rows.now c.args.now) = c.len.ensures ∙ ap length c.in_ok-present.ensures in
-    let few : length (present c.args.rows.now c.args.now) ≤ 1000 = few_present c.args.rows.now c.args.now c.requires.valid in
+    let same : c.len.result ≡ length (present c.args.rows.now c.args.now) =
+    c.len.ensures ∙ ap length c.in_ok-present.ensures in
+    let few : length (present c.args.rows.now c.args.now) ≤ 1000 =
+    few_present c.args.rows.now c.args.now c.requires.valid in
     omega (arith, same, few)
 
 pub returns : goal.returns

@@ -7,5 +7,6 @@ use Rattle.converge_round.proofs.placing.fails_of.Goals as goal
 
 pub loop-job-preserved : goal.loop-job-preserved
 loop-job-preserved c =
-    kept_more (fail_of c.args.rows.now c.args.now) c.args.jobs.now c.loop-job.job-index c.job-item.result [] c.loop-job.fails _ c.loop-job-test.true c.job-item.is c.loop-job.invariant
+    kept_more (fail_of c.args.rows.now c.args.now) c.args.jobs.now c.loop-job.job-index c.job-item.result []
+    c.loop-job.fails _ c.loop-job-test.true c.job-item.is c.loop-job.invariant
     (c.in_ok-add.ensures ∙ ap (λ (o : Option Command). c.loop-job.fails ++ option_to_list o) c.fail_of.ensures)

@@ -26,9 +26,11 @@ loop-job-preserved g c =
       keeps = g.met.P.Port.goes_on c.args.port.now c.loop-job.port c.start.new.port i.keeps p.keeps;
       number = p.number ∙ i.number;
       own = own_more _ _ (IsClaimOfOne c.args.now c.args.rep.now.cell list) _ _ _ _ i.number
-          (claim_of_one c.args.now c.args.rep.now.cell c.loop-job.rep.cell list k c.job-item.result i.rep.cell c.loop-job-test.true c.job-item.is) i.own p.own;
+          (claim_of_one c.args.now c.args.rep.now.cell c.loop-job.rep.cell list k c.job-item.result i.rep.cell
+          c.loop-job-test.true c.job-item.is) i.own p.own;
       rep = rep_then _ _ _ i.rep p.rep;
-      starts = each-more-by (λ by. StartsOne by c.args.now) _ _ list k c.job-item.result _ _ _ i.number c.loop-job-test.true c.job-item.is i.starts p.starts;
+      starts = each-more-by (λ by. StartsOne by c.args.now) _ _ list k c.job-item.result _ _ _ i.number
+          c.loop-job-test.true c.job-item.is i.starts p.starts;
     }
 
 pub returns-in-Err-clause-own : goal.returns-in-Err-clause-own
@@ -36,7 +38,8 @@ returns-in-Err-clause-own g c =
     let i = c.loop-job.invariant in
     let list = c.args.jobs.now in
     own_more _ _ (IsClaimOfOne c.args.now c.args.rep.now.cell list) _ _ _ _ i.number
-    (claim_of_one c.args.now c.args.rep.now.cell c.loop-job.rep.cell list c.loop-job.job-index c.job-item.result i.rep.cell c.loop-job-test.true c.job-item.is) i.own c.in-Err.ensures.own
+    (claim_of_one c.args.now c.args.rep.now.cell c.loop-job.rep.cell list c.loop-job.job-index c.job-item.result
+    i.rep.cell c.loop-job-test.true c.job-item.is) i.own c.in-Err.ensures.own
 
 pub returns-in-Err-clause-rep : goal.returns-in-Err-clause-rep
 returns-in-Err-clause-rep g c = rep_then _ _ _ c.loop-job.invariant.rep c.in-Err.ensures.rep

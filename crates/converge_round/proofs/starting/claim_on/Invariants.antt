@@ -14,6 +14,7 @@ invariant-loop-job g l = record {
       (g.P.Port.view l.initial.port) (g.P.Port.view l.port);
   rep : SameRep l.initial.rep l.rep;
   starts : Each (StartsOne (g.P.Port.number l.initial.port) l.now) (take l.job-index l.jobs)
-      (serving l.initial.rep (g.P.Port.view l.initial.port) l.initial.tally (wire_at (g.W.Wire.ends l.initial.wire) (g.W.Wire.losses l.initial.wire)))
+      (serving l.initial.rep (g.P.Port.view l.initial.port) l.initial.tally
+      (wire_at (g.W.Wire.ends l.initial.wire) (g.W.Wire.losses l.initial.wire)))
       (serving l.rep (g.P.Port.view l.port) l.tally (wire_at (g.W.Wire.ends l.wire) (g.W.Wire.losses l.wire)));
 }

@@ -9,7 +9,8 @@ pub returns-then-reaches-clause-own : goal.returns-then-reaches-clause-own
 returns-then-reaches-clause-own g c = own_started _ c.args.job.now _ _ _ c.start_job-called.ensures.started
 
 pub returns-then-reaches-clause-rep : goal.returns-then-reaches-clause-rep
-returns-then-reaches-clause-rep g c = rep_started _ c.args.job.now _ _ _ c.start_job-called.ensures.cell c.start_job-called.ensures.started
+returns-then-reaches-clause-rep g c = rep_started _ c.args.job.now _ _ _ c.start_job-called.ensures.cell
+    c.start_job-called.ensures.started
 
 pub returns-else-reaches-clause-own : goal.returns-else-reaches-clause-own
 returns-else-reaches-clause-own g c = own_none _ _ _
@@ -18,4 +19,5 @@ pub returns-then-reaches-clause-cause : goal.returns-then-reaches-clause-cause
 returns-then-reaches-clause-cause g c =
     let called = c.start_job-called in
     IfErr-weaker c.count_end.result (IsFaultOf called.result.end) _
-    (λ why. caused_started _ c.args.job.now c.args.now _ _ _ _ _ _ _ _ called.result why called.ensures.started) c.count_end.ensures.cause
+    (λ why. caused_started _ c.args.job.now c.args.now _ _ _ _ _ _ _ _ called.result why called.ensures.started)
+    c.count_end.ensures.cause

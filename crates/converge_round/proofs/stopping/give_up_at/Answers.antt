@@ -17,5 +17,6 @@ pub returns-clause-cells : goal.returns-clause-cells
 returns-clause-cells c =
     let cells = c.args.cells.now in
     let rep = get_or cells c.args.at c.index-cells-at.result in
-    keep-set cells c.args.at rep c.give_up.new.rep c.requires (rep_read cells c.args.at c.index-cells-at.result c.requires)
+    keep-set cells c.args.at rep c.give_up.new.rep c.requires
+    (rep_read cells c.args.at c.index-cells-at.result c.requires)
     (rep_stopped rep c.give_up.new.rep c.args.stray.now.1 c.give_up.ensures.cell c.give_up.ensures.is)

@@ -5,7 +5,12 @@ use Rattle.converge_round.proofs.RepLaws.{keep-same, keep-then, index-kept}
 use Rattle.converge_round.proofs.stopping.stop_each.Goals as goal
 
 pub loop-stray-init : goal.loop-stray-init
-loop-stray-init g c = record { index = c.requires; cells = keep-same c.args.cells.now; stops = ap (so_far _) c.new-stopped.ensures }
+loop-stray-init g c = record {
+  index = c.requires;
+  cells = keep-same c.args.cells.now;
+  stops =
+      ap (so_far _) c.new-stopped.ensures;
+}
 
 pub loop-stray-preserved : goal.loop-stray-preserved
 loop-stray-preserved g c =
@@ -14,7 +19,8 @@ loop-stray-preserved g c =
     record {
       index = index-kept _ _ c.args.index.now p.cells i.index;
       cells = keep-then _ _ _ i.cells p.cells;
-      stops = each-more StopsOne c.args.strays.now c.loop-stray.stray-index c.stray-item.result _ _ _ c.loop-stray-test.true c.stray-item.is i.stops p.stops;
+      stops = each-more StopsOne c.args.strays.now c.loop-stray.stray-index c.stray-item.result _ _ _
+          c.loop-stray-test.true c.stray-item.is i.stops p.stops;
     }
 
 pub returns-in_err-stop_next-clause-cells : goal.returns-in_err-stop_next-clause-cells

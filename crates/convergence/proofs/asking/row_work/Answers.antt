@@ -10,18 +10,22 @@ returns-in-Ordinary c =
     let rows = c.args.rows.now in
     let key = c.args.key.now in
     c.ordinary_work.ensures ∙ ap (λ (o : Option Actual). ordinary_work rows c.args.now key o) c.actual_of-row.ensures
-    ∙ subst (λ (p : Presence). ordinary_work rows c.args.now key (find_actual rows key p) ≡ row_work rows c.args.now key p) (sym c.in-Ordinary.is) refl
+    ∙ subst (λ (p : Presence). ordinary_work rows c.args.now key (find_actual rows key p)
+    ≡ row_work rows c.args.now key p) (sym c.in-Ordinary.is) refl
 
 pub returns-in-Evacuating : goal.returns-in-Evacuating
 returns-in-Evacuating c =
     let rows = c.args.rows.now in
     let key = c.args.key.now in
-    c.evacuating_work.ensures ∙ ap (λ (o : Option Actual). evacuating_work rows c.args.now key o) c.actual_of-row.ensures
-    ∙ subst (λ (p : Presence). evacuating_work rows c.args.now key (find_actual rows key p) ≡ row_work rows c.args.now key p) (sym c.in-Evacuating.is) refl
+    c.evacuating_work.ensures ∙ ap (λ (o : Option Actual). evacuating_work rows c.args.now key o)
+    c.actual_of-row.ensures
+    ∙ subst (λ (p : Presence). evacuating_work rows c.args.now key (find_actual rows key p)
+    ≡ row_work rows c.args.now key p) (sym c.in-Evacuating.is) refl
 
 pub returns-in-Suspect : goal.returns-in-Suspect
 returns-in-Suspect c =
     let rows = c.args.rows.now in
     let key = c.args.key.now in
     c.suspect_work.ensures ∙ ap (λ (o : Option Actual). suspect_work rows c.args.now key o) c.actual_of-row.ensures
-    ∙ subst (λ (p : Presence). suspect_work rows c.args.now key (find_actual rows key p) ≡ row_work rows c.args.now key p) (sym c.in-Suspect.is) refl
+    ∙ subst (λ (p : Presence). suspect_work rows c.args.now key (find_actual rows key p)
+    ≡ row_work rows c.args.now key p) (sym c.in-Suspect.is) refl

@@ -6,4 +6,5 @@ use Rattle.convergence.proofs.placing.add_instances.Goals as goal
 pub loop-index-preserved : goal.loop-index-preserved
 loop-index-preserved c =
     c.in_ok-push.ensures.items
-    ∙ made_more (λ (i : ℕ). (record { process = c.args.desired.now.process; index = i }, Ordinary)) c.args.all.now.items c.loop-index.all.items c.loop-index.index c.loop-index.invariant
+    ∙ made_more (λ (i : ℕ). (record { process = c.args.desired.now.process; index = i }, Ordinary)) c.args.all.now.items
+    c.loop-index.all.items c.loop-index.index c.loop-index.invariant

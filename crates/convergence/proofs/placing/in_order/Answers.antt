@@ -6,4 +6,5 @@ use Rattle.convergence.proofs.placing.in_order.Goals as goal
 pub returns : goal.returns
 returns g c =
     dedup_is _ _ _ c.dedup.ensures.filtered
-    ∙ table-from_dedup g.K.Ord.cmp _ c.requires g.met.K.Ord.matches_eq c.args.all.items c.sort_unstable.new.self.items c.sort_unstable.ensures.permutation c.sort_unstable.ensures.sorted
+    ∙ table-from_dedup g.K.Ord.cmp _ c.requires g.met.K.Ord.matches_eq c.args.all.items c.sort_unstable.new.self.items
+    c.sort_unstable.ensures.permutation c.sort_unstable.ensures.sorted

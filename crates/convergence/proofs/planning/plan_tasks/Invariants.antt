@@ -5,4 +5,5 @@ use Rattle.convergence.specs.Plans.{task_plan}
 use Rattle.convergence.proofs.planning.plan_tasks.Given as goal
 
 abbrev pub invariant-loop-task : goal.invariant-loop-task
-invariant-loop-task l = l.asked ≡ l.fn.asked ++ map (at l.now) (filter_map (task_plan l.answers) (take l.task-index l.tasks))
+invariant-loop-task l = l.asked ≡ l.fn.asked ++ map (at l.now)
+    (filter_map (task_plan l.answers) (take l.task-index l.tasks))

@@ -10,5 +10,7 @@ use Rattle.convergence.proofs.straying.in_stray_order.Goals as goal
 pub returns : goal.returns
 returns c =
     dedup_is _ _ _ c.dedup.ensures.filtered
-    ∙ table-from_dedup stray_order _ IsKeyOrder-stray_order strays_tie c.args.all.items c.sort_unstable_by_key.new.self.items c.sort_unstable_by_key.ensures.permutation
-    (c.sort_unstable_by_key.ensures.sorted (λ (s : List ℕ × Instance). (s.0, s.1.number, s.1.epoch)) (answers_always _ _ _ (λ f a r h q. search rules)))
+    ∙ table-from_dedup stray_order _ IsKeyOrder-stray_order strays_tie c.args.all.items
+    c.sort_unstable_by_key.new.self.items c.sort_unstable_by_key.ensures.permutation
+    (c.sort_unstable_by_key.ensures.sorted (λ (s : List ℕ × Instance). (s.0, s.1.number, s.1.epoch))
+    (answers_always _ _ _ (λ f a r h q. search rules)))

@@ -9,5 +9,8 @@ use Rattle.convergence.proofs.working.ask_cells.Goals as goal
 pub loop-cell-preserved : goal.loop-cell-preserved
 loop-cell-preserved c =
     c.in_ok-add.ensures
-    ∙ ap (λ (o : Option Command). c.loop-cell.asked ++ option_to_list o) (c.command_at.ensures ∙ ap (option_map (at c.args.now)) c.cell_work.ensures)
-    ∙ asked_more (λ (r : CellRow). cell_work r c.args.now) (at c.args.now) c.args.cells.now c.loop-cell.cell-index c.cell-item.result c.args.asked.now c.loop-cell.asked c.loop-cell-test.true c.cell-item.is c.loop-cell.invariant
+    ∙ ap (λ (o : Option Command). c.loop-cell.asked ++ option_to_list o)
+    (c.command_at.ensures ∙ ap (option_map (at c.args.now)) c.cell_work.ensures)
+    ∙ asked_more (λ (r : CellRow). cell_work r c.args.now)
+    (at c.args.now) c.args.cells.now c.loop-cell.cell-index c.cell-item.result c.args.asked.now c.loop-cell.asked
+    c.loop-cell-test.true c.cell-item.is c.loop-cell.invariant

@@ -5,4 +5,5 @@ use Rattle.cell_records.specs.declared.cell_row.CellRow.{CellRow}
 use Rattle.convergence.proofs.working.ask_cells.Given as goal
 
 abbrev pub invariant-loop-cell : goal.invariant-loop-cell
-invariant-loop-cell l = l.asked ≡ l.fn.asked ++ map (at l.now) (filter_map (λ (c : CellRow). cell_work c l.now) (take l.cell-index l.cells))
+invariant-loop-cell l = l.asked ≡ l.fn.asked ++ map (at l.now)
+    (filter_map (λ (c : CellRow). cell_work c l.now) (take l.cell-index l.cells))

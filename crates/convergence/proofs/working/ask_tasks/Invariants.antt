@@ -4,4 +4,5 @@ use Rattle.bbs_model.specs.Work.{at, task_work}
 use Rattle.convergence.proofs.working.ask_tasks.Given as goal
 
 abbrev pub invariant-loop-task : goal.invariant-loop-task
-invariant-loop-task l = l.asked ≡ l.fn.asked ++ map (at l.now) (filter_map (task_work l.rows l.now) (take l.task-index l.tasks))
+invariant-loop-task l = l.asked ≡ l.fn.asked ++ map (at l.now)
+    (filter_map (task_work l.rows l.now) (take l.task-index l.tasks))

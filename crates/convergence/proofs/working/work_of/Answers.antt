@@ -22,7 +22,8 @@ returns c =
     ∙ ap (λ (xs : List Task). c.ask_places.new.asked ++ of_tasks xs) c.items-3.ensures
     ∙ ap (λ (xs : List Command). xs ++ of_tasks rows.tasks)
     (c.in_ok-ask_places.ensures
-    ∙ ap (λ (xs : List (Key × Presence)). c.ask_domains.new.asked ++ of_places xs) (c.as_slice.ensures.value ∙ c.in_ok-places.ensures)
+    ∙ ap (λ (xs : List (Key × Presence)). c.ask_domains.new.asked ++ of_places xs)
+    (c.as_slice.ensures.value ∙ c.in_ok-places.ensures)
     ∙ ap (λ (xs : List Command). xs ++ of_places (places rows))
     (c.in_ok-ask_domains.ensures
     ∙ ap (λ (xs : List DomainRow). c.ask_cells.new.asked ++ of_domains xs) c.items-2.ensures
@@ -30,5 +31,6 @@ returns c =
     (c.in_ok-ask_cells.ensures
     ∙ ap (λ (xs : List Command). xs ++ of_cells c.items.result.now) c.new-asked.ensures
     ∙ ap of_cells c.items.ensures)))
-    ∙ gathered (at now) (filter_map (λ (r : CellRow). cell_work r now) rows.cells) (filter_map (λ (r : DomainRow). domain_work r now) rows.domains)
+    ∙ gathered (at now) (filter_map (λ (r : CellRow). cell_work r now) rows.cells)
+    (filter_map (λ (r : DomainRow). domain_work r now) rows.domains)
     (filter_map (place_work rows now) (places rows)) (filter_map (task_work rows now) rows.tasks)

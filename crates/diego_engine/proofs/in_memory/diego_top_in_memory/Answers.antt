@@ -3,16 +3,19 @@ use Rattle.diego_engine.proofs.Spoken.{spoken, spoken_whole}
 use Rattle.diego_engine.proofs.in_memory.diego_top_in_memory.Goals as goal
 
 pub returns-clause-ends : goal.returns-clause-ends
-returns-clause-ends g c = let (how, status, ends) = c.diego_top.ensures.ends in (how, status, spoken _ _ _ _ tt _ _ _ how _ ends)
+returns-clause-ends g c = let (how, status, ends) = c.diego_top.ensures.ends in
+    (how, status, spoken _ _ _ _ tt _ _ _ how _ ends)
 
 pub returns-clause-done : goal.returns-clause-done
-returns-clause-done g c n is = let (how, whole) = c.diego_top.ensures.done n is in (how, spoken_whole _ _ _ _ tt [] _ _ whole)
+returns-clause-done g c n is = let (how, whole) = c.diego_top.ensures.done n is in
+    (how, spoken_whole _ _ _ _ tt [] _ _ whole)
 
 pub returns-clause-complete : goal.returns-clause-complete
 returns-clause-complete g c meets source sink disk = c.diego_top.ensures.complete meets source sink (tt, disk)
 
 pub returns-clause-refused : goal.returns-clause-refused
-returns-clause-refused g c n = let (why, stood, refused) = c.diego_top.ensures.refused n in (why, stood, λ image shows. refused image shows tt)
+returns-clause-refused g c n = let (why, stood, refused) = c.diego_top.ensures.refused n in
+    (why, stood, λ image shows. refused image shows tt)
 
 pub returns-clause-no_script : goal.returns-clause-no_script
 returns-clause-no_script g c fault tells source = c.diego_top.ensures.no_script fault tells source

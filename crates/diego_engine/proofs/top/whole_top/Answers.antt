@@ -25,7 +25,9 @@ returns-clause-ends g c =
     let lists = c.still_top.ensures.lists in (
       how,
       status,
-      still_ends g.D.Disk.told g.D.Disk.fault_count g.D.Disk.moment _ (run_of how c.still_top.result) _ _ _ _ _ lists.0 lists.1 lists.2 how _
-          (neither (asked_of (map (λ w. string_bytes w) c.args.words.now)) (search rules) (search rules)) ends c.still_top.ensures.locks
+      still_ends g.D.Disk.told g.D.Disk.fault_count g.D.Disk.moment _
+          (run_of how c.still_top.result) _ _ _ _ _ lists.0 lists.1 lists.2 how _
+          (neither (asked_of (map (λ w. string_bytes w) c.args.words.now)) (search rules) (search rules)) ends
+          c.still_top.ensures.locks
           (λ not_locks. ap g.S.Source.left (c.still_top.ensures.source not_locks)),
     )

@@ -12,8 +12,10 @@ returns-in_ok-next-in-len1-up-clause-reaches t c =
     let entry = c.entry-item.result in
     let some : 0 < length entries = omega arith in
     let later : List Entry = between 1 (length entries) entries in
-    let split : entries ≡ entry ∷ later = first_rest entries entry some ∙ ap (λ (e : Entry). e ∷ later) (sym c.entry-item.is) in
-    reaches_ok c.left_by.result c.args.moment entries later entry c.args.bytes.now c.args.left.items c.in_ok-next-in-len1-up.next.items c.in_ok-after-in-len1-up.after.items split (omega arith)
+    let split : entries ≡ entry ∷ later = first_rest entries entry some ∙ ap (λ (e : Entry). e ∷ later)
+    (sym c.entry-item.is) in
+    reaches_ok c.left_by.result c.args.moment entries later entry c.args.bytes.now c.args.left.items
+    c.in_ok-next-in-len1-up.next.items c.in_ok-after-in-len1-up.after.items split (omega arith)
     c.in_ok-after-in-len1-up.ensures c.in_ok-next-in-len1-up.ensures.follows c.left_by.ensures.reaches
 
 pub returns-in_ok-next-in-len1-up-clause-chosen : goal.returns-in_ok-next-in-len1-up-clause-chosen
@@ -22,6 +24,8 @@ returns-in_ok-next-in-len1-up-clause-chosen t c =
     let entry = c.entry-item.result in
     let some : 0 < length entries = omega arith in
     let later : List Entry = between 1 (length entries) entries in
-    let split : entries ≡ entry ∷ later = first_rest entries entry some ∙ ap (λ (e : Entry). e ∷ later) (sym c.entry-item.is) in
-    chooses_ok c.left_by.result c.args.torn c.args.moment entries later entry c.args.bytes.now c.args.left.items c.in_ok-next-in-len1-up.next.items c.in_ok-after-in-len1-up.after.items split (omega arith)
+    let split : entries ≡ entry ∷ later = first_rest entries entry some ∙ ap (λ (e : Entry). e ∷ later)
+    (sym c.entry-item.is) in
+    chooses_ok c.left_by.result c.args.torn c.args.moment entries later entry c.args.bytes.now c.args.left.items
+    c.in_ok-next-in-len1-up.next.items c.in_ok-after-in-len1-up.after.items split (omega arith)
     c.in_ok-after-in-len1-up.ensures c.in_ok-next-in-len1-up.ensures.chosen c.left_by.ensures.chosen

@@ -8,10 +8,12 @@ returns-then-from-len-clause-bytes c = covered_none _ _ _ _ (omega arith)
 
 pub returns-clause-tears : goal.returns-clause-tears
 returns-clause-tears c =
-    cover_tears c.args.from c.args.len c.args.byte c.args.left.items c.lay.new.target.items c.deref.result.now (omega arith) (omega arith)
+    cover_tears c.args.from c.args.len c.args.byte c.args.left.items c.lay.new.target.items c.deref.result.now
+    (omega arith) (omega arith)
     (c.deref.ensures.value ∙ c.in_ok-fill.ensures.items_if_clones_equal (λ y same. search rules)) c.in_ok-lay.ensures.ok
 
 pub returns-clause-bytes : goal.returns-clause-bytes
 returns-clause-bytes c =
-    covered_here c.args.byte c.args.from c.args.len c.args.left.items c.lay.new.target.items c.deref.result.now (omega arith)
+    covered_here c.args.byte c.args.from c.args.len c.args.left.items c.lay.new.target.items c.deref.result.now
+    (omega arith)
     (c.deref.ensures.value ∙ c.in_ok-fill.ensures.items_if_clones_equal (λ y same. search rules)) c.in_ok-lay.ensures.ok

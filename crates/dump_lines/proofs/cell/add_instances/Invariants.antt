@@ -6,4 +6,5 @@ use Rattle.dump_lines.specs.Listing.{all_from}
 use Rattle.dump_lines.proofs.cell.add_instances.Given as goal
 
 abbrev pub invariant-loop-item : goal.invariant-loop-item
-invariant-loop-item l = all_from instance_as (unless l.fault l.rows) (map view (drop l.item-index l.items)) ≡ all_from instance_as (Ok l.initial.rows) (map view l.items)
+invariant-loop-item l = all_from instance_as (unless l.fault l.rows) (map view (drop l.item-index l.items))
+    ≡ all_from instance_as (Ok l.initial.rows) (map view l.items)

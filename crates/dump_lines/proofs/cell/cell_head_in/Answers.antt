@@ -6,4 +6,5 @@ pub returns : goal.returns
 unfolding cell_head_in
 returns c =
     c.cell_head_of.ensures
-    ∙ (λ i. cell_head_of (c.place_in.ensures i) (c.amounts_in.ensures i) (c.amounts_in-2.ensures i) (c.tag_in.ensures i) (c.is_filled_in.ensures i) (c.truth_in.ensures i) (c.number_or.ensures i))
+    ∙ (λ i. cell_head_of (c.place_in.ensures i) (c.amounts_in.ensures i) (c.amounts_in-2.ensures i) (c.tag_in.ensures i)
+    (c.is_filled_in.ensures i) (c.truth_in.ensures i) (c.number_or.ensures i))

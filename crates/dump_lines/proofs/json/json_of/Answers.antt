@@ -10,4 +10,5 @@ returns-in_default c = json_of-not_utf8 c.args.line.now c.in_default.ensures.cas
 pub returns-in-Ok-from_str : goal.returns-in-Ok-from_str
 returns-in-Ok-from_str c =
     let text = c.in-Ok.ensures in
-    json_of-utf8 c.args.line.now text.cases.1 ∙ ap (λ bytes. or_json (read bytes)) (sym text.cases.0) ∙ ap or_json c.in-Ok-from_str.ensures.ok
+    json_of-utf8 c.args.line.now text.cases.1 ∙ ap (λ bytes. or_json (read bytes))
+    (sym text.cases.0) ∙ ap or_json c.in-Ok-from_str.ensures.ok

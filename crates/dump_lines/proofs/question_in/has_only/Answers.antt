@@ -9,4 +9,5 @@ pub returns-in-Some : goal.returns-in-Some
 unfolding has_only
 returns-in-Some c =
     c.are_known.ensures ∙ list_all-member_names (is_known c.args.ask) c.in-Some.object.now.entries
-    ∙ ap (λ members. option_map_or (λ ms. list_all (is_known c.args.ask) (names_given ms)) members false) c.in-Some.ensures
+    ∙ ap (λ members. option_map_or (λ ms. list_all (is_known c.args.ask) (names_given ms)) members false)
+    c.in-Some.ensures

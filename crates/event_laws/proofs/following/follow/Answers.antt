@@ -13,8 +13,10 @@ loop-events-preserved c =
     let i = c.loop-events.events-index in
     let one = c.events-item.result in
     let new : c.go_on.new.rows ≡ after_events c.loop-events.new one = c.in_ok-go_on.ensures in
-    let counted : c.go_on.new.rows.next ≡ c.loop-events.new.next + 1 = ap (λ (r : Rows). r.next) new ∙ next-after_events c.loop-events.new one in
+    let counted : c.go_on.new.rows.next ≡ c.loop-events.new.next + 1 =
+    ap (λ (r : Rows). r.next) new ∙ next-after_events c.loop-events.new one in
     record {
-      rest = ap (λ (r : Rows). after_all r (drop (i + 1) told)) new ∙ one_transition_more c.loop-events.new told i one c.loop-events-test.true c.events-item.is ∙ c.loop-events.invariant.rest;
+      rest = ap (λ (r : Rows). after_all r (drop (i + 1) told)) new ∙ one_transition_more c.loop-events.new told i one
+          c.loop-events-test.true c.events-item.is ∙ c.loop-events.invariant.rest;
       next = omega arith;
     }

@@ -11,7 +11,8 @@ invariant-loop-count g l =
       bound : l.count ≤ length l.room;
       adds : AddsCalls (reads l.area) (g.C.Calls.history l.initial.calls) (g.C.Calls.history l.calls);
       within : is_honest g.C.Calls.first (g.C.Calls.history l.calls) ≡ true → l.count ≤ length bytes - l.at;
-      front : is_honest g.C.Calls.first (g.C.Calls.history l.calls) ≡ true → take l.count l.room ≡ take l.count (drop l.at bytes);
+      front : is_honest g.C.Calls.first (g.C.Calls.history l.calls) ≡ true
+          → take l.count l.room ≡ take l.count (drop l.at bytes);
     }
 
 abbrev pub decreases-loop-count : goal.decreases-loop-count

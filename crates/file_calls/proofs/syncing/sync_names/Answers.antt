@@ -10,4 +10,5 @@ returns-in_err-sync_name-clause-adds g c = name_adds A (is_ok c.sync_name.result
 
 pub returns-clause-adds : goal.returns-clause-adds
 returns-clause-adds g c =
-    adds_then is_naming _ _ _ (name_adds A (is_ok c.sync_name.result) _ _ c.sync_name.ensures) (name_adds B (is_ok c.sync_name-2.result) _ _ c.sync_name-2.ensures)
+    adds_then is_naming _ _ _ (name_adds A (is_ok c.sync_name.result) _ _ c.sync_name.ensures)
+    (name_adds B (is_ok c.sync_name-2.result) _ _ c.sync_name-2.ensures)

@@ -16,8 +16,10 @@ sync_file-requires g c = still_unsynced c.args.area _ _ c.name_once.ensures.adds
 
 pub returns-clause-adds : goal.returns-clause-adds
 returns-clause-adds g c =
-    adds_then (syncs c.args.area) _ _ _ (adds_wider c.args.area _ _ c.name_once.ensures.adds) (sync_adds c.args.area (is_ok c.sync_file.result) _ _ c.sync_file.ensures)
+    adds_then (syncs c.args.area) _ _ _ (adds_wider c.args.area _ _ c.name_once.ensures.adds)
+    (sync_adds c.args.area (is_ok c.sync_file.result) _ _ c.sync_file.ensures)
 
 pub returns-clause-here : goal.returns-clause-here
 returns-clause-here g c =
-    sync_here g.C.Calls.first c.args.area (is_ok c.sync_file.result) _ _ _ c.name_once.ensures.adds (c.in_ok-name_once.ensures.ok c.args.area) c.sync_file.ensures
+    sync_here g.C.Calls.first c.args.area (is_ok c.sync_file.result) _ _ _ c.name_once.ensures.adds
+    (c.in_ok-name_once.ensures.ok c.args.area) c.sync_file.ensures

@@ -8,5 +8,6 @@ invariant-loop g l =
     let first = g.C.Calls.first in
     record {
       adds : AddsCalls (writes l.area) (g.C.Calls.history l.initial.calls) (g.C.Calls.history l.calls);
-      same : held_by first l.area (g.C.Calls.history l.calls) ≡ held_by first l.area (g.C.Calls.history l.initial.calls);
+      same : held_by first l.area (g.C.Calls.history l.calls)
+          ≡ held_by first l.area (g.C.Calls.history l.initial.calls);
     }

@@ -13,7 +13,8 @@ invariant-loop-done g l =
       small : 0 < l.done → l.at < 2 ^ 63;
       adds : AddsCalls (writes l.area) (g.C.Calls.history l.fn.calls) (g.C.Calls.history l.calls);
       here : is_honest first (g.C.Calls.history l.calls) ≡ true
-          → held_by first l.area (g.C.Calls.history l.calls) ≡ half_written (held_by first l.area (g.C.Calls.history l.fn.calls)) l.at l.done l.bytes;
+          → held_by first l.area (g.C.Calls.history l.calls)
+          ≡ half_written (held_by first l.area (g.C.Calls.history l.fn.calls)) l.at l.done l.bytes;
     }
 
 abbrev pub decreases-loop-done : goal.decreases-loop-done

@@ -15,7 +15,14 @@ put_at-place-requires g c =
     let i = c.loop-row.row-index in
     let row = c.row-item.result in
     let same : length (f row) ≡ length (f (get_or c.args.rows.now i row)) = ap (λ x. length (f x)) c.row-item.is in
-    omega (arith, same, length-flat_map-take f c.args.rows.now i row c.loop-row-test.true, c.requires, c.loop-row.invariant.place, c.loop-row.auto.out)
+    omega (
+      arith,
+      same,
+      length-flat_map-take f c.args.rows.now i row c.loop-row-test.true,
+      c.requires,
+      c.loop-row.invariant.place,
+      c.loop-row.auto.out,
+    )
 
 pub loop-row-preserved : goal.loop-row-preserved
 loop-row-preserved g c =

@@ -9,5 +9,7 @@ use Rattle.headroom_tables.proofs.each.add_cases.Goals as goal
 pub returns : goal.returns
 unfolding case_columns
 returns c =
-    let same : texts_of c.loop-case.rows.items ≡ flat_map (case_rows c.args.of) c.args.cases.now = grind (arith, common_steps) in
-    rows_told c.add_table.result c.args.text.now.items c.add_table.new.text.items case_columns _ _ same c.add_table.ensures
+    let same : texts_of c.loop-case.rows.items ≡ flat_map (case_rows c.args.of) c.args.cases.now =
+    grind (arith, common_steps) in
+    rows_told c.add_table.result c.args.text.now.items c.add_table.new.text.items case_columns _ _ same
+    c.add_table.ensures

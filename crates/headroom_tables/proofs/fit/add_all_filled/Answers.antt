@@ -9,4 +9,5 @@ pub returns : goal.returns
 unfolding filled_columns
 returns c =
     let same : texts_of c.loop-cell.rows.items ≡ map filled_row c.args.cells.now = grind (arith, common_steps) in
-    rows_told c.add_table.result c.args.text.now.items c.add_table.new.text.items filled_columns _ _ same c.add_table.ensures
+    rows_told c.add_table.result c.args.text.now.items c.add_table.new.text.items filled_columns _ _ same
+    c.add_table.ensures

@@ -8,5 +8,7 @@ use Rattle.headroom_tables.proofs.no_room.add_no_room.Goals as goal
 pub returns : goal.returns
 unfolding no_room_columns
 returns c =
-    let same : texts_of c.loop-at.rows.items ≡ no_room_rows c.args.jobs.now [] c.args.jobs.now = grind (arith, common_steps) in
-    rows_told c.add_table.result c.args.text.now.items c.add_table.new.text.items no_room_columns _ _ same c.add_table.ensures
+    let same : texts_of c.loop-at.rows.items ≡ no_room_rows c.args.jobs.now [] c.args.jobs.now =
+    grind (arith, common_steps) in
+    rows_told c.add_table.result c.args.text.now.items c.add_table.new.text.items no_room_columns _ _ same
+    c.add_table.ensures

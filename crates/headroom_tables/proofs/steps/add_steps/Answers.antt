@@ -10,4 +10,5 @@ pub returns : goal.returns
 unfolding step_columns
 returns c =
     let same : texts_of c.loop-step.rows.items ≡ flat_map step_rows c.args.steps.now = grind (arith, common_steps) in
-    rows_told c.add_table.result c.args.text.now.items c.add_table.new.text.items step_columns _ _ same c.add_table.ensures
+    rows_told c.add_table.result c.args.text.now.items c.add_table.new.text.items step_columns _ _ same
+    c.add_table.ensures

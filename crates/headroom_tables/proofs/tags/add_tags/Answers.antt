@@ -9,4 +9,5 @@ pub returns : goal.returns
 unfolding tag_columns
 returns c =
     let same : texts_of c.loop-tag.rows.items ≡ map tag_row c.args.tags.now = grind (arith, common_steps) in
-    rows_told c.add_table.result c.args.text.now.items c.add_table.new.text.items tag_columns _ _ same c.add_table.ensures
+    rows_told c.add_table.result c.args.text.now.items c.add_table.new.text.items tag_columns _ _ same
+    c.add_table.ensures

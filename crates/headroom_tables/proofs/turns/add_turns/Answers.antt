@@ -9,4 +9,5 @@ pub returns : goal.returns
 unfolding turn_columns
 returns c =
     let same : texts_of c.loop-turn.rows.items ≡ map turn_row c.args.turns.now = grind (arith, common_steps) in
-    rows_told c.add_table.result c.args.text.now.items c.add_table.new.text.items turn_columns _ _ same c.add_table.ensures
+    rows_told c.add_table.result c.args.text.now.items c.add_table.new.text.items turn_columns _ _ same
+    c.add_table.ensures

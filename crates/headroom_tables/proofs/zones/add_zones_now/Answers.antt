@@ -9,4 +9,5 @@ pub returns : goal.returns
 unfolding zone_now_columns
 returns c =
     let same : texts_of c.loop-zone.rows.items ≡ map zone_now_row c.args.zones.now = grind (arith, common_steps) in
-    rows_told c.add_table.result c.args.text.now.items c.add_table.new.text.items zone_now_columns _ _ same c.add_table.ensures
+    rows_told c.add_table.result c.args.text.now.items c.add_table.new.text.items zone_now_columns _ _ same
+    c.add_table.ensures

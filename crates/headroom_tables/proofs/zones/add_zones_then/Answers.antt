@@ -9,4 +9,5 @@ pub returns : goal.returns
 unfolding zone_then_columns
 returns c =
     let same : texts_of c.loop-zone.rows.items ≡ map zone_then_row c.args.zones.now = grind (arith, common_steps) in
-    rows_told c.add_table.result c.args.text.now.items c.add_table.new.text.items zone_then_columns _ _ same c.add_table.ensures
+    rows_told c.add_table.result c.args.text.now.items c.add_table.new.text.items zone_then_columns _ _ same
+    c.add_table.ensures

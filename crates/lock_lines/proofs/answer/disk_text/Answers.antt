@@ -2,4 +2,5 @@ use Rattle.line_writing.proofs.Public.{if_ok, line_written}
 use Rattle.lock_lines.proofs.answer.disk_text.Goals as goal
 
 pub returns : goal.returns
-returns c = if_ok _ _ c.line_ended.result (λ v. line_written v.items c.in_ok-text.ensures c.in_ok-put_disk.ensures) c.line_ended.ensures
+returns c = if_ok _ _ c.line_ended.result (λ v. line_written v.items c.in_ok-text.ensures c.in_ok-put_disk.ensures)
+    c.line_ended.ensures

@@ -5,10 +5,12 @@ use Rattle.lock_runs.proofs.opening.open.Goals as goal
 
 pub returns-in-Ok-clause-opens : goal.returns-in-Ok-clause-opens
 returns-in-Ok-clause-opens g c =
-    opened (IsLocket c.in-Ok.locket.base) _ _ c.in-Ok.ensures.found (λ q told. g.met.D.Disk.timed c.in-Ok.locket.disk q told)
+    opened (IsLocket c.in-Ok.locket.base) _ _ c.in-Ok.ensures.found
+    (λ q told. g.met.D.Disk.timed c.in-Ok.locket.disk q told)
     c.in-Ok.ensures.ok (refl, refl) c.in-Ok.ensures.loaded.stood
 
 pub returns-in-Err-clause-ends : goal.returns-in-Err-clause-ends
 returns-in-Err-clause-ends g c =
     let (whole, prints) = c.ended_unloaded.ensures.prints in
-    unopened RefusesLocket _ _ c.in-Err.ensures.err whole c.in-Err.fault c.ended_unloaded.result c.ended_unloaded.ensures.ending prints c.in-Err.ensures.cause c.in-Err.ensures.refused
+    unopened RefusesLocket _ _ c.in-Err.ensures.err whole c.in-Err.fault c.ended_unloaded.result
+    c.ended_unloaded.ensures.ending prints c.in-Err.ensures.cause c.in-Err.ensures.refused

@@ -9,7 +9,14 @@ pub put_u8-at-requires : goal.put_u8-at-requires
 put_u8-at-requires c = omega (arith, c.requires, length-field_u8 c.kind_of.result)
 
 pub put_u32-at-requires : goal.put_u32-at-requires
-put_u32-at-requires c = omega (arith, c.requires, length-field_u8 c.kind_of.result, length-field_u32 c.args.command.now.now.0, c.put_u8-at.ensures.place, c.put_u8-at.auto.out)
+put_u32-at-requires c = omega (
+  arith,
+  c.requires,
+  length-field_u8 c.kind_of.result,
+  length-field_u32 c.args.command.now.now.0,
+  c.put_u8-at.ensures.place,
+  c.put_u8-at.auto.out,
+)
 
 pub put_op-requires : goal.put_op-requires
 put_op-requires c =
@@ -27,6 +34,8 @@ put_op-requires c =
 pub returns : goal.returns
 unfolding lock_spelled
 returns c =
-    let kind = subst (λ (n : ℕ). PutsText c.args.out.now 0 (field_number w8 n) c.put_u8-at.new.out c.put_u8-at.result) c.kind_of.ensures c.put_u8-at.ensures in
-    let within : c.put_u8-at.result ≤ length c.put_u8-at.new.out = omega (arith, c.requires, c.put_u8-at.ensures.place, c.put_u8-at.auto.out, length-field_u8 c.kind_of.result) in
+    let kind = subst (λ (n : ℕ). PutsText c.args.out.now 0 (field_number w8 n) c.put_u8-at.new.out c.put_u8-at.result)
+    c.kind_of.ensures c.put_u8-at.ensures in
+    let within : c.put_u8-at.result ≤ length c.put_u8-at.new.out =
+    omega (arith, c.requires, c.put_u8-at.ensures.place, c.put_u8-at.auto.out, length-field_u8 c.kind_of.result) in
     Puts-then (omega arith) kind (Puts-then within c.put_u32-at.ensures c.put_op.ensures)

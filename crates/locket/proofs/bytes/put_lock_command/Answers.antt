@@ -7,7 +7,9 @@ pub returns-clause-bytes : goal.returns-clause-bytes
 returns-clause-bytes c = Puts-front c.put_command.ensures
 
 pub returns-clause-least : goal.returns-clause-least
-returns-clause-least c = let len = lock_length c.args.command.now c.fits.ensures in omega (arith, c.put_command.ensures.place, len.0)
+returns-clause-least c = let len = lock_length c.args.command.now c.fits.ensures in
+    omega (arith, c.put_command.ensures.place, len.0)
 
 pub returns-clause-most : goal.returns-clause-most
-returns-clause-most c = let len = lock_length c.args.command.now c.fits.ensures in omega (arith, c.put_command.ensures.place, len.1)
+returns-clause-most c = let len = lock_length c.args.command.now c.fits.ensures in
+    omega (arith, c.put_command.ensures.place, len.1)

@@ -2,4 +2,11 @@ use Rattle.locket.proofs.Outcomes.{one_life, not_refused, refused_once, locket_o
 use Rattle.locket.proofs.laws.an_image_is_a_locket_or_refused.Goals as goal
 
 pub returns : goal.returns
-returns c = record { either = locket_or_refused; apart = not_refused; one_life = one_life; one_defect = refused_once; lawful = lives_are }
+returns c = record {
+  either = locket_or_refused;
+  apart = not_refused;
+  one_life = one_life;
+  one_defect =
+      refused_once;
+  lawful = lives_are;
+}

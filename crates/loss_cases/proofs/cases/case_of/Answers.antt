@@ -10,6 +10,7 @@ returns c =
     let site = c.args.site.now in
     let loss = c.args.loss.now in
     c.in_ok-case.ensures
-    ∙ ap (λ (p : Plan). case_from loss p (length c.as_slice.result.now)) (c.in_ok-plan.ensures ∙ ap (planned site) c.items-lost.ensures)
+    ∙ ap (λ (p : Plan). case_from loss p (length c.as_slice.result.now))
+    (c.in_ok-plan.ensures ∙ ap (planned site) c.items-lost.ensures)
     ∙ ap (λ (names : List (List ℕ)). case_from loss (planned site loss.cells) (length names))
     (c.as_slice.ensures.value ∙ c.in_ok-dark.ensures ∙ ap (dark_of_many site) c.items-lost.ensures)

@@ -8,8 +8,10 @@ use Rattle.loss_cases.proofs.fillings.each_filled.Goals as goal
 pub returns : goal.returns
 returns c =
     let pairs =
-    YieldsList-from_zip (YieldsList-at c.zip.ensures.first (YieldsList-from_slice c.args.before.now c.iter.ensures.rest))
+    YieldsList-from_zip (YieldsList-at c.zip.ensures.first
+    (YieldsList-from_slice c.args.before.now c.iter.ensures.rest))
     (YieldsList-at c.zip.ensures.second (YieldsList-from_slice c.args.after.now c.iter-2.ensures.rest)) in
     IfOk-at_ok _ c.in_ok-filled.was
     (items_from_collect _ c.collect.ensures.ran
-    (YieldsList-from_map _ (λ p. filled_of p.0 p.1) (YieldsList-at c.map.ensures.source pairs) c.map.ensures.closure (λ x r q k. search rules)))
+    (YieldsList-from_map _ (λ p. filled_of p.0 p.1) (YieldsList-at c.map.ensures.source pairs) c.map.ensures.closure
+    (λ x r q k. search rules)))

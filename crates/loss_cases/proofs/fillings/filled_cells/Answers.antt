@@ -15,6 +15,8 @@ pub returns : goal.returns
 returns c =
     let taking : List Filled → List Filled = filter (λ f. nat_lt 0 f.instances) in
     c.in_ok-filled.ensures
-    ∙ ap (λ (rs : List (Place × Filled)). map (λ (p : Place × Filled). p.1) (table place_order (λ (p : Place × Filled). p.0) rs))
-    (c.deref-2.ensures.value ∙ c.in_ok-some.ensures ∙ ap (λ (fs : List Filled). map (λ f. (place_of f, f)) (taking fs)) (c.deref.ensures.value ∙ c.in_ok-each.ensures))
+    ∙ ap (λ (rs : List (Place × Filled)). map (λ (p : Place × Filled). p.1)
+    (table place_order (λ (p : Place × Filled). p.0) rs))
+    (c.deref-2.ensures.value ∙ c.in_ok-some.ensures ∙ ap (λ (fs : List Filled). map (λ f. (place_of f, f)) (taking fs))
+    (c.deref.ensures.value ∙ c.in_ok-each.ensures))
     ∙ rows-of_table place_order place_of (taking (each_filled c.args.before.now c.args.after.now))

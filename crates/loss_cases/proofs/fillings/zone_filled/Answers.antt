@@ -6,5 +6,6 @@ use Rattle.loss_cases.proofs.fillings.zone_filled.Goals as goal
 
 pub taken_in-requires : goal.taken_in-requires
 taken_in-requires c =
-    let less = sum_some (λ (f : Filled). f.instances) (λ (f : Filled). same_name c.args.zone f.zone) c.args.filled.now in
+    let less = sum_some (λ (f : Filled). f.instances) (λ (f : Filled). same_name c.args.zone f.zone) c.args.filled.now
+    in
     omega (arith, less, c.requires)

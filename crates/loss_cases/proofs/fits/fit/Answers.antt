@@ -11,7 +11,8 @@ pub fitted_on-requires-clause-jobs : goal.fitted_on-requires-clause-jobs
 fitted_on-requires-clause-jobs c =
     let job : ℕ → Job = job_more c.args.process c.args.proxy c.args.demand in
     subst (λ (n : ℕ). n < 2 ^ 32)
-    (sym (ap length (c.deref-3.ensures.value ∙ c.in_ok-jobs.ensures) ∙ jobs_counted job c.next_index-first.result c.args.instances))
+    (sym (ap length (c.deref-3.ensures.value ∙ c.in_ok-jobs.ensures) ∙ jobs_counted job c.next_index-first.result
+    c.args.instances))
     c.ranges.instances.fits
 
 pub returns : goal.returns
@@ -21,7 +22,8 @@ returns c =
     let cells = c.deref.ensures.value ∙ c.in_ok-cells.ensures.value in
     let before = c.stands.ensures ∙ c.in_ok-before.ensures ∙ ap stands_of cells in
     let first = c.next_index-first.ensures.value ∙ ap (next_index c.args.process) c.items.ensures in
-    let jobs = c.deref-3.ensures.value ∙ c.in_ok-jobs.ensures ∙ ap (λ (n : ℕ). jobs_more job n c.args.instances) first in
+    let jobs = c.deref-3.ensures.value ∙ c.in_ok-jobs.ensures ∙ ap
+    (λ (n : ℕ). jobs_more job n c.args.instances) first in
     c.in_ok-fitted.ensures
     ∙ ap (λ (ss : List Stand). fitted_on ss c.job_more-size.result c.deref-3.result.now) before
     ∙ ap (λ (j : Job). fitted_on (stands_before site []) j c.deref-3.result.now) c.job_more-size.ensures

@@ -12,6 +12,7 @@ loop-at-preserved c =
     let behind : take (length cells - (at + 1)) (drop (at + 1) cells) ≡ drop (at + 1) cells =
     take_all (length cells - (at + 1)) (drop (at + 1) cells) (omega (arith, length-drop (at + 1) cells)) in
     ap (λ (losses : List Loss). losses ++ pairs_in (drop (at + 1) cells)) c.in_ok-append.ensures.items
-    ∙ pairs_next cells at c.index-cells-at.result c.loop-at.losses.items c.in_ok-more.more.items c.loop-at-test.true c.index-cells-at.is
+    ∙ pairs_next cells at c.index-cells-at.result c.loop-at.losses.items c.in_ok-more.more.items c.loop-at-test.true
+    c.index-cells-at.is
     (c.in_ok-more.ensures ∙ ap (pairs_with c.index-cells-at.result) behind)
     ∙ c.loop-at.invariant

@@ -23,7 +23,8 @@ returns-clause-tried c =
     let old = c.args.trial.now in
     let tell = told_at field.before.now field.jobs.now in
     let found = best stands job in
-    let is = ap not c.is_placed-left.ensures ∙ not_placed c.in_ok-placement.placement ∙ ap is_left c.in_ok-placement.ensures.placement in
+    let is = ap not c.is_placed-left.ensures ∙ not_placed c.in_ok-placement.placement ∙ ap is_left
+    c.in_ok-placement.ensures.placement in
     record {
       placements =
           c.in_ok-note_left.ensures.placements ∙ c.in_ok-push.ensures.ok
@@ -35,6 +36,7 @@ returns-clause-tried c =
       first =
           c.in_ok-note_left.ensures.first
           ∙ ap (λ (b : Bool). cond b (option_or old.first (Some (tell c.stands.result.now job))) old.first) is
-          ∙ ap (λ (ss : List Stand). cond (is_left (placement_on job found)) (option_or old.first (Some (tell ss job))) old.first) (c.stands.ensures ∙ c.in_ok-placement.ensures.ok)
+          ∙ ap (λ (ss : List Stand). cond (is_left (placement_on job found))
+          (option_or old.first (Some (tell ss job))) old.first) (c.stands.ensures ∙ c.in_ok-placement.ensures.ok)
           ∙ first_at_turn tell old.first found stands job;
     }

@@ -20,5 +20,6 @@ returns c =
     c.in_ok-try_each.ensures
     ∙ ap (λ (xs : List Case). xs ++ map (case_of site) c.as_slice-3.result.now)
     (c.in_ok-able.ensures.cases ∙ ap (λ (cs : List TaggedCell). cases ++ map (alone_case site) cs) named)
-    ∙ ap (λ (ls : List Loss). (cases ++ map (alone_case site) (by_name (tagged_cells site))) ++ map (case_of site) ls) paired
+    ∙ ap (λ (ls : List Loss). (cases ++ map (alone_case site) (by_name (tagged_cells site))) ++ map (case_of site) ls)
+    paired
     ∙ pairs_behind site cases

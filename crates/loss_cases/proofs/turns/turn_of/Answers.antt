@@ -16,7 +16,8 @@ loop-cell-preserved c =
     let after : c.push.new.self ≡ gone ++ cell.cell ∷ [] = c.in_ok-push.ensures.ok in
     let none : (c.in_ok-left.left.unplaced == 0) ≡ true = none_left c.in_ok-left.left.unplaced (omega arith) in
     let goes : can_go site (gone ++ cell.cell ∷ []) ≡ true =
-    ap (can_go site) (sym (c.items.ensures ∙ after)) ∙ ap (λ (l : Leaves). l.unplaced == 0) (sym c.in_ok-left.ensures) ∙ none in
+    ap (can_go site) (sym (c.items.ensures ∙ after)) ∙ ap (λ (l : Leaves). l.unplaced == 0)
+    (sym c.in_ok-left.ensures) ∙ none in
     ap (λ xs. turn_from site c.args.tag (length cells) xs (drop (i + 1) cells)) after
     ∙ turn_goes site c.args.tag (length cells) gone cells i cell c.loop-cell-test.true c.cell-item.is goes
     ∙ c.loop-cell.invariant
@@ -32,7 +33,8 @@ returns-then-left-gt0 c =
     let after : c.push.new.self ≡ gone ++ cell.cell ∷ [] = c.in_ok-push.ensures.ok in
     let some : (left.unplaced == 0) ≡ false = some_left left.unplaced (omega (arith, c.if-left-gt0.true)) in
     let stays : can_go site (gone ++ cell.cell ∷ []) ≡ false =
-    ap (can_go site) (sym (c.items.ensures ∙ after)) ∙ ap (λ (l : Leaves). l.unplaced == 0) (sym c.in_ok-left.ensures) ∙ some in
+    ap (can_go site) (sym (c.items.ensures ∙ after)) ∙ ap (λ (l : Leaves). l.unplaced == 0)
+    (sym c.in_ok-left.ensures) ∙ some in
     c.one_too_many.ensures
     ∙ ap (λ k. one_too_many c.args.tag n k c.push.new.self left) c.len-survived.ensures
     ∙ ap (λ xs. one_too_many c.args.tag n (length gone) xs left) after

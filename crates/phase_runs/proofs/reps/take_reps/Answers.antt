@@ -14,10 +14,18 @@ loop-index-preserved c =
     let next = next_is olds c.loop-index.actors i a a c.loop-index-test.true c.loop-index.invariant.bared in
     record {
       taken = c.take_next.ensures.items
-          ∙ ap (λ (rs : List CellRep). rs ++ option_to_list (rep_of (get_or c.loop-index.actors i a))) c.loop-index.invariant.taken
+          ∙ ap (λ (rs : List CellRep). rs ++ option_to_list (rep_of (get_or c.loop-index.actors i a)))
+          c.loop-index.invariant.taken
           ∙ ap (λ (x : ActorState). reps_of (take i olds) ++ option_to_list (rep_of x)) next
           ∙ sym (more_reps olds i a c.loop-index-test.true);
-      bared = more_bare olds c.loop-index.actors i a c.take_next.new.actor c.loop-index-test.true c.loop-index.invariant.bared
+      bared = more_bare olds c.loop-index.actors i a c.take_next.new.actor c.loop-index-test.true
+          c.loop-index.invariant.bared
           c.take_next.ensures.bare;
-      room = omega (arith, c.take_next.ensures.room.0, c.take_next.ensures.room.1, c.loop-index.invariant.room, c.loop-index-test.true);
+      room = omega (
+        arith,
+        c.take_next.ensures.room.0,
+        c.take_next.ensures.room.1,
+        c.loop-index.invariant.room,
+        c.loop-index-test.true,
+      );
     }

@@ -8,4 +8,5 @@ pub returns : goal.returns
 returns c =
     ap (λ (b : Actor). b.name) (sym c.index-actors-at.is)
     ∙ ap (λ (o : Option Actor). option_map_or (λ (b : Actor). b.name) o [])
-    (sym (slice_get_read c.args.actors.now (length c.args.actors.now) (c.args.number - 1) c.index-actors-at.result refl (omega arith) c.index-actors-at.is))
+    (sym (slice_get_read c.args.actors.now (length c.args.actors.now) (c.args.number - 1) c.index-actors-at.result refl
+    (omega arith) c.index-actors-at.is))

@@ -9,13 +9,17 @@ returns-clause-before c =
     let answers = c.args.answers.now in
     let n = c.args.number in
     let parted = IsPartitionedBy-ltb (λ (a : Answered). a.line) answers n c.requires in
-    let point = IsPartitionPoint-from_clause (λ (a : Answered). ltb a.line n) answers c.partition_point-split.result c.partition_point-split.ensures.partitioned parted (λ a r q k. search rules) in
-    c.split_at.ensures.front ∙ sym (kept_is_front (λ (a : Answered). ltb a.line n) answers c.partition_point-split.result point)
+    let point = IsPartitionPoint-from_clause (λ (a : Answered). ltb a.line n) answers c.partition_point-split.result
+    c.partition_point-split.ensures.partitioned parted (λ a r q k. search rules) in
+    c.split_at.ensures.front ∙ sym (kept_is_front (λ (a : Answered). ltb a.line n) answers
+    c.partition_point-split.result point)
 
 pub returns-clause-behind : goal.returns-clause-behind
 returns-clause-behind c =
     let answers = c.args.answers.now in
     let n = c.args.number in
     let parted = IsPartitionedBy-ltb (λ (a : Answered). a.line) answers n c.requires in
-    let point = IsPartitionPoint-from_clause (λ (a : Answered). ltb a.line n) answers c.partition_point-split.result c.partition_point-split.ensures.partitioned parted (λ a r q k. search rules) in
-    c.split_at.ensures.back ∙ sym (left_is_back (λ (a : Answered). ltb a.line n) answers c.partition_point-split.result point)
+    let point = IsPartitionPoint-from_clause (λ (a : Answered). ltb a.line n) answers c.partition_point-split.result
+    c.partition_point-split.ensures.partitioned parted (λ a r q k. search rules) in
+    c.split_at.ensures.back ∙ sym (left_is_back (λ (a : Answered). ltb a.line n) answers c.partition_point-split.result
+    point)

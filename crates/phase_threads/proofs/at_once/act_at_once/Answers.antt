@@ -8,7 +8,9 @@ pub returns-then-not-is_empty-clause-acts : goal.returns-then-not-is_empty-claus
 returns-then-not-is_empty-clause-acts g c k d lt =
     let items = c.args.all.items in let new = c.act_each.new.all in let lent = c.as_mut_slice.ensures.value in
     let whole = lent_whole c.args.all.len new items (c.act_each.auto.all ∙ ap length lent) c.args.all.ok.0 in
-    subst (λ xs. ActsOut (λ p. g.P.Port.view p.port) (λ p q. g.P.Port.keeps p.port q.port) c.args.now c.args.lines.now (get_or items k d) (get_or xs k d))
+    subst (λ xs. ActsOut (λ p. g.P.Port.view p.port) (λ p q. g.P.Port.keeps p.port q.port) c.args.now c.args.lines.now
+    (get_or items k d) (get_or xs k d))
     (sym whole)
-    (subst (λ xs. ActsOut (λ p. g.P.Port.view p.port) (λ p q. g.P.Port.keeps p.port q.port) c.args.now c.args.lines.now (get_or xs k d) (get_or new k d))
+    (subst (λ xs. ActsOut (λ p. g.P.Port.view p.port) (λ p q. g.P.Port.keeps p.port q.port) c.args.now c.args.lines.now
+    (get_or xs k d) (get_or new k d))
     lent (c.act_each.ensures.acts k d (subst (λ xs. k < length xs) (sym lent) lt)))

@@ -6,7 +6,8 @@ use Rattle.phase_threads.proofs.gathering.gather.Goals as goal
 
 pub loop-index-preserved : goal.loop-index-preserved
 loop-index-preserved g c =
-    let i = c.loop-index.index in let x = c.in-Some.acting in let all = c.args.all.items in let at = c.loop-index.invariant in
+    let i = c.loop-index.index in let x = c.in-Some.acting in let all = c.args.all.items in let at =
+    c.loop-index.invariant in
     let next = next_is all i x (into_iter_items c.next.new.self) (sym at.left ∙ c.in-Some.ensures.items) in
     let within : i < length c.loop-index.actors = omega (arith, c.loop-index-test.true, c.loop-index.auto.actors) in
     record {
@@ -24,6 +25,18 @@ loop-index-preserved g c =
           ∙ ap (λ l. l ++ x.part.items ∷ []) at.parts
           ∙ append_assoc c.args.parts.now.items (map (λ y. y.part.items) (take i all)) (x.part.items ∷ [])
           ∙ ap (λ l. c.args.parts.now.items ++ l) (sym (images_more all (λ y. y.part.items) i x next.0));
-      more_passes = omega (arith, c.gather_one.ensures.more_passes.0, c.gather_one.ensures.more_passes.1, at.more_passes, c.loop-index-test.true);
-      more_parts = omega (arith, c.gather_one.ensures.more_parts.0, c.gather_one.ensures.more_parts.1, at.more_parts, c.loop-index-test.true);
+      more_passes = omega (
+        arith,
+        c.gather_one.ensures.more_passes.0,
+        c.gather_one.ensures.more_passes.1,
+        at.more_passes,
+        c.loop-index-test.true,
+      );
+      more_parts = omega (
+        arith,
+        c.gather_one.ensures.more_parts.0,
+        c.gather_one.ensures.more_parts.1,
+        at.more_parts,
+        c.loop-index-test.true,
+      );
     }

@@ -16,10 +16,13 @@ use Rattle.phase_threads.specs.Holding.{IsEndOfRound, ReportsRound}
 use Rattle.phase_threads.proofs.Pairs.{lent_whole}
 use Rattle.phase_threads.proofs.holding.hold_round.Goals as goal
 
-reported : {E : Type 0} (now : Moment) (line : RoundLine) (reps reps' : List CellRep) (v w : PortView) (end : Result Report CallFault)
-    (told : Result (Option Report) E) → IsEndOfRound end told → IfErr end (IsCausedBy 0 v w) → IfOk end (RoundOf now line reps reps' v w)
+reported : {E : Type 0} (now : Moment) (line : RoundLine) (reps reps' : List CellRep) (v w : PortView)
+    (end : Result Report CallFault)
+    (told : Result (Option Report) E) → IsEndOfRound end told → IfErr end (IsCausedBy 0 v w)
+    → IfOk end (RoundOf now line reps reps' v w)
     → IfOk told (ReportsRound now line reps reps' v w)
-reported now line reps reps' v w (Ok r) told is cause account = subst (λ t. IfOk t (ReportsRound now line reps reps' v w)) (sym is) account
+reported now line reps reps' v w (Ok r) told is cause account =
+    subst (λ t. IfOk t (ReportsRound now line reps reps' v w)) (sym is) account
 reported now line reps reps' v w (Err (fault.Disk place)) told is cause account =
     subst (λ t. IfOk t (ReportsRound now line reps reps' v w)) (sym is) (place, cause.disk place refl)
 reported now line reps reps' v w (Err fault.OutOfMemory) (Ok report) is cause account = cc (is)
@@ -33,9 +36,13 @@ returns g c =
     record {
       keeps = c.round_over-end.ensures.keeps.0;
       items = subst (λ (l : List CellRep). HasItems 0 c.args.now l v w) lent c.round_over-end.ensures.items;
-      same = subst (KeepReps reps) (sym whole) (subst (λ (l : List CellRep). KeepReps l new) lent c.round_over-end.ensures.cells);
-      reported = subst (λ (l : List CellRep). IfOk c.report_of-end.result (ReportsRound c.args.now c.args.line.now reps l v w)) (sym whole)
-          (reported c.args.now c.args.line.now reps new v w c.round_over-end.result c.report_of-end.result c.report_of-end.ensures
+      same = subst (KeepReps reps) (sym whole) (subst (λ (l : List CellRep). KeepReps l new) lent
+          c.round_over-end.ensures.cells);
+      reported = subst (λ (l : List CellRep). IfOk c.report_of-end.result
+          (ReportsRound c.args.now c.args.line.now reps l v w)) (sym whole)
+          (reported c.args.now c.args.line.now reps new v w c.round_over-end.result c.report_of-end.result
+          c.report_of-end.ensures
           c.round_over-end.ensures.cause
-          (subst (λ (l : List CellRep). IfOk c.round_over-end.result (RoundOf c.args.now c.args.line.now l new v w)) lent c.round_over-end.ensures.account));
+          (subst (λ (l : List CellRep). IfOk c.round_over-end.result (RoundOf c.args.now c.args.line.now l new v w))
+          lent c.round_over-end.ensures.account));
     }

@@ -13,7 +13,8 @@ use Rattle.phase_threads.proofs.Away.{all_can_bare}
 use Rattle.phase_threads.proofs.Closing.{cut_with_round, nothing_done, whole_with_round}
 use Rattle.phase_threads.proofs.phases.run_shared_with_round.Goals as goal
 
-both_ok : {T E : Type 0} (r : Result T E) (P Q S : T → Type 0) → ((x : T) → P x → Q x → S x) → IfOk r P → IfOk r Q → IfOk r S
+both_ok : {T E : Type 0} (r : Result T E) (P Q S : T → Type 0) → ((x : T) → P x → Q x → S x) → IfOk r P → IfOk r Q
+    → IfOk r S
 both_ok (Ok x) P Q S f p q = f x p q
 both_ok (Err e) P Q S f p q = tt
 
@@ -29,26 +30,33 @@ returns-in-Err-clause-cut g c = nothing_done g.D.Disk.told c.args.phase.now c.ar
 
 pub returns-in-Err-start-clause-cut : goal.returns-in-Err-start-clause-cut
 returns-in-Err-start-clause-cut g c =
-    subst (λ w. PhaseCut g.D.Disk.told c.args.phase.now c.args.actors.now c.args.board w) (sym c.in-Err-start.ensures.err)
+    subst (λ w. PhaseCut g.D.Disk.told c.args.phase.now c.args.actors.now c.args.board w)
+    (sym c.in-Err-start.ensures.err)
     (nothing_done g.D.Disk.told c.args.phase.now c.args.actors.now c.args.board)
 
 pub run_with_round-passes-requires-clause-can : goal.run_with_round-passes-requires-clause-can
 run_with_round-passes-requires-clause-can g c κs within =
     subst (λ (lines : List Line). CanAllDo lines c.take_reps.new.actors) (sym c.items.ensures)
-    (subst (CanAllDo c.args.phase.now.lines) (sym c.in-Ok.ensures.taken.1) (all_can_bare c.args.phase.now.lines c.args.actors.now c.requires.can))
+    (subst (CanAllDo c.args.phase.now.lines) (sym c.in-Ok.ensures.taken.1)
+    (all_can_bare c.args.phase.now.lines c.args.actors.now c.requires.can))
 
 pub returns-clause-ran : goal.returns-clause-ran
 returns-clause-ran g c =
-    let shared = c.in-Ok-start.begun.0 in let start = shared.desk.table.shared.key.value.start in let z = shared.desk.table.shared.table_id in
-    let olds = c.args.actors.now in let bared = c.take_reps.new.actors in let taken = c.in-Ok.ensures.taken in let phase = c.args.phase.now in
-    let done = c.run_with_round-passes in let passes = done.result.passes.items in let news = done.new.actors in let reps = done.result.cells.items in
+    let shared = c.in-Ok-start.begun.0 in let start = shared.desk.table.shared.key.value.start in let z =
+    shared.desk.table.shared.table_id in
+    let olds = c.args.actors.now in let bared = c.take_reps.new.actors in let taken = c.in-Ok.ensures.taken in
+    let phase = c.args.phase.now in
+    let done = c.run_with_round-passes in let passes = done.result.passes.items in let news = done.new.actors in
+    let reps = done.result.cells.items in
     let finals = c.put_reps-2.new.actors in let line = c.args.line.now in
     let back = subst (λ n. AreBack z n passes) (as_long olds bared taken.1) done.ensures.back in
     both_ok done.result.end (λ ran. HaveRun start phase.at c.items.result.now bared news ran.parts passes)
     (λ ran. WasHeld start phase.at line c.in-Ok.cells.items reps ran.report passes)
     (λ ran. PhaseRan g.D.Disk.told phase olds finals ran.parts ran.report c.args.board c.close.result)
-    (λ ran run held. subst (λ v. PhaseRan g.D.Disk.told phase olds finals ran.parts ran.report v c.close.result) c.in-Ok-start.ensures.board
-    (whole_with_round g.D.Disk.told start c.close.result z (length olds) passes back c.close.ensures phase olds refl line c.requires.round
+    (λ ran run held. subst (λ v. PhaseRan g.D.Disk.told phase olds finals ran.parts ran.report v c.close.result)
+    c.in-Ok-start.ensures.board
+    (whole_with_round g.D.Disk.told start c.close.result z
+    (length olds) passes back c.close.ensures phase olds refl line c.requires.round
     c.requires.clients c.requires.can news finals ran.parts ran.report reps
     (subst (λ (lines : List Line). HaveRun start phase.at lines (map bare olds) news ran.parts passes) c.items.ensures
     (subst (λ (l : List ActorState). HaveRun start phase.at c.items.result.now l news ran.parts passes) taken.1 run))
@@ -58,14 +66,17 @@ returns-clause-ran g c =
 
 pub returns-clause-cut : goal.returns-clause-cut
 returns-clause-cut g c =
-    let shared = c.in-Ok-start.begun.0 in let start = shared.desk.table.shared.key.value.start in let z = shared.desk.table.shared.table_id in
-    let olds = c.args.actors.now in let bared = c.take_reps.new.actors in let taken = c.in-Ok.ensures.taken in let phase = c.args.phase.now in
+    let shared = c.in-Ok-start.begun.0 in let start = shared.desk.table.shared.key.value.start in let z =
+    shared.desk.table.shared.table_id in
+    let olds = c.args.actors.now in let bared = c.take_reps.new.actors in let taken = c.in-Ok.ensures.taken in
+    let phase = c.args.phase.now in
     let done = c.run_with_round-passes in let passes = done.result.passes.items in let line = c.args.line.now in
     let back = subst (λ n. AreBack z n passes) (as_long olds bared taken.1) done.ensures.back in
     then_err done.result.end (WereCut start phase.at c.items.result.now bared passes)
     (PhaseCut g.D.Disk.told phase olds c.args.board c.close.result)
     (λ cut. subst (λ v. PhaseCut g.D.Disk.told phase olds v c.close.result) c.in-Ok-start.ensures.board
-    (cut_with_round g.D.Disk.told start c.close.result z (length olds) passes back c.close.ensures phase olds refl line c.requires.round
+    (cut_with_round g.D.Disk.told start c.close.result z (length olds) passes back c.close.ensures phase olds refl line
+    c.requires.round
     c.requires.clients c.requires.can
     (subst (λ (lines : List Line). WereCut start phase.at lines (map bare olds) passes) c.items.ensures
     (subst (λ (l : List ActorState). WereCut start phase.at c.items.result.now l passes) taken.1 cut))

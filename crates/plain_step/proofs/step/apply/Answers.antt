@@ -13,7 +13,8 @@ returns-clause-valid c =
     let command = c.args.command.now in
     let is : Change c.in-Change.first c.in-Change.second ≡ attempt_of rows command =
     c.in-Change.ensures ∙ ap (λ (f : Found). attempt_at f command.now command.op) c.found.ensures in
-    either_end IsValid c.change.result c.change.new.rows (changed_by rows (Change c.in-Change.first c.in-Change.second)) rows
+    either_end IsValid c.change.result c.change.new.rows (changed_by rows (Change c.in-Change.first c.in-Change.second))
+    rows
     c.change.ensures.ok c.change.ensures.err
     (subst IsValid (sym (ap (changed_by rows) is)) (IsValid-rows_after rows command c.requires.valid c.requires.legal))
     c.requires.valid

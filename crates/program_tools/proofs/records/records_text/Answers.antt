@@ -11,7 +11,8 @@ joined d a t r s =
 pub returns : goal.returns
 returns c =
     let rows = c.args.rows.now in
-    let desired = put c.in_ok-add_table.ensures c.new-text.ensures.items (ap (table_lines row.Desired) c.items.ensures) in
+    let desired = put c.in_ok-add_table.ensures c.new-text.ensures.items
+    (ap (table_lines row.Desired) c.items.ensures) in
     let actual = put c.in_ok-add_table-2.ensures desired (ap (table_lines row.Actual) c.items-2.ensures) in
     let tasks = put c.in_ok-add_table-3.ensures actual (ap (table_lines row.Task) c.items-3.ensures) in
     let cells = put c.in_ok-add_table-4.ensures tasks (ap (table_lines row.Cell) c.items-4.ensures) in

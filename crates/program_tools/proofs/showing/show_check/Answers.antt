@@ -11,8 +11,10 @@ returns g c =
     let rows_are : rows_of board ≡ board.base = ap (replay_log board.base) c.in-Ok.ensures.fresh.log in
     let shown = c.show.ensures in
     rw c.close-disk.ensures.fields.0
-    (check_end board.base _ _ c.in-Ok.ensures.opens _ _ c.check_of.result c.check_text-text.result shown.0 c.show.result shown.1
-    (λ t is. ok_has _ is c.check_text-text.ensures) (c.check_of.ensures.place c.in-Ok.ensures.fresh.calm) (c.check_of.ensures.next ∙ ap (λ (r : Rows). r.next) rows_are) shown.2)
+    (check_end board.base _ _ c.in-Ok.ensures.opens _ _ c.check_of.result c.check_text-text.result shown.0 c.show.result
+    shown.1
+    (λ t is. ok_has _ is c.check_text-text.ensures) (c.check_of.ensures.place c.in-Ok.ensures.fresh.calm)
+    (c.check_of.ensures.next ∙ ap (λ (r : Rows). r.next) rows_are) shown.2)
 
 pub returns-in-Err : goal.returns-in-Err
 returns-in-Err g c = unopened_check _ _ c.in-Err.ended.0 c.in-Err.ensures.ends

@@ -4,5 +4,6 @@ use Rattle.record_print.proofs.round.put_failed_round.Goals as goal
 pub returns : goal.returns
 returns c =
     closed _ c.end.result
-    (more (more (more (opened c.in_ok-begin.ensures) c.in_ok-put_text.ensures) c.in_ok-put_number.ensures) c.in_ok-put_text-2.ensures)
+    (more (more (more (opened c.in_ok-begin.ensures) c.in_ok-put_text.ensures) c.in_ok-put_number.ensures)
+    c.in_ok-put_text-2.ensures)
     c.end.ensures

@@ -15,8 +15,10 @@ loop-job-preserved c =
       | then-is_for w ↦ record {
         so_far =
             ap amounts_of w.asked-is ∙ w.plus-asked.ensures.value
-            ∙ ap (λ (a : Amounts). plus a (record { memory = job.memory; disk = job.disk; containers = 1 })) c.loop-job.invariant.so_far
-            ∙ sym (asked_more tag jobs i job c.loop-job-test.true c.job-item.is (sym c.is_for.ensures ∙ w.if-is_for.true));
+            ∙ ap (λ (a : Amounts). plus a (record { memory = job.memory; disk = job.disk; containers = 1 }))
+            c.loop-job.invariant.so_far
+            ∙ sym (asked_more tag jobs i job c.loop-job-test.true c.job-item.is
+            (sym c.is_for.ensures ∙ w.if-is_for.true));
         small =
             subst (AreUpTo (4294967295 * (i + 1))) (sym w.asked-is)
             (up_to_more i w.plus-asked.result (w.plus-asked.ensures.most (4294967295 * i) c.loop-job.invariant.small));
@@ -24,7 +26,9 @@ loop-job-preserved c =
       | else-is_for w ↦ record {
         so_far =
             ap amounts_of w.asked-is ∙ c.loop-job.invariant.so_far
-            ∙ sym (asked_same tag jobs i job c.loop-job-test.true c.job-item.is (sym c.is_for.ensures ∙ w.if-is_for.false));
-        small = subst (AreUpTo (4294967295 * (i + 1))) (sym w.asked-is) (up_to_next i c.loop-job.asked c.loop-job.invariant.small);
+            ∙ sym (asked_same tag jobs i job c.loop-job-test.true c.job-item.is
+            (sym c.is_for.ensures ∙ w.if-is_for.false));
+        small = subst (AreUpTo (4294967295 * (i + 1))) (sym w.asked-is)
+            (up_to_next i c.loop-job.asked c.loop-job.invariant.small);
       }
     ]

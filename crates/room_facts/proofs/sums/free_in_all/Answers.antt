@@ -16,7 +16,8 @@ loop-stand-preserved c =
         so_far =
             ap amounts_of w.free-is ∙ w.plus-free.ensures.value
             ∙ ap (λ (a : Amounts). plus a stand.free) c.loop-stand.invariant.so_far
-            ∙ sym (free_more tag stands i stand c.loop-stand-test.true c.stand-item.is (sym c.has_tag.ensures ∙ w.if-has_tag.true));
+            ∙ sym (free_more tag stands i stand c.loop-stand-test.true c.stand-item.is
+            (sym c.has_tag.ensures ∙ w.if-has_tag.true));
         small =
             subst (AreUpTo (4294967295 * (i + 1))) (sym w.free-is)
             (up_to_more i w.plus-free.result (w.plus-free.ensures.most (4294967295 * i) c.loop-stand.invariant.small));
@@ -24,7 +25,9 @@ loop-stand-preserved c =
       | else-has_tag w ↦ record {
         so_far =
             ap amounts_of w.free-is ∙ c.loop-stand.invariant.so_far
-            ∙ sym (free_same tag stands i stand c.loop-stand-test.true c.stand-item.is (sym c.has_tag.ensures ∙ w.if-has_tag.false));
-        small = subst (AreUpTo (4294967295 * (i + 1))) (sym w.free-is) (up_to_next i c.loop-stand.free c.loop-stand.invariant.small);
+            ∙ sym (free_same tag stands i stand c.loop-stand-test.true c.stand-item.is
+            (sym c.has_tag.ensures ∙ w.if-has_tag.false));
+        small = subst (AreUpTo (4294967295 * (i + 1))) (sym w.free-is)
+            (up_to_next i c.loop-stand.free c.loop-stand.invariant.small);
       }
     ]

@@ -14,11 +14,13 @@ returns-in-Ok-clause-passed c later order =
     let told = c.extend.ensures.items ∙ ap (λ (front : List RouteEntry). next ++ front) c.split_at.ensures.front in
     (λ i. told i ++ toggle_each later (c.split_at-in-Ok.ensures.back i))
     ∙ append_assoc next (take at rest) (toggle_each later (drop (at + 1) rest))
-    ∙ ap (λ (xs : List RouteEntry). next ++ xs) (passed_found c.args.entry.now rest at c.requires.rising later c.in-Ok.ensures.bound c.in-Ok.ensures.ok order)
+    ∙ ap (λ (xs : List RouteEntry). next ++ xs) (passed_found c.args.entry.now rest at c.requires.rising later
+    c.in-Ok.ensures.bound c.in-Ok.ensures.ok order)
 
 pub returns-in-Ok-clause-rising : goal.returns-in-Ok-clause-rising
 returns-in-Ok-clause-rising c =
-    subst (λ (xs : List RouteEntry). IsRising route_order itself xs) (sym c.split_at-in-Ok.ensures.back) (IsRising-drop (c.in-Ok.at + 1) c.args.rest.now c.requires.rising)
+    subst (λ (xs : List RouteEntry). IsRising route_order itself xs) (sym c.split_at-in-Ok.ensures.back)
+    (IsRising-drop (c.in-Ok.at + 1) c.args.rest.now c.requires.rising)
 
 pub returns-in-Err-clause-passed : goal.returns-in-Err-clause-passed
 returns-in-Err-clause-passed c later order =
@@ -28,12 +30,15 @@ returns-in-Err-clause-passed c later order =
     let e = c.args.entry.now in
     let told =
     c.push_reserved.ensures.items
-    ∙ ap (λ (xs : List RouteEntry). xs ++ e ∷ []) (c.extend-in-Err.ensures.items ∙ ap (λ (front : List RouteEntry). next ++ front) c.split_at-in-Err.ensures.front)
+    ∙ ap (λ (xs : List RouteEntry). xs ++ e ∷ []) (c.extend-in-Err.ensures.items ∙ ap
+    (λ (front : List RouteEntry). next ++ front) c.split_at-in-Err.ensures.front)
     ∙ append_assoc next (take at rest) (e ∷ []) in
     (λ i. told i ++ toggle_each later (c.split_at-in-Err.ensures.back i))
     ∙ append_assoc next (take at rest ++ e ∷ []) (toggle_each later (drop at rest))
-    ∙ ap (λ (xs : List RouteEntry). next ++ xs) (passed_placed e rest at c.requires.rising later c.in-Err.ensures.bound c.in-Err.ensures.position order)
+    ∙ ap (λ (xs : List RouteEntry). next ++ xs) (passed_placed e rest at c.requires.rising later c.in-Err.ensures.bound
+    c.in-Err.ensures.position order)
 
 pub returns-in-Err-clause-rising : goal.returns-in-Err-clause-rising
 returns-in-Err-clause-rising c =
-    subst (λ (xs : List RouteEntry). IsRising route_order itself xs) (sym c.split_at-in-Err.ensures.back) (IsRising-drop c.in-Err.at c.args.rest.now c.requires.rising)
+    subst (λ (xs : List RouteEntry). IsRising route_order itself xs) (sym c.split_at-in-Err.ensures.back)
+    (IsRising-drop c.in-Err.at c.args.rest.now c.requires.rising)

@@ -14,7 +14,8 @@ returns-in-Ok-clause-items c =
     c.remove-gone.ensures.items
     ∙ toggle_found e c.args.entries.now.items at c.requires.rising
     (subst (λ (xs : List RouteEntry). at < length xs) c.deref.ensures.value c.in-Ok.ensures.bound)
-    (subst (λ (xs : List RouteEntry). HoldsAt (λ (y : RouteEntry). route_order y e ≡ Equal) xs at) c.deref.ensures.value c.in-Ok.ensures.ok)
+    (subst (λ (xs : List RouteEntry). HoldsAt (λ (y : RouteEntry). route_order y e ≡ Equal) xs at) c.deref.ensures.value
+    c.in-Ok.ensures.ok)
 
 pub returns-in-Err-clause-items : goal.returns-in-Err-clause-items
 returns-in-Err-clause-items c =
@@ -23,4 +24,5 @@ returns-in-Err-clause-items c =
     c.insert.ensures.items
     ∙ toggle_placed e c.args.entries.now.items at c.requires.rising
     (subst (λ (xs : List RouteEntry). at ≤ length xs) c.deref.ensures.value c.in-Err.ensures.bound)
-    (subst (λ (xs : List RouteEntry). IsBinarySearchResult (λ (y : RouteEntry). route_order y e) xs (Err at)) c.deref.ensures.value c.in-Err.ensures.position)
+    (subst (λ (xs : List RouteEntry). IsBinarySearchResult (λ (y : RouteEntry). route_order y e) xs (Err at))
+    c.deref.ensures.value c.in-Err.ensures.position)

@@ -15,9 +15,12 @@ loop-entry-preserved c =
     let old = c.loop-entry.entries.items in
     let left = drop (i + 1) changes in
     let next : drop i changes ≡ e ∷ left =
-    at_drop_more (λ (xs : List RouteEntry). xs) changes i e c.loop-entry-test.true ∙ ap (λ (x : RouteEntry). x ∷ left) (sym c.entry-item.is) in
+    at_drop_more (λ (xs : List RouteEntry). xs) changes i e c.loop-entry-test.true ∙ ap (λ (x : RouteEntry). x ∷ left)
+    (sym c.entry-item.is) in
     record {
-      rest = ap (toggle_each left) c.toggle.ensures.items ∙ ap (λ (xs : List RouteEntry). toggle_each xs old) (sym next) ∙ c.loop-entry.invariant.rest;
-      rising = subst (λ (xs : List RouteEntry). IsRising route_order itself xs) (sym c.toggle.ensures.items) (IsRising-toggle e old c.loop-entry.invariant.rising);
+      rest = ap (toggle_each left) c.toggle.ensures.items ∙ ap (λ (xs : List RouteEntry). toggle_each xs old)
+          (sym next) ∙ c.loop-entry.invariant.rest;
+      rising = subst (λ (xs : List RouteEntry). IsRising route_order itself xs) (sym c.toggle.ensures.items)
+          (IsRising-toggle e old c.loop-entry.invariant.rising);
       room = omega arith;
     }

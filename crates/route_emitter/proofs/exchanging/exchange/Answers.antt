@@ -18,9 +18,11 @@ returns-in-Ok-clause-items c =
     let taken =
     toggle_found gone xs at c.requires
     (subst (λ (ys : List RouteEntry). at < length ys) c.deref.ensures.value c.in-Ok.ensures.bound)
-    (subst (λ (ys : List RouteEntry). HoldsAt (λ (y : RouteEntry). route_order y gone ≡ Equal) ys at) c.deref.ensures.value c.in-Ok.ensures.ok) in
+    (subst (λ (ys : List RouteEntry). HoldsAt (λ (y : RouteEntry). route_order y gone ≡ Equal) ys at)
+    c.deref.ensures.value c.in-Ok.ensures.ok) in
     c.write_at.ensures.items
-    ∙ elim c.write_at.result as (λ b. (b ≡ true → has (remove xs at) new ≡ false) → cond b (put_row route_order itself new (remove xs at)) xs ≡ cond b (toggle new (toggle gone xs)) xs) [
+    ∙ elim c.write_at.result as (λ b. (b ≡ true → has (remove xs at) new ≡ false)
+    → cond b (put_row route_order itself new (remove xs at)) xs ≡ cond b (toggle new (toggle gone xs)) xs) [
       | true ↦ λ apart. sym (toggle-lacking new (remove xs at) (apart refl)) ∙ ap (toggle new) taken
       | false ↦ λ apart. refl
     ] c.write_at.ensures.apart

@@ -22,7 +22,8 @@ loop-at-preserved c =
       so_far =
           c.exchange.ensures.items ∙ ap (λ b. cond b (toggle come (toggle gone was)) was) c.if-not-exchange.false
           ∙ ap (λ (xs : List RouteEntry). toggle come (toggle gone xs)) c.loop-at.invariant.so_far
-          ∙ sym (exchanged-more c.args.old.now c.args.new.now c.args.entries.now.items at gone come (omega arith) (omega arith) c.index-old-at.is c.index-new-at.is);
+          ∙ sym (exchanged-more c.args.old.now c.args.new.now c.args.entries.now.items at gone come (omega arith)
+          (omega arith) c.index-old-at.is c.index-new-at.is);
       len = c.exchange.ensures.len ∙ c.loop-at.invariant.len;
       capacity = c.exchange.ensures.capacity ∙ c.loop-at.invariant.capacity;
     }

@@ -11,6 +11,8 @@ pub returns : goal.returns
 returns c h =
     let e = c.args.entry.now in
     let x = c.index-entries-at.result in
-    let less : route_order e x ≡ Less = sym c.cmp.ensures ∙ less_from_test c.cmp.result (subst T (sym (sym c.is_lt.ensures ∙ h)) tt) in
-    above-through route_order IsKeyOrder-route_order e c.args.entries.now (c.args.at + 1) x c.requires.rising (omega arith)
+    let less : route_order e x ≡ Less = sym c.cmp.ensures ∙ less_from_test c.cmp.result
+    (subst T (sym (sym c.is_lt.ensures ∙ h)) tt) in
+    above-through route_order IsKeyOrder-route_order e c.args.entries.now (c.args.at + 1) x c.requires.rising
+    (omega arith)
     (subst (λ (y : RouteEntry). route_order e y ≡ Less) c.index-entries-at.is less)

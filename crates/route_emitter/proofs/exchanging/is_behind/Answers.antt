@@ -16,6 +16,8 @@ returns-in-Some c h =
     let before = c.in-Some.before in
     let x = c.index-entries-before.result in
     let next : before + 1 ≡ c.args.at = omega arith in
-    let less : route_order x e ≡ Less = sym c.cmp.ensures ∙ less_from_test c.cmp.result (subst T (sym (sym c.is_lt.ensures ∙ h)) tt) in
+    let less : route_order x e ≡ Less = sym c.cmp.ensures ∙ less_from_test c.cmp.result
+    (subst T (sym (sym c.is_lt.ensures ∙ h)) tt) in
     subst (λ n. All (λ (y : RouteEntry). route_order y e ≡ Less) (take n entries)) next
-    (below-through route_order IsKeyOrder-route_order e entries before x c.requires.rising (omega arith) (subst (λ (y : RouteEntry). route_order y e ≡ Less) c.index-entries-before.is less))
+    (below-through route_order IsKeyOrder-route_order e entries before x c.requires.rising (omega arith)
+    (subst (λ (y : RouteEntry). route_order y e ≡ Less) c.index-entries-before.is less))

@@ -14,8 +14,14 @@ returns-clause-items c =
     let at = c.args.at in
     let e = c.args.entry.now in
     let next : at + 1 ≡ suc at = omega arith in
-    let between : IsBetween e entries at = subst (λ (xs : List RouteEntry). IsBetween e xs at) c.deref.ensures.value (c.fits.ensures c.if-not-fits.false) in
-    let within : at < length entries = omega (arith, c.requires.within, c.deref.ensures.len, ap length c.deref.ensures.value) in
+    let between : IsBetween e entries at = subst (λ (xs : List RouteEntry). IsBetween e xs at) c.deref.ensures.value
+    (c.fits.ensures c.if-not-fits.false) in
+    let within : at < length entries = omega (
+      arith,
+      c.requires.within,
+      c.deref.ensures.len,
+      ap length c.deref.ensures.value,
+    ) in
     written route_order IsKeyOrder-route_order e entries at within between.above
     (subst (λ n. All (λ (y : RouteEntry). route_order e y ≡ Less) (drop n entries)) next between.below)
 
@@ -25,6 +31,7 @@ returns-clause-apart c is =
     let at = c.args.at in
     let e = c.args.entry.now in
     let next : at + 1 ≡ suc at = omega arith in
-    let between : IsBetween e entries at = subst (λ (xs : List RouteEntry). IsBetween e xs at) c.deref.ensures.value (c.fits.ensures c.if-not-fits.false) in
+    let between : IsBetween e entries at = subst (λ (xs : List RouteEntry). IsBetween e xs at) c.deref.ensures.value
+    (c.fits.ensures c.if-not-fits.false) in
     absent route_order IsKeyOrder-route_order e entries at between.above
     (subst (λ n. All (λ (y : RouteEntry). route_order e y ≡ Less) (drop n entries)) next between.below)

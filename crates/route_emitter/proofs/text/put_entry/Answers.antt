@@ -5,5 +5,10 @@ use Rattle.route_emitter.proofs.text.put_entry.Goals as goal
 pub returns : goal.returns
 returns c =
     closed _ c.end.result
-    (more_text c.as_str-3.ensures (more_text c.as_str-2.ensures (more (more_text (c.deref.ensures ∙ c.in_ok-instance_text.ensures) (more (more_text c.change_word.ensures (more_text c.as_str.ensures (opened c.in_ok-begin.ensures) c.in_ok-put_text.ensures) c.in_ok-put_text-2.ensures) c.in_ok-put_number.ensures) c.in_ok-put_text-3.ensures) c.in_ok-put_number-2.ensures) c.in_ok-put_text-4.ensures) c.in_ok-put_text-5.ensures)
+    (more_text c.as_str-3.ensures (more_text c.as_str-2.ensures
+    (more (more_text (c.deref.ensures ∙ c.in_ok-instance_text.ensures)
+    (more (more_text c.change_word.ensures (more_text c.as_str.ensures
+    (opened c.in_ok-begin.ensures) c.in_ok-put_text.ensures) c.in_ok-put_text-2.ensures) c.in_ok-put_number.ensures)
+    c.in_ok-put_text-3.ensures) c.in_ok-put_number-2.ensures) c.in_ok-put_text-4.ensures)
+    c.in_ok-put_text-5.ensures)
     c.end.ensures

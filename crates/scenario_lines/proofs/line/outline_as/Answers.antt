@@ -10,7 +10,8 @@ use Rattle.scenario_lines.proofs.line.outline_as.Goals as goal
 pub returns-in-Some : goal.returns-in-Some
 returns-in-Some c =
     let same = ap object_of c.new.ensures ∙ object_is (view c.args.value.now) _ c.in-Some.ensures in
-    subst (λ d. GivesContent (content_with c.outline_among.new.act) c.outline_among.result (content_as d)) same c.outline_among.ensures
+    subst (λ d. GivesContent (content_with c.outline_among.new.act) c.outline_among.result (content_as d)) same
+    c.outline_among.ensures
 
 pub returns-in-None : goal.returns-in-None
 returns-in-None c = no_object (view c.args.value.now) c.in-None.ensures

@@ -15,8 +15,10 @@ loop-name-preserved-then-is_none c =
     let so_far = subst (λ es. KeptSoFar c.loop-name.said es all) step c.loop-name.invariant in
     let named : member_named (string_bytes c.in-Some.name.now) ≡ Some c.in-Some-named.member = search rules in
     let at = slice_get-get_or c.loop-name.said (place c.in-Some-named.member) c.index-said-place.result (omega arith) in
-    subst (λ n. KeptSoFar (slice_set c.loop-name.said n (Some c.in-Some.value)) c.next.new.self all) (sym c.place-place.ensures.is)
-    (empty_step c.loop-name.said entry c.next.new.self all c.in-Some-named.member _ c.in-Some.value refl named at (search rules) so_far)
+    subst (λ n. KeptSoFar (slice_set c.loop-name.said n (Some c.in-Some.value)) c.next.new.self all)
+    (sym c.place-place.ensures.is)
+    (empty_step c.loop-name.said entry c.next.new.self all c.in-Some-named.member _ c.in-Some.value refl named at
+    (search rules) so_far)
 
 pub loop-name-preserved-else-is_none : goal.loop-name-preserved-else-is_none
 loop-name-preserved-else-is_none c =

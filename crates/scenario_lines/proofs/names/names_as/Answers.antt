@@ -10,6 +10,7 @@ pub returns-in-Some : goal.returns-in-Some
 unfolding names_as
 returns-in-Some c =
     let values = c.in-Some.items.now.items in
-    let listed = ap (λ vs. names_said (map view vs)) c.as_slice.ensures.value ∙ ap names_said (sym (items_in-items_of (map view values))) in
+    let listed = ap (λ vs. names_said (map view vs)) c.as_slice.ensures.value ∙ ap names_said
+    (sym (items_in-items_of (map view values))) in
     let found = ap (λ ds. or_shape ds >>= λ es. names_said (items_in es)) c.in-Some.ensures in
     subst (GivesContent (λ names. names) c.names_of.result) (listed ∙ found) c.names_of.ensures

@@ -14,8 +14,10 @@ pub returns-else-is_among : goal.returns-else-is_among
 returns-else-is_among c =
     let named : member_named c.args.name.now ≡ Some c.in-Some.member = search rules in
     let is = c.is_among.ensures ∙ ap (list_any (λ one. place one == place c.in-Some.member)) c.needs.ensures in
-    let also = c.is_among-else-is_among.ensures ∙ ap (list_any (λ one. place one == place c.in-Some.member)) c.allows.ensures in
-    is_known-allowed c.args.form c.args.name.now c.in-Some.member c.is_among.result c.is_among-else-is_among.result named is c.if-is_among.false also
+    let also = c.is_among-else-is_among.ensures ∙ ap (list_any (λ one. place one == place c.in-Some.member))
+    c.allows.ensures in
+    is_known-allowed c.args.form c.args.name.now c.in-Some.member c.is_among.result c.is_among-else-is_among.result
+    named is c.if-is_among.false also
 
 pub returns-in-None : goal.returns-in-None
 returns-in-None c =

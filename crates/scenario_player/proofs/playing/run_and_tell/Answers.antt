@@ -14,21 +14,25 @@ run_phase-board-requires-clause-can g c κs within =
     can_all c.args.script.now c.requires.script c.args.actors.now c.requires.same c.args.phase.now c.requires.among
 
 pub run_phase-board-requires-clause-few : goal.run_phase-board-requires-clause-few
-run_phase-board-requires-clause-few g c κs within = few_actors c.args.script.now c.requires.script c.args.actors.now c.requires.same
+run_phase-board-requires-clause-few g c κs within = few_actors c.args.script.now c.requires.script c.args.actors.now
+    c.requires.same
 
 pub tell-made-requires-clause-answers : goal.tell-made-requires-clause-answers
 tell-made-requires-clause-answers g c =
     let news = c.run_phase-board.new.actors in
     let left = c.run_phase-board.result.0 in
     let parts = c.in-Ok.ran.parts in
-    let ran : PhaseRan g.D.Disk.told c.args.phase.now c.args.actors.now news parts c.in-Ok.ran.report c.args.board left = search rules in
+    let ran : PhaseRan g.D.Disk.told c.args.phase.now c.args.actors.now news parts c.in-Ok.ran.report c.args.board
+    left = search rules in
     in_order c.args.script.now.actors c.args.phase.now.lines (joined_parts parts) c.items.result.now
-    (answers_of g.D.Disk.told c.args.script.now c.requires.script c.args.phase.now c.requires.among c.args.actors.now news
+    (answers_of g.D.Disk.told c.args.script.now c.requires.script c.args.phase.now c.requires.among c.args.actors.now
+    news
     c.requires.same parts c.in-Ok.ran.report c.args.board left ran)
     (subst (λ xs. IsPermutation (joined_parts parts) xs) (sym c.items.ensures) c.in-Ok-answers_by_line.ensures.same)
 
 pub tell-made-requires-clause-by_line : goal.tell-made-requires-clause-by_line
-tell-made-requires-clause-by_line g c = subst (λ xs. AreByLine xs) (sym c.items.ensures) c.in-Ok-answers_by_line.ensures.rising
+tell-made-requires-clause-by_line g c = subst (λ xs. AreByLine xs)
+    (sym c.items.ensures) c.in-Ok-answers_by_line.ensures.rising
 
 pub returns-in-Ok-add-clause-told : goal.returns-in-Ok-add-clause-told
 returns-in-Ok-add-clause-told g c =
@@ -42,7 +46,10 @@ returns-in-Ok-add-clause-told g c =
     let from = c.place-from.result in
     let ran : PhaseRan g.D.Disk.told phase c.args.actors.now news parts report c.args.board left = search rules in
     let added : c.add.new.self ≡ kept_with c.args.kept.now answers report = search rules in
-    is_told g.D.Disk.told g.T.Teller.wording script phase c.args.actors.now news parts report c.args.board left c.args.kept.now c.add.new.self
-    answers c.in-Ok-made.text.items c.requires.calm ran c.in-Ok-answers_by_line.ensures.value added from c.place-from.ensures
+    is_told g.D.Disk.told g.T.Teller.wording script phase c.args.actors.now news parts report c.args.board left
+    c.args.kept.now c.add.new.self
+    answers c.in-Ok-made.text.items c.requires.calm ran c.in-Ok-answers_by_line.ensures.value added from
+    c.place-from.ensures
     (c.in-Ok-made.ensures.text
-    ∙ ap (λ (xs : List Answered). g.T.Teller.wording script phase xs report left.base (take from left.log) left.log) c.items.ensures)
+    ∙ ap (λ (xs : List Answered). g.T.Teller.wording script phase xs report left.base (take from left.log) left.log)
+    c.items.ensures)

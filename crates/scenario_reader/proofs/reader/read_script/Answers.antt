@@ -14,5 +14,10 @@ returns-in-Err c = record { exact = gives_fault c.in-Err.fault c.args.bytes.now 
 
 pub returns-in_ok-script-in-Ok : goal.returns-in_ok-script-in-Ok
 returns-in_ok-script-in-Ok c =
-    let exact = script_of-read c.args.bytes.now ∙ ap (λ (r : Result Reading ScriptFault). r >>= λ reading. Ok (script_in reading)) c.in-Ok.ensures ∙ ap Ok (sym c.in_ok-script-in-Ok.ensures) in
-    record { exact = exact; facts = subst (λ (r : Result Script ScriptFault). IfOk r IsScript) exact (script_of-sound c.args.bytes.now) }
+    let exact = script_of-read c.args.bytes.now ∙ ap (λ (r : Result Reading ScriptFault). r >>= λ reading.
+    Ok (script_in reading)) c.in-Ok.ensures ∙ ap Ok (sym c.in_ok-script-in-Ok.ensures) in
+    record {
+      exact = exact;
+      facts = subst (λ (r : Result Script ScriptFault). IfOk r IsScript) exact
+          (script_of-sound c.args.bytes.now);
+    }

@@ -8,5 +8,6 @@ loop-more-preserved c =
     let i = c.loop-more.more-index in
     record {
       so_far = grind (arith, common_steps);
-      small = up_to_more i c.with_more-sums.result (c.with_more-sums.ensures.most (4294967295 * i) c.loop-more.invariant.small);
+      small = up_to_more i c.with_more-sums.result (c.with_more-sums.ensures.most
+          (4294967295 * i) c.loop-more.invariant.small);
     }

@@ -6,4 +6,5 @@ use Rattle.site_answers.proofs.cell_counts.count_all.Goals as goal
 pub count_on-requires : goal.count_on-requires
 count_on-requires c =
     subst IsSoundAnswer (sym c.answer-item.is)
-    (All-get_or IsSoundAnswer c.args.cells.now c.loop-answer.answer-index c.answer-item.result c.loop-answer-test.true c.requires.each)
+    (All-get_or IsSoundAnswer c.args.cells.now c.loop-answer.answer-index c.answer-item.result c.loop-answer-test.true
+    c.requires.each)

@@ -10,5 +10,6 @@ pub returns : goal.returns
 returns c =
     let g = c.args.group.now in
     c.count_all.ensures
-    ∙ ap (λ (cs : List Answer). sum_by (λ (a : Answer). cond (is_in g a.zone a.tag) (length (stays_on a)) 0) cs) c.items.ensures
+    ∙ ap (λ (cs : List Answer). sum_by (λ (a : Answer). cond (is_in g a.zone a.tag) (length (stays_on a)) 0) cs)
+    c.items.ensures
     ∙ instances_in_group c.args.site.now g

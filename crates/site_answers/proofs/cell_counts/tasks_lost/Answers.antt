@@ -10,5 +10,6 @@ pub returns : goal.returns
 returns c =
     let lost = c.args.lost.now in
     c.count_all.ensures
-    ∙ ap (λ (cs : List Answer). sum_by (λ (a : Answer). cond (is_lost lost a.cell) (length (tasks_on a)) 0) cs) c.items.ensures
+    ∙ ap (λ (cs : List Answer). sum_by (λ (a : Answer). cond (is_lost lost a.cell) (length (tasks_on a)) 0) cs)
+    c.items.ensures
     ∙ all_tasks_lost c.args.site.now lost

@@ -12,4 +12,5 @@ returns c =
     let told = is_dark_by c.in_ok-shares.shares in
     c.in_ok-dark.ensures
     ∙ ap (filter told) (c.deref.ensures.value ∙ c.in_ok-names.ensures)
-    ∙ filter-same told (is_dark scene.site.now scene.lost.now) (dark-by_shares c.in_ok-shares.ensures) (map process_of (processes scene.site.now))
+    ∙ filter-same told (is_dark scene.site.now scene.lost.now) (dark-by_shares c.in_ok-shares.ensures)
+    (map process_of (processes scene.site.now))

@@ -12,4 +12,5 @@ returns c =
     c.in_ok-many.ensures
     ∙ filter-same (λ (n : List ℕ). nat_le 2 (unwrap_or (get same_name counts n) 0)) (is_of_many c.args.site.now.wanted)
     (λ n. ap (nat_le 2)
-    (c.in_ok-wanted.ensures n ∙ ap (times n) (c.deref.ensures.value ∙ c.in_ok-processes.ensures ∙ ap (map process_of) c.items.ensures))) c.args.names.now
+    (c.in_ok-wanted.ensures n ∙ ap (times n) (c.deref.ensures.value ∙ c.in_ok-processes.ensures ∙ ap
+    (map process_of) c.items.ensures))) c.args.names.now

@@ -9,8 +9,10 @@ returns c =
     record {
       displaced = λ process.
           c.in_ok-times_displaced.ensures process
-          ∙ ap (times process) (c.deref.ensures.value ∙ c.in_ok-displaced.ensures ∙ displaced-by_scene scene c.requires);
+          ∙ ap (times process) (c.deref.ensures.value ∙ c.in_ok-displaced.ensures ∙ displaced-by_scene scene
+          c.requires);
       held = λ process.
           c.in_ok-times_held.ensures process
-          ∙ ap (times process) (c.deref-2.ensures.value ∙ c.in_ok-held.ensures ∙ held-by_holders scene.site.now scene.lost.now scene.after.now c.requires.after);
+          ∙ ap (times process) (c.deref-2.ensures.value ∙ c.in_ok-held.ensures ∙ held-by_holders scene.site.now
+          scene.lost.now scene.after.now c.requires.after);
     }

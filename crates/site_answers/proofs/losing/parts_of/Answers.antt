@@ -17,7 +17,8 @@ use Rattle.site_answers.proofs.losing.parts_of.Goals as goal
 
 pub zones_then-requires-clause-few : goal.zones_then-requires-clause-few
 zones_then-requires-clause-few c =
-    few_then c.args.scene.now.site.now c.args.scene.now.lost.now c.stands-stands.result.now c.requires.site (c.stands-stands.ensures ∙ ap (λ (p : Plan). p.stands) c.requires.plan)
+    few_then c.args.scene.now.site.now c.args.scene.now.lost.now c.stands-stands.result.now c.requires.site
+    (c.stands-stands.ensures ∙ ap (λ (p : Plan). p.stands) c.requires.plan)
 
 pub returns : goal.returns
 returns c =
@@ -27,18 +28,24 @@ returns c =
     let before = scene.before.now in
     let counting : c.in_ok-counting.counting.items ≡ displaced_left site lost =
     c.in_ok-counting.ensures
-    ∙ ap (filter (λ (j : Job). is_some (found_before before j.job))) (c.items-left.ensures ∙ ap (λ (p : Plan). p.left) c.requires.plan)
-    ∙ filter-same (λ (j : Job). is_some (found_before before j.job)) (λ j. is_displaced site j.job) (λ j. displaced-by_holders site before c.requires.scene.before j.job) (left_of site lost) in
+    ∙ ap (filter (λ (j : Job). is_some (found_before before j.job)))
+    (c.items-left.ensures ∙ ap (λ (p : Plan). p.left) c.requires.plan)
+    ∙ filter-same (λ (j : Job). is_some (found_before before j.job)) (λ j. is_displaced site j.job)
+    (λ j. displaced-by_holders site before c.requires.scene.before j.job) (left_of site lost) in
     record {
       counting = counting;
       tasks = c.tasks_lost-tasks.ensures;
       dark = c.in_ok-dark.ensures;
-      dark_of_many = c.in_ok-dark_of_many.ensures ∙ ap (filter (is_of_many site.wanted)) (c.deref-2.ensures.value ∙ c.in_ok-dark.ensures);
+      dark_of_many = c.in_ok-dark_of_many.ensures ∙ ap (filter (is_of_many site.wanted))
+          (c.deref-2.ensures.value ∙ c.in_ok-dark.ensures);
       uneven = c.in_ok-uneven.ensures;
       tags = c.in_ok-tags.ensures ∙ ap (tag_rooms site lost) (c.deref.ensures.value ∙ counting);
-      zones = c.in_ok-zones.ensures ∙ ap (zones_then site) (c.stands-stands.ensures ∙ ap (λ (p : Plan). p.stands) c.requires.plan);
+      zones = c.in_ok-zones.ensures ∙ ap (zones_then site)
+          (c.stands-stands.ensures ∙ ap (λ (p : Plan). p.stands) c.requires.plan);
       moves =
           c.in_ok-moves.ensures
-          ∙ ap (filter_map (move_by before)) (c.items-placements.ensures ∙ ap (λ (p : Plan). p.placements) c.requires.plan)
-          ∙ filter_map-same (move_by before) (move_of site) (move-by_holders site before c.requires.scene.before) (plan site lost);
+          ∙ ap (filter_map (move_by before)) (c.items-placements.ensures ∙ ap
+          (λ (p : Plan). p.placements) c.requires.plan)
+          ∙ filter_map-same (move_by before) (move_of site) (move-by_holders site before c.requires.scene.before)
+          (plan site lost);
     }

@@ -12,4 +12,5 @@ returns c =
     let lost = c.args.scene.now.lost.now in
     c.in_ok-uneven.ensures.value
     ∙ ap (λ (ss : List Stay). uneven_in site (open_cells site lost) ss)
-    (c.deref.ensures.value ∙ c.in_ok-stays.ensures ∙ ap (λ (ss : List Stand). stays_after site lost ss) (c.stands-stands.ensures ∙ ap (λ (p : Plan). p.stands) c.requires))
+    (c.deref.ensures.value ∙ c.in_ok-stays.ensures ∙ ap (λ (ss : List Stand). stays_after site lost ss)
+    (c.stands-stands.ensures ∙ ap (λ (p : Plan). p.stands) c.requires))

@@ -12,5 +12,12 @@ loop-state-preserved c =
     let next = noted_next p states i s c.loop-state-test.true c.state-item.is in
     record {
       so_far = (λ j. c.loop-state.invariant.so_far j + c.noted_on-count.ensures j) ∙ next;
-      few = omega (arith, c.loop-state.invariant.so_far, c.noted_on-count.ensures, next, few_noted p states (i + 1), c.requires);
+      few = omega (
+        arith,
+        c.loop-state.invariant.so_far,
+        c.noted_on-count.ensures,
+        next,
+        few_noted p states (i + 1),
+        c.requires,
+      );
     }

@@ -14,7 +14,8 @@ use Rattle.site_answers.proofs.notes.strays_in.Goals as goal
 
 pub noted_in-strays-requires : goal.noted_in-strays-requires
 noted_in-strays-requires c =
-    subst (λ (ss : List CellState). sum_by (λ (s : CellState). length s.instances) ss ≤ 250000) (sym c.items-states.ensures) c.requires.limits.told
+    subst (λ (ss : List CellState). sum_by (λ (s : CellState). length s.instances) ss ≤ 250000)
+    (sym c.items-states.ensures) c.requires.limits.told
 
 pub returns : goal.returns
 returns c =
@@ -24,5 +25,6 @@ returns c =
     c.noted_in-strays.ensures.value
     ∙ ap (λ (ss : List CellState). count_by told (flat_map (λ (s : CellState). s.instances) ss)) c.items-states.ensures
     ∙ count-same told (is_stray wanted)
-    (stray-by wanted set (λ key. c.in_ok-set.ensures key ∙ ap (list_any (λ (k : Key). same_key k key)) (c.deref.ensures.value ∙ c.in_ok-keys.ensures)))
+    (stray-by wanted set (λ key. c.in_ok-set.ensures key ∙ ap (list_any (λ (k : Key). same_key k key))
+    (c.deref.ensures.value ∙ c.in_ok-keys.ensures)))
     (instances_of c.args.dump.now)

@@ -10,11 +10,13 @@ use Rattle.site_answers.proofs.showing.parts_of.Goals as goal
 
 pub verdict_of-verdict-requires-clause-stands : goal.verdict_of-verdict-requires-clause-stands
 verdict_of-verdict-requires-clause-stands c =
-    few_before c.args.scene.now.site.now c.args.scene.now.lost.now c.items-before.result.now c.requires.site (c.items-before.ensures ∙ ap (λ (p : Plan). p.before) c.requires.plan)
+    few_before c.args.scene.now.site.now c.args.scene.now.lost.now c.items-before.result.now c.requires.site
+    (c.items-before.ensures ∙ ap (λ (p : Plan). p.before) c.requires.plan)
 
 pub verdict_of-verdict-requires-clause-jobs : goal.verdict_of-verdict-requires-clause-jobs
 verdict_of-verdict-requires-clause-jobs c =
-    few_waiting c.args.scene.now.site.now c.args.scene.now.lost.now c.items-jobs.result.now c.requires.site (c.items-jobs.ensures ∙ ap (λ (p : Plan). p.jobs) c.requires.plan)
+    few_waiting c.args.scene.now.site.now c.args.scene.now.lost.now c.items-jobs.result.now c.requires.site
+    (c.items-jobs.ensures ∙ ap (λ (p : Plan). p.jobs) c.requires.plan)
 
 pub returns : goal.returns
 returns c =
@@ -33,6 +35,7 @@ returns c =
       one_zone = c.in_ok-together.ensures.in_zone;
       verdict =
           c.verdict_of-verdict.ensures
-          ∙ (λ i. verdict_of ((c.items-before.ensures ∙ ap (λ (p : Plan). p.before) plan) i) ((c.items-jobs.ensures ∙ ap (λ (p : Plan). p.jobs) plan) i) (left i))
+          ∙ (λ i. verdict_of ((c.items-before.ensures ∙ ap (λ (p : Plan). p.before) plan) i)
+          ((c.items-jobs.ensures ∙ ap (λ (p : Plan). p.jobs) plan) i) (left i))
           ∙ verdict_of-bare (stands_before site []) (jobs_of_loss site []) (left_of site []);
     }

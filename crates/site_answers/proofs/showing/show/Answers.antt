@@ -8,4 +8,5 @@ plan_in-requires-clause-scene c = record { before = c.in_ok-holders.ensures; aft
 pub returns : goal.returns
 returns c =
     c.shown_from-shown.ensures
-    ∙ whole_show c.args.site.now c.requires c.in_ok-plan.plan c.in_ok-plan.ensures c.in_ok-parts.parts c.in_ok-parts.ensures
+    ∙ whole_show c.args.site.now c.requires c.in_ok-plan.plan c.in_ok-plan.ensures c.in_ok-parts.parts
+    c.in_ok-parts.ensures

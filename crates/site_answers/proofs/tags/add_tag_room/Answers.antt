@@ -34,5 +34,6 @@ returns c =
       free = ap as_sums c.free_in_all-free.ensures i;
       unplaced = ap (λ (a : Amounts). a.containers) c.asked_in_all-unplaced.ensures i;
       unplaced_memory = ap (λ (a : Amounts). a.memory) c.asked_in_all-unplaced.ensures i;
-      verdict = (c.verdict_of-verdict.ensures ∙ ap (verdict_of w.before.now w.jobs.now) (c.deref.ensures.value ∙ c.in_ok-counting.ensures)) i;
+      verdict = (c.verdict_of-verdict.ensures ∙ ap (verdict_of w.before.now w.jobs.now)
+          (c.deref.ensures.value ∙ c.in_ok-counting.ensures)) i;
     })

@@ -10,4 +10,5 @@ loop-tag-preserved c =
     let tag = c.tag-item.result in
     c.in_ok-add_tag_room.ensures
     ∙ ap (λ (rooms : List TagRoom). rooms ++ room_of w tag ∷ []) c.loop-tag.invariant
-    ∙ sym (map_next (room_of w) c.deref-tag-items.result.now c.loop-tag.tag-index tag c.loop-tag-test.true c.tag-item.is)
+    ∙ sym (map_next (room_of w) c.deref-tag-items.result.now c.loop-tag.tag-index tag c.loop-tag-test.true
+    c.tag-item.is)

@@ -10,9 +10,12 @@ rooms_of-requires c =
     let site = c.args.scene.now.site.now in
     let lost = c.args.scene.now.lost.now in
     record {
-      before = few_before site lost c.items-before.result.now c.requires.site (c.items-before.ensures ∙ ap (λ (p : Plan). p.before) c.requires.plan);
-      jobs = few_waiting site lost c.items-jobs.result.now c.requires.site (c.items-jobs.ensures ∙ ap (λ (p : Plan). p.jobs) c.requires.plan);
-      left = few_left site lost c.items-left.result.now c.requires.site (c.items-left.ensures ∙ ap (λ (p : Plan). p.left) c.requires.plan);
+      before = few_before site lost c.items-before.result.now c.requires.site
+          (c.items-before.ensures ∙ ap (λ (p : Plan). p.before) c.requires.plan);
+      jobs = few_waiting site lost c.items-jobs.result.now c.requires.site
+          (c.items-jobs.ensures ∙ ap (λ (p : Plan). p.jobs) c.requires.plan);
+      left = few_left site lost c.items-left.result.now c.requires.site
+          (c.items-left.ensures ∙ ap (λ (p : Plan). p.left) c.requires.plan);
     }
 
 pub returns : goal.returns

@@ -8,4 +8,5 @@ pub keys_in_order-requires : goal.keys_in_order-requires
 keys_in_order-requires c = IsKeyOrder-tag_order.exact
 
 pub returns : goal.returns
-returns c = c.in_ok-once.ensures ∙ ap (table tag_order (λ (t : Option (List ℕ)). t)) (c.deref.ensures.value ∙ c.in_ok-tags.ensures)
+returns c = c.in_ok-once.ensures ∙ ap (table tag_order (λ (t : Option (List ℕ)). t))
+    (c.deref.ensures.value ∙ c.in_ok-tags.ensures)

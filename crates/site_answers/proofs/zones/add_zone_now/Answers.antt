@@ -7,7 +7,14 @@ use Rattle.site_answers.proofs.zones.add_zone_now.Goals as goal
 pub returns : goal.returns
 returns c =
     let g = c.args.group.now in
-    let totals : ZoneTotals → ZoneTotals = λ t. record { zone = g.zone; tag = g.tag; cells = t.cells; total = t.total; free = t.free } in
+    let totals : ZoneTotals → ZoneTotals = λ t. record {
+      zone = g.zone;
+      tag = g.tag;
+      cells = t.cells;
+      total =
+          t.total;
+      free = t.free;
+    } in
     c.in_ok-push.ensures.ok
     ∙ ap (λ (zone : ZoneNow). c.args.list.now ++ zone ∷ [])
     (λ i. record {

@@ -20,6 +20,7 @@ returns c =
     ∙ ap (λ (zone : ZoneThen). c.args.list.now ++ zone ∷ [])
     (λ i. record {
       of = c.in_ok-of.ensures i;
-      cells_left = (c.number_of-cells_left.ensures ∙ ap (λ (xs : List Amounts). length xs) (c.deref.ensures.value ∙ c.in_ok-free.ensures) ∙ length-map own (λ (s : Stand). s.free)) i;
+      cells_left = (c.number_of-cells_left.ensures ∙ ap (λ (xs : List Amounts). length xs)
+          (c.deref.ensures.value ∙ c.in_ok-free.ensures) ∙ length-map own (λ (s : Stand). s.free)) i;
       free_left = (c.sums_of-free_left.ensures ∙ ap sums_of (c.deref-2.ensures.value ∙ c.in_ok-free.ensures)) i;
     })

@@ -9,4 +9,5 @@ pub keys_in_order-requires : goal.keys_in_order-requires
 keys_in_order-requires c = IsKeyOrder-group_order.exact
 
 pub returns : goal.returns
-returns c = c.in_ok-once.ensures ∙ ap (table group_order (λ (g : Group). g)) (c.deref.ensures.value ∙ c.in_ok-groups.ensures)
+returns c = c.in_ok-once.ensures ∙ ap (table group_order (λ (g : Group). g))
+    (c.deref.ensures.value ∙ c.in_ok-groups.ensures)

@@ -24,7 +24,8 @@ returns c =
     λ i. record {
       zone = g.zone;
       tag = g.tag;
-      cells = (c.number_of-cells.ensures ∙ ap (λ (xs : List Amounts). length xs) (c.deref.ensures.value ∙ c.in_ok-totals.ensures) ∙ length-map own (λ (a : Answer). a.totals)) i;
+      cells = (c.number_of-cells.ensures ∙ ap (λ (xs : List Amounts). length xs)
+          (c.deref.ensures.value ∙ c.in_ok-totals.ensures) ∙ length-map own (λ (a : Answer). a.totals)) i;
       total = (c.sums_of-total.ensures ∙ ap sums_of (c.deref-2.ensures.value ∙ c.in_ok-totals.ensures)) i;
       free = (c.sums_of-left.ensures ∙ ap sums_of (c.deref-3.ensures.value ∙ c.in_ok-free.ensures)) i;
     }

@@ -10,7 +10,8 @@ loop-key-preserved g c = λ q.
     let eq = g.K.PartialEq.eq in
     let key = c.key-item.result in
     ap (λ (o : Option ℕ). unwrap_or o 0) (c.in_ok-insert.ensures.updates.0 q)
-    ∙ counted_next eq c.requires q c.args.keys.now c.loop-key.key-index c.count_in-so_far.result key (get eq c.loop-key.counts) c.loop-key-test.true c.key-item.is c.loop-key.invariant c.count_in-so_far.ensures
+    ∙ counted_next eq c.requires q c.args.keys.now c.loop-key.key-index c.count_in-so_far.result key
+    (get eq c.loop-key.counts) c.loop-key-test.true c.key-item.is c.loop-key.invariant c.count_in-so_far.ensures
 
 pub returns : goal.returns
 returns g c = λ q.

@@ -6,4 +6,5 @@ use Rattle.site_spread.proofs.counts.counts_of.Given as goal
 
 abbrev pub invariant-loop-key : goal.invariant-loop-key
 invariant-loop-key g l =
-    (key : _) → unwrap_or (get g.K.PartialEq.eq l.counts key) 0 ≡ count_by (λ k. g.K.PartialEq.eq key k) (take l.key-index l.keys)
+    (key : _) → unwrap_or (get g.K.PartialEq.eq l.counts key) 0
+    ≡ count_by (λ k. g.K.PartialEq.eq key k) (take l.key-index l.keys)

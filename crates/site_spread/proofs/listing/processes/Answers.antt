@@ -12,5 +12,7 @@ table_of-requires c = IsKeyOrder-name_order.exact
 pub returns : goal.returns
 returns c =
     c.in_ok-made.ensures
-    ∙ ap (λ (rs : List (List ℕ × Wanted)). map (λ (p : List ℕ × Wanted). p.1) (table name_order (λ (p : List ℕ × Wanted). p.0) rs)) (c.deref.ensures.value ∙ c.in_ok-rows.ensures ∙ ap (map (λ (x : Wanted). (x.key.process, x))) c.items.ensures)
+    ∙ ap (λ (rs : List (List ℕ × Wanted)). map (λ (p : List ℕ × Wanted). p.1)
+    (table name_order (λ (p : List ℕ × Wanted). p.0) rs))
+    (c.deref.ensures.value ∙ c.in_ok-rows.ensures ∙ ap (map (λ (x : Wanted). (x.key.process, x))) c.items.ensures)
     ∙ rows-of_table name_order (λ (x : Wanted). x.key.process) c.args.site.now.wanted

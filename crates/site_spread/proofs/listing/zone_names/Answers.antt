@@ -8,4 +8,5 @@ pub keys_in_order-requires : goal.keys_in_order-requires
 keys_in_order-requires c = IsKeyOrder-name_order.exact
 
 pub returns : goal.returns
-returns c = c.in_ok-names.ensures ∙ ap (table name_order (λ (z : List ℕ). z)) (c.deref.ensures.value ∙ c.in_ok-zones.ensures)
+returns c = c.in_ok-names.ensures ∙ ap (table name_order (λ (z : List ℕ). z))
+    (c.deref.ensures.value ∙ c.in_ok-zones.ensures)

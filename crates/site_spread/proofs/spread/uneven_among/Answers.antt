@@ -13,4 +13,5 @@ loop-wanted-preserved c =
     c.in_ok-add_if_uneven.ensures
     ∙ ap (λ (u : Uneven). so_far ++ cond (is_uneven u) (u ∷ []) []) c.in_ok-next.ensures
     ∙ ap (λ (us : List Uneven). us ++ cond (is_uneven (told w)) (told w ∷ []) []) c.loop-wanted.invariant
-    ∙ sym (filter_map_next told is_uneven c.args.list.now c.loop-wanted.wanted-index w c.loop-wanted-test.true c.wanted-item.is)
+    ∙ sym (filter_map_next told is_uneven c.args.list.now c.loop-wanted.wanted-index w c.loop-wanted-test.true
+    c.wanted-item.is)

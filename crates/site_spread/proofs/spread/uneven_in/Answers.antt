@@ -16,7 +16,8 @@ returns-clause-value c =
     let cells = open_cells site c.args.lost.now in
     c.in_ok-uneven.ensures
     ∙ ap (λ (ws : List Wanted). filter is_uneven (map told ws)) (c.deref.ensures.value ∙ c.in_ok-list.ensures)
-    ∙ ap (filter is_uneven) (map-same told (uneven_at site cells c.args.stays.now) (uneven-by c.in_ok-zoning.ensures) (processes site))
+    ∙ ap (filter is_uneven) (map-same told (uneven_at site cells c.args.stays.now) (uneven-by c.in_ok-zoning.ensures)
+    (processes site))
 
 pub returns-clause-once : goal.returns-clause-once
 returns-clause-once c =
@@ -26,5 +27,6 @@ returns-clause-once c =
     subst (λ (us : List Uneven). Differ (map (λ (u : Uneven). u.process) us))
     (sym (c.in_ok-uneven.ensures
     ∙ ap (λ (ws : List Wanted). filter is_uneven (map told ws)) (c.deref.ensures.value ∙ c.in_ok-list.ensures)
-    ∙ ap (filter is_uneven) (map-same told (uneven_at site cells c.args.stays.now) (uneven-by c.in_ok-zoning.ensures) (processes site))))
+    ∙ ap (filter is_uneven) (map-same told (uneven_at site cells c.args.stays.now) (uneven-by c.in_ok-zoning.ensures)
+    (processes site))))
     (uneven_differ site cells c.args.stays.now)

@@ -12,6 +12,8 @@ loop-at-preserved c =
       within = omega arith;
       found = λ process.
           c.in_ok-insert.ensures.updates.0 process
-          ∙ ap (λ (o : Option Place). cond (same_name s.key.process process) (Some (place_of s)) o) (c.loop-at.invariant.found process)
-          ∙ place_back c.args.stays.now c.loop-at.at s (omega arith) c.loop-at.invariant.within c.index-stays-at.is process;
+          ∙ ap (λ (o : Option Place). cond (same_name s.key.process process) (Some (place_of s)) o)
+          (c.loop-at.invariant.found process)
+          ∙ place_back c.args.stays.now c.loop-at.at s (omega arith) c.loop-at.invariant.within c.index-stays-at.is
+          process;
     }

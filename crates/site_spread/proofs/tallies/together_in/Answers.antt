@@ -14,7 +14,8 @@ returns-clause-on_cell c =
     let told = on_cell_by c.in_ok-tallies.tallies in
     c.from.ensures ∙ c.in_ok-on_cell.ensures
     ∙ ap (filter_map told) (c.deref.ensures.value ∙ c.in_ok-list.ensures)
-    ∙ filter_map-same told (λ (w : Wanted). option_and_then (one_cell_at stays w.key.process) (find (is_of_process w.key.process) stays))
+    ∙ filter_map-same told (λ (w : Wanted). option_and_then (one_cell_at stays w.key.process)
+    (find (is_of_process w.key.process) stays))
     (on_cell-by c.in_ok-tallies.ensures) (processes c.args.site.now)
 
 pub returns-clause-in_zone : goal.returns-clause-in_zone
@@ -23,5 +24,6 @@ returns-clause-in_zone c =
     let told = in_zone_by c.in_ok-tallies.tallies in
     c.from-2.ensures ∙ c.in_ok-in_zone.ensures
     ∙ ap (filter_map told) (c.deref-2.ensures.value ∙ c.in_ok-list.ensures)
-    ∙ filter_map-same told (λ (w : Wanted). option_and_then (one_zone_at stays w.key.process) (find (is_of_process w.key.process) stays))
+    ∙ filter_map-same told (λ (w : Wanted). option_and_then (one_zone_at stays w.key.process)
+    (find (is_of_process w.key.process) stays))
     (in_zone-by c.in_ok-tallies.ensures) (processes c.args.site.now)

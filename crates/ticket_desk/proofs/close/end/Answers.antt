@@ -7,11 +7,14 @@ use Rattle.ticket_desk.proofs.close.end.Goals as goal
 
 pub unwrap-requires : goal.unwrap-requires
 unwrap-requires g c =
-    let left = left_behind g.V.History.items g.V.History.origin g.V.History.by _ _ _ c.requires.all _ _ c.close_with-closed.ensures.values.2 _ c.take-found.ensures.value in
+    let left = left_behind g.V.History.items g.V.History.origin g.V.History.by _ _ _ c.requires.all _ _
+    c.close_with-closed.ensures.values.2 _ c.take-found.ensures.value in
     ap is_some left.1
 
 pub returns : goal.returns
 returns g c =
-    let left = left_behind g.V.History.items g.V.History.origin g.V.History.by _ _ _ c.requires.all _ _ c.close_with-closed.ensures.values.2 _ c.take-found.ensures.value in
-    subst (λ x. IsLeft g.V.History.items g.V.History.origin g.V.History.by c.args.board.shared.key.value c.args.first.me.0 x)
+    let left = left_behind g.V.History.items g.V.History.origin g.V.History.by _ _ _ c.requires.all _ _
+    c.close_with-closed.ensures.values.2 _ c.take-found.ensures.value in
+    subst (λ x. IsLeft g.V.History.items g.V.History.origin g.V.History.by c.args.board.shared.key.value
+    c.args.first.me.0 x)
     (some_same left.0 c.unwrap.result (sym left.1 ∙ c.unwrap.ensures)) left.2

@@ -14,7 +14,8 @@ loop-number-init g c = let me = c.args.first.now.me in record {
 }
 
 pub give-pass-requires-clause-board : goal.give-pass-requires-clause-board
-give-pass-requires-clause-board g c = let asked = c.requires.board in (c.loop-number.invariant.board ∙ asked.0, asked.1, asked.2)
+give-pass-requires-clause-board g c = let asked = c.requires.board in
+    (c.loop-number.invariant.board ∙ asked.0, asked.1, asked.2)
 
 pub give-pass-requires-clause-number : goal.give-pass-requires-clause-number
 give-pass-requires-clause-number g c = let same = c.loop-number.invariant.first in let room = c.requires.room in (
@@ -31,7 +32,8 @@ loop-number-preserved g c =
       board = gave.first.0 ∙ kept.board;
       first = gave.first.1 ∙ ap (λ m. (next_given m.0, m.1)) kept.first ∙ (λ k. (record me.0 { given = next k }, me.1));
       dealt = subst (λ xs. AreGiven c.args.top.now.table_id me.0 (number + 1) xs) (sym c.push_reserved.ensures.items)
-          (one_given c.args.top.now.table_id me.0 number c.loop-number.passes.items c.give-pass.result c.loop-number.first.me.0 kept.dealt
+          (one_given c.args.top.now.table_id me.0 number c.loop-number.passes.items c.give-pass.result
+          c.loop-number.first.me.0 kept.dealt
           (ap (λ m. m.0) kept.first) (gave.given.0 ∙ kept.board ∙ c.requires.board.0) gave.given.1 gave.given.2);
       room = c.push_reserved.ensures.capacity ∙ kept.room;
     }

@@ -7,5 +7,6 @@ pub split_seat-place-requires : goal.split_seat-place-requires
 split_seat-place-requires g c = let asked = c.requires.board in let number = c.requires.number in (
   asked.0,
   omega arith,
-  splits_number g.V.History.items g.V.History.origin g.V.History.by _ _ _ number.0 (subst (λ (k : ℕ). k < 4096) (sym number.1) number.2),
+  splits_number g.V.History.items g.V.History.origin g.V.History.by _ _ _ number.0
+      (subst (λ (k : ℕ). k < 4096) (sym number.1) number.2),
 )

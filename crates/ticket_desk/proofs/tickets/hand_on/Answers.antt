@@ -7,5 +7,6 @@ pub store-requires : goal.store-requires
 store-requires g c = let asked = c.requires.board in (
   asked.0,
   omega arith,
-  hands_on g.V.History.items g.V.History.origin g.V.History.by _ _ _ c.args.number c.args.ticket _ _ c.requires.done refl,
+  hands_on g.V.History.items g.V.History.origin g.V.History.by _ _ _ c.args.number c.args.ticket _ _ c.requires.done
+      refl,
 )

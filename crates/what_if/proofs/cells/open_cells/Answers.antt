@@ -12,15 +12,18 @@ loop-answer-preserved c =
     let a = c.answer-item.result in
     c.in_ok-add_if_open.ensures
     ∙ ap (λ (xs : List Answer). xs ++ cond (is_open lost a) (a ∷ []) []) c.loop-answer.invariant
-    ∙ sym (filter_next (is_open lost) c.items-answer-items.result.now c.loop-answer.answer-index a c.loop-answer-test.true c.answer-item.is)
+    ∙ sym (filter_next (is_open lost) c.items-answer-items.result.now c.loop-answer.answer-index a
+    c.loop-answer-test.true c.answer-item.is)
 
 pub returns-clause-value : goal.returns-clause-value
 returns-clause-value c =
     c.loop-answer.invariant
-    ∙ ap (filter (is_open c.args.lost.now)) (take_all c.loop-answer.answer-index c.items-answer-items.result.now c.loop-answer-test.false ∙ c.items-answer-items.ensures)
+    ∙ ap (filter (is_open c.args.lost.now)) (take_all c.loop-answer.answer-index c.items-answer-items.result.now
+    c.loop-answer-test.false ∙ c.items-answer-items.ensures)
 
 pub returns-clause-sound : goal.returns-clause-sound
 returns-clause-sound c =
     let value = c.loop-answer.invariant
-    ∙ ap (filter (is_open c.args.lost.now)) (take_all c.loop-answer.answer-index c.items-answer-items.result.now c.loop-answer-test.false ∙ c.items-answer-items.ensures) in
+    ∙ ap (filter (is_open c.args.lost.now)) (take_all c.loop-answer.answer-index c.items-answer-items.result.now
+    c.loop-answer-test.false ∙ c.items-answer-items.ensures) in
     subst AreAnswers (sym value) (AreAnswers-open c.args.site.now c.args.lost.now c.requires.cells)

@@ -16,4 +16,5 @@ loop-name-preserved c = λ q.
 pub returns : goal.returns
 returns c = λ q.
     c.loop-name.invariant q
-    ∙ ap (λ (names : List (List ℕ)). is_lost names q) (take_all c.loop-name.name-index c.args.names.now c.loop-name-test.false)
+    ∙ ap (λ (names : List (List ℕ)). is_lost names q) (take_all c.loop-name.name-index c.args.names.now
+    c.loop-name-test.false)

@@ -5,4 +5,5 @@ use Rattle.what_if.proofs.containers.answers_of.Goals as goal
 
 pub answer_of-requires : goal.answer_of-requires
 answer_of-requires c =
-    subst IsCellState (sym c.state-item.is) (All-get_or IsCellState c.args.states.now c.loop-state.state-index c.state-item.result c.loop-state-test.true c.requires)
+    subst IsCellState (sym c.state-item.is) (All-get_or IsCellState c.args.states.now c.loop-state.state-index
+    c.state-item.result c.loop-state-test.true c.requires)

@@ -10,4 +10,5 @@ returns c =
     c.from.ensures
     ∙ cells-sorted c.args.states.now c.sort_unstable_by_key.new.self.items c.requires.differ
     (c.sort_unstable_by_key.ensures.sorted (λ (a : Answer). a.cell) (answers_always _ _ _ (λ f a r g h. search rules)))
-    (subst (λ xs. IsPermutation xs c.sort_unstable_by_key.new.self.items) c.in_ok-cells.ensures c.sort_unstable_by_key.ensures.permutation)
+    (subst (λ xs. IsPermutation xs c.sort_unstable_by_key.new.self.items) c.in_ok-cells.ensures
+    c.sort_unstable_by_key.ensures.permutation)

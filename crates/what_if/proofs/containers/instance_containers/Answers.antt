@@ -17,6 +17,7 @@ loop-instance-preserved c =
       so_far =
           ap (λ (ys : List Container). ys ++ numbered instance_container (n + 1) rest) c.in_ok-add_instance.ensures
           ∙ append_assoc list (instance_container n x ∷ []) (numbered instance_container (n + 1) rest)
-          ∙ ap (λ zs. list ++ numbered instance_container n zs) (sym (drop_next xs i x c.loop-instance-test.true c.instance-item.is))
+          ∙ ap (λ zs. list ++ numbered instance_container n zs)
+          (sym (drop_next xs i x c.loop-instance-test.true c.instance-item.is))
           ∙ c.loop-instance.invariant.so_far;
     }

@@ -17,6 +17,7 @@ loop-task-preserved c =
       so_far =
           ap (λ (ys : List Container). ys ++ numbered task_container (n + 1) rest) c.in_ok-add_task.ensures
           ∙ append_assoc list (task_container n x ∷ []) (numbered task_container (n + 1) rest)
-          ∙ ap (λ zs. list ++ numbered task_container n zs) (sym (drop_next xs i x c.loop-task-test.true c.task-item.is))
+          ∙ ap (λ zs. list ++ numbered task_container n zs) (sym
+          (drop_next xs i x c.loop-task-test.true c.task-item.is))
           ∙ c.loop-task.invariant.so_far;
     }

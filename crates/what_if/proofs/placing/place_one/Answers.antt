@@ -35,6 +35,7 @@ returns-clause-placed c =
       without_room =
           c.in_ok-note_left.ensures.without_room
           ∙ ap (λ (b : Bool). old.without_room ++ cond b (tell c.stands.result.now job ∷ []) []) is
-          ∙ ap (λ (ss : List Stand). old.without_room ++ cond (is_left (placement_on job found)) (tell ss job ∷ []) []) (c.stands.ensures ∙ c.in_ok-placement.ensures.ok)
+          ∙ ap (λ (ss : List Stand). old.without_room ++ cond (is_left (placement_on job found)) (tell ss job ∷ []) [])
+          (c.stands.ensures ∙ c.in_ok-placement.ensures.ok)
           ∙ ap (λ (us : List Unplaced). old.without_room ++ us) (told_at_turn tell found stands job);
     }

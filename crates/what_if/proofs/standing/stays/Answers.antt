@@ -10,4 +10,5 @@ loop-answer-preserved c =
     let a = c.answer-item.result in
     c.in_ok-add_stays.ensures
     ∙ ap (λ (xs : List Stay). xs ++ cond (is_open lost a) (stays_on a) []) c.loop-answer.invariant
-    ∙ sym (flat_map_next stays_on (is_open lost) c.items-answer-items.result.now c.loop-answer.answer-index a c.loop-answer-test.true c.answer-item.is)
+    ∙ sym (flat_map_next stays_on (is_open lost) c.items-answer-items.result.now c.loop-answer.answer-index a
+    c.loop-answer-test.true c.answer-item.is)

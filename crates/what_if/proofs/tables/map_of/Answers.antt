@@ -17,7 +17,8 @@ loop-left-preserved g c =
       so_far =
           c.in_ok-insert.ensures.entries
           ∙ put-from_insert R c.requires row.0 row.1 c.loop-left.made.entries
-          ∙ ap (put_row R (λ p. p.0) row) (c.loop-left.invariant.so_far ∙ ap (λ n. table R (λ p. p.0) (drop n rows)) (sym one))
+          ∙ ap (put_row R (λ p. p.0) row) (c.loop-left.invariant.so_far ∙ ap (λ n. table R (λ p. p.0) (drop n rows))
+          (sym one))
           ∙ ap (λ r. put_row R (λ p. p.0) r (table R (λ p. p.0) (drop (left - 1 + 1) rows))) c.index-rows-left.is
           ∙ ap (table R (λ p. p.0)) (sym (drop_more rows (left - 1) row low));
     }

@@ -13,5 +13,6 @@ table_of-requires c = IsKeyOrder-key_order.exact
 pub returns : goal.returns
 returns c =
     c.in_ok-made.ensures
-    ∙ ap (λ (rs : List (Key × Wanted)). map (λ (p : Key × Wanted). p.1) (table key_order (λ (p : Key × Wanted). p.0) rs)) (c.deref.ensures.value ∙ c.in_ok-rows.ensures)
+    ∙ ap (λ (rs : List (Key × Wanted)). map (λ (p : Key × Wanted). p.1)
+    (table key_order (λ (p : Key × Wanted). p.0) rs)) (c.deref.ensures.value ∙ c.in_ok-rows.ensures)
     ∙ rows-of_table key_order (λ (w : Wanted). w.key) c.args.list.now

@@ -15,7 +15,8 @@ loop-at-preserved c =
     let at : ℕ = get_or places n 0 in
     let s : CellState = c.index-states-at.result in
     let read : s ≡ get_or dump.states at s = c.index-states-at.is ∙ ap (λ xs. get_or xs at s) c.items-states.ensures in
-    let is : slice_get dump.states at ≡ Some s = slice_get-get_or dump.states at s (All-get_or (λ k. k < length dump.states) places n 0 lt c.requires.inside) ∙ ap Some (sym read) in
+    let is : slice_get dump.states at ≡ Some s = slice_get-get_or dump.states at s
+    (All-get_or (λ k. k < length dump.states) places n 0 lt c.requires.inside) ∙ ap Some (sym read) in
     c.in_ok-append.ensures.items
     ∙ (λ i. c.loop-at.invariant i ++ c.in_ok-more.ensures i)
     ∙ sym (there_next dump places n s lt is)

@@ -5,4 +5,5 @@ use Rattle.wire_fields.proofs.reading.name_of.Goals as goal
 pub returns : goal.returns
 returns c =
     c.ok.ensures.value
-    ∙ result_ok-reading c.args.field.now c.read.result c.requires.0 c.requires.1 c.read.ensures.name c.read.ensures.whole
+    ∙ result_ok-reading c.args.field.now c.read.result c.requires.0 c.requires.1 c.read.ensures.name
+    c.read.ensures.whole

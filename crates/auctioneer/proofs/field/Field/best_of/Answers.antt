@@ -8,4 +8,5 @@ pub returns-then-is_refused : goal.returns-then-is_refused
 returns-then-is_refused c =
     let f = c.args.self.now in
     best-from_none f.stands.items c.args.job.now c.requires.sound.rising
-    (c.is_refused.ensures c.if-is_refused.true f.stands.items (subst (λ (zs : List Size). AreRefused f.stands.items zs) (sym c.as_slice.ensures.value) c.requires.refused))
+    (c.is_refused.ensures c.if-is_refused.true f.stands.items
+    (subst (λ (zs : List Size). AreRefused f.stands.items zs) (sym c.as_slice.ensures.value) c.requires.refused))

@@ -14,7 +14,8 @@ returns-in-Ok-clause-field c =
       common = field.common;
       own = λ other is.
           IsRanking-process key other f.groups.items f.stands.items c.in-Ok.spots (sym is)
-          (subst (λ (j : JobName). IsRanking j f.groups.items f.stands.items c.in-Ok.spots) c.in-Lrp.is c.in-Ok.ensures);
+          (subst (λ (j : JobName). IsRanking j f.groups.items f.stands.items c.in-Ok.spots) c.in-Lrp.is
+          c.in-Ok.ensures);
       zones = field.zones;
       cells = field.cells;
       refused = field.refused;

@@ -14,15 +14,19 @@ pub returns-clause-sound : goal.returns-clause-sound
 returns-clause-sound c =
     let groups = c.in_ok-groups.groups.items in
     let all = c.in_ok-groups.all.items in
-    let spots = subst (λ (ss : List Stand). AreFirstSpots groups ss all) c.as_slice.ensures.value c.in_ok-groups.ensures in
+    let spots = subst (λ (ss : List Stand). AreFirstSpots groups ss all) c.as_slice.ensures.value c.in_ok-groups.ensures
+    in
     record {
       sound = c.in_ok-stands.ensures.sound;
       common = λ job. record {
         spots = IsSpotOf-first job groups c.in_ok-stands.stands.items all spots;
-        order = IsOrderOf-made c.in_ok-order.order all spots.cell (subst (λ (ps : List Spot). IsFromIterResult spot_order ps c.in_ok-order.order) c.as_slice-2.ensures.value c.in_ok-order.ensures);
+        order = IsOrderOf-made c.in_ok-order.order all spots.cell
+            (subst (λ (ps : List Spot). IsFromIterResult spot_order ps c.in_ok-order.order) c.as_slice-2.ensures.value
+            c.in_ok-order.ensures);
       };
       own = tt;
       zones = subst (CountsAt Zone c.in_ok-in_zones.in_zones) c.as_slice-3.ensures.value c.in_ok-in_zones.ensures;
       cells = subst (CountsAt Cell c.in_ok-on_cells.on_cells) c.as_slice-4.ensures.value c.in_ok-on_cells.ensures;
-      refused = subst (AreRefused c.in_ok-stands.stands.items) (sym c.new.ensures.items) (λ k d below. absurd (omega arith));
+      refused = subst (AreRefused c.in_ok-stands.stands.items) (sym c.new.ensures.items)
+          (λ k d below. absurd (omega arith));
     }

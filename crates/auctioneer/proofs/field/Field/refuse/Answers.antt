@@ -11,5 +11,6 @@ returns-clause-field c =
       own = field.own;
       zones = field.zones;
       cells = field.cells;
-      refused = c.remember.ensures f.stands.items field.refused (none-from_best f.stands.items c.args.job.now c.requires.none);
+      refused = c.remember.ensures f.stands.items field.refused
+          (none-from_best f.stands.items c.args.job.now c.requires.none);
     }

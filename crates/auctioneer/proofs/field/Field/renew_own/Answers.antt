@@ -13,7 +13,8 @@ index-requires-2 c =
     let f = c.args.self.now in
     let p : Spot = c.index.result.now in
     let here : IsSpotOf (Task []) f.groups.items f.stands.items c.args.at p =
-    subst (IsSpotOf (Task []) f.groups.items f.stands.items c.args.at) (sym c.index.ensures) ((c.requires.field.common (Task [])).spots.each c.args.at p c.requires.inside) in
+    subst (IsSpotOf (Task []) f.groups.items f.stands.items c.args.at) (sym c.index.ensures)
+    ((c.requires.field.common (Task [])).spots.each c.args.at p c.requires.inside) in
     omega (arith, (here.group no_stand).inside)
   where
     no_stand : Stand

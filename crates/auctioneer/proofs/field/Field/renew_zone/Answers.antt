@@ -11,5 +11,6 @@ loop-other-preserved c =
           subst (λ (f : Field). IsFieldOf f × (f.stands.items ≡ c.args.self.now.stands.items)) (sym w.self-is)
           (w.renew_at.ensures.field, w.renew_at.ensures.stands ∙ c.loop-other.invariant.1)
       | else-eq w ↦
-          subst (λ (f : Field). IsFieldOf f × (f.stands.items ≡ c.args.self.now.stands.items)) (sym w.self-is) c.loop-other.invariant
+          subst (λ (f : Field). IsFieldOf f × (f.stands.items ≡ c.args.self.now.stands.items))
+          (sym w.self-is) c.loop-other.invariant
     ]

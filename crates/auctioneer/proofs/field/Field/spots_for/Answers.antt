@@ -13,8 +13,10 @@ returns-then-eq c =
     let own = c.in-Some.own in
     let key = c.in-Lrp.key in
     let same : own.process ≡ key.process = same_from_test own.process key.process (sym c.eq.ensures ∙ c.if-eq.true) in
-    let serves : ServesOwn f.groups.items f.stands.items own = subst (λ (o : Option Own). IfSome o (ServesOwn f.groups.items f.stands.items)) c.in-Some.is c.requires.own in
-    subst (λ (j : JobName). IsRanking j f.groups.items f.stands.items own.spots) (sym c.in-Lrp.is) (serves key (sym same))
+    let serves : ServesOwn f.groups.items f.stands.items own =
+    subst (λ (o : Option Own). IfSome o (ServesOwn f.groups.items f.stands.items)) c.in-Some.is c.requires.own in
+    subst (λ (j : JobName). IsRanking j f.groups.items f.stands.items own.spots) (sym c.in-Lrp.is)
+    (serves key (sym same))
 
 pub returns-else-eq : goal.returns-else-eq
 returns-else-eq c = c.requires.common c.args.job.now

@@ -22,11 +22,14 @@ loop-at-preserved c =
           elim (cases_lt k at) [
             | (inl lt) ↦
                 let within : k < length xs = omega (arith, so_far.0) in
-                subst (IsSpotOf c.args.job.now f.groups.items f.stands.items k) (sym (ap (λ (ys : List Spot). get_or ys k p) items ∙ get_or_append_left xs (x ∷ []) p k within)) (so_far.2 k p lt)
+                subst (IsSpotOf c.args.job.now f.groups.items f.stands.items k)
+                (sym (ap (λ (ys : List Spot). get_or ys k p) items ∙ get_or_append_left xs (x ∷ []) p k within))
+                (so_far.2 k p lt)
             | (inr ge) ↦
                 let here : length xs ≡ k = omega (arith, so_far.0) in
                 let last : at ≡ k = omega (arith, so_far.0) in
-                subst (IsSpotOf c.args.job.now f.groups.items f.stands.items k) (sym (ap (λ (ys : List Spot). get_or ys k p) items ∙ get_or_push xs x p k here))
+                subst (IsSpotOf c.args.job.now f.groups.items f.stands.items k)
+                (sym (ap (λ (ys : List Spot). get_or ys k p) items ∙ get_or_push xs x p k here))
                 (subst (λ n. IsSpotOf c.args.job.now f.groups.items f.stands.items n x) last c.spot_for.ensures)
           ],
     )
@@ -36,9 +39,12 @@ returns c =
     let f = c.args.self.now in
     let so_far = c.loop-at.invariant in
     let all = c.loop-at.all.items in
-    let length_is : length all ≡ length f.stands.items = omega (arith, so_far.0, so_far.1, c.loop-at-test.false, c.len-at-end.ensures) in
+    let length_is : length all ≡ length f.stands.items = omega
+    (arith, so_far.0, so_far.1, c.loop-at-test.false, c.len-at-end.ensures) in
     let cells : AreCellsOf all = λ k p below. (so_far.2 k p (omega (arith, so_far.0))).cell in
     record {
       spots = record { all = length_is; each = λ k p below. so_far.2 k p (omega (arith, so_far.0, length_is)) };
-      order = IsOrderOf-made c.in_ok-order.order all cells (subst (λ (ps : List Spot). IsFromIterResult spot_order ps c.in_ok-order.order) c.as_slice.ensures.value c.in_ok-order.ensures);
+      order = IsOrderOf-made c.in_ok-order.order all cells
+          (subst (λ (ps : List Spot). IsFromIterResult spot_order ps c.in_ok-order.order) c.as_slice.ensures.value
+          c.in_ok-order.ensures);
     }

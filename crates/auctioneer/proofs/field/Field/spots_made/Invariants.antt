@@ -6,4 +6,5 @@ use Rattle.auctioneer.proofs.field.Field.spots_made.Given as goal
 abbrev pub invariant-loop-at : goal.invariant-loop-at
 invariant-loop-at l =
     (length l.all.items ≡ l.at) × (l.at ≤ length l.self.stands.items)
-    × ((k : ℕ) (p : Spot) → k < l.at → IsSpotOf l.job l.self.groups.items l.self.stands.items k (get_or l.all.items k p))
+    × ((k : ℕ) (p : Spot) → k < l.at → IsSpotOf l.job l.self.groups.items l.self.stands.items k
+    (get_or l.all.items k p))

@@ -11,7 +11,8 @@ returns-in-Lrp c =
     let zone = c.args.place.now in
     let count : c.count-count.result ≡ tallied old (Lrp c.in-Lrp.key) zone =
     c.count-count.ensures ∙ ap (λ (j : JobName). tallied old j zone) c.in-Lrp.is in
-    let room : HasRoomFor old (Lrp c.in-Lrp.key) zone = subst (λ (j : JobName). HasRoomFor old j zone) c.in-Lrp.is c.requires.room in
+    let room : HasRoomFor old (Lrp c.in-Lrp.key) zone = subst
+    (λ (j : JobName). HasRoomFor old j zone) c.in-Lrp.is c.requires.room in
     let put = there_then_ok c.insert-had.result _ _ room c.insert-had.ensures.absent c.insert-had.ensures.updates in
     subst (λ (j : JobName). Gains old (record { counts = c.insert-had.new.self }) j zone) (sym c.in-Lrp.is)
     (gains old (record { counts = c.insert-had.new.self }) c.in-Lrp.key zone c.count-count.result count put.0)

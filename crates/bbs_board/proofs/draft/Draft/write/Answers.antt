@@ -15,14 +15,19 @@ pub returns-clause-bytes : goal.returns-clause-bytes
 unfolding head_spelled
 returns-clause-bytes c =
     let rows = c.args.index.now.rows in
-    let front = c.put_front.ensures.bytes ∙ ap (λ (l : List ℕ). l ++ counts.spelling c.front_of.result) c.clear.ensures.items ∙ ap (λ (n : Counts). [] ++ counts.spelling n) c.front_of.ensures in
+    let front = c.put_front.ensures.bytes ∙ ap (λ (l : List ℕ). l ++ counts.spelling c.front_of.result)
+    c.clear.ensures.items ∙ ap (λ (n : Counts). [] ++ counts.spelling n) c.front_of.ensures in
     let d = ap (λ (l : List Desired). flat_map desired.spelling l) c.desired_shelf.ensures in
     let a = ap (λ (l : List Actual). flat_map actual.spelling l) c.actual_shelf.ensures in
     let t = ap (λ (l : List Task). flat_map task_row.spelling l) c.tasks_shelf.ensures in
     let r = ap (λ (l : List CellRow). flat_map cell_row.spelling l) c.cells_shelf.ensures in
     let m = ap (λ (l : List DomainRow). flat_map domain_row.spelling l) c.domains_shelf.ensures in
-    put c.put_rows-5.ensures.bytes (put c.put_rows-4.ensures.bytes (put c.put_rows-3.ensures.bytes (put c.put_rows-2.ensures.bytes (put c.put_rows.ensures.bytes front d) a) t) r) m
-    ∙ texts_joined (counts.spelling (head_counts rows)) (flat_map desired.spelling rows.desired) (flat_map actual.spelling rows.actual) (flat_map task_row.spelling rows.tasks) (flat_map cell_row.spelling rows.cells)
+    put c.put_rows-5.ensures.bytes (put c.put_rows-4.ensures.bytes
+    (put c.put_rows-3.ensures.bytes (put c.put_rows-2.ensures.bytes (put c.put_rows.ensures.bytes front d) a) t) r)
+    m
+    ∙ texts_joined (counts.spelling (head_counts rows)) (flat_map desired.spelling rows.desired)
+    (flat_map actual.spelling rows.actual) (flat_map task_row.spelling rows.tasks)
+    (flat_map cell_row.spelling rows.cells)
     (flat_map domain_row.spelling rows.domains)
   where
     put : {new old text whole more : List ℕ} → new ≡ old ++ text → old ≡ whole → text ≡ more → new ≡ whole ++ more

@@ -12,4 +12,5 @@ returns-clause-count g c =
 pub returns-clause-order : goal.returns-clause-order
 returns-clause-order g c =
     subst (λ v. IsSortedByKey g.X.Rowed.key g.X.Key.Ord.cmp v.numbered → v.numbered ≡ v.rows) c.self.view_is
-    (rows-sorted g.met.X.Rowed.ordered g.met.X.Key.Eq.laws g.met.X.Key.Ord.matches_eq g.X.Rowed.key c.self.inside.map.entries c.self.invariant c.len-len.ensures.unique)
+    (rows-sorted g.met.X.Rowed.ordered g.met.X.Key.Eq.laws g.met.X.Key.Ord.matches_eq g.X.Rowed.key
+    c.self.inside.map.entries c.self.invariant c.len-len.ensures.unique)

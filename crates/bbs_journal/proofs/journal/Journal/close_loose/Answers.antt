@@ -9,8 +9,12 @@ pub invariant_of-self : goal.invariant_of-self
 invariant_of-self g c =
     let calm : c.self.inside.waiting ≡ Nothing = waiting_inside _ _ _ c.self.view_is c.requires.calm.mended in
     let loose : c.self.inside.gate ≡ gates.Loose = gate_inside _ _ _ c.self.view_is c.requires.loose in
-    let kept = rw (calm, loose) at c.self.invariant.1 in
-    (c.self.invariant.0, rw loose (kept_unclosed _ _ _ _ _ _ _ _ (closes _ _ _ _ _ _ _ _ false (rw c.other.ensures at c.in_err-write_synced.ensures.does) kept) kept), c.self.invariant.2)
+    let kept = rw (calm, loose) at c.self.invariant.1 in (
+      c.self.invariant.0,
+      rw loose (kept_unclosed _ _ _ _ _ _ _ _
+          (closes _ _ _ _ _ _ _ _ false (rw c.other.ensures at c.in_err-write_synced.ensures.does) kept) kept),
+      c.self.invariant.2,
+    )
 
 pub returns-in_err-write_synced-clause-does : goal.returns-in_err-write_synced-clause-does
 returns-in_err-write_synced-clause-does g c =
@@ -18,14 +22,19 @@ returns-in_err-write_synced-clause-does g c =
     let calm : c.self.inside.waiting ≡ Nothing = waiting_inside _ _ _ c.self.view_is c.requires.calm.mended in
     let loose : c.self.inside.gate ≡ gates.Loose = gate_inside _ _ _ c.self.view_is c.requires.loose in
     let kept = rw (calm, loose) at c.self.invariant.1 in
-    rw (← c.self.view_is, failed) (closes _ _ _ _ _ _ _ _ false (rw c.other.ensures at c.in_err-write_synced.ensures.does) kept)
+    rw (← c.self.view_is, failed) (closes _ _ _ _ _ _ _ _ false
+    (rw c.other.ensures at c.in_err-write_synced.ensures.does) kept)
 
 pub invariant_of-self-2 : goal.invariant_of-self-2
 invariant_of-self-2 g c =
     let calm : c.self.inside.waiting ≡ Nothing = waiting_inside _ _ _ c.self.view_is c.requires.calm.mended in
     let loose : c.self.inside.gate ≡ gates.Loose = gate_inside _ _ _ c.self.view_is c.requires.loose in
-    let kept = rw (calm, loose) at c.self.invariant.1 in
-    (c.self.invariant.0, kept_closed _ _ _ _ _ _ _ _ (closes _ _ _ _ _ _ _ _ true (rw c.other.ensures at c.in_ok-write_synced.ensures.does) kept) kept, c.self.invariant.2)
+    let kept = rw (calm, loose) at c.self.invariant.1 in (
+      c.self.invariant.0,
+      kept_closed _ _ _ _ _ _ _ _ (closes _ _ _ _ _ _ _ _ true
+          (rw c.other.ensures at c.in_ok-write_synced.ensures.does) kept) kept,
+      c.self.invariant.2,
+    )
 
 pub returns-clause-does : goal.returns-clause-does
 returns-clause-does g c =

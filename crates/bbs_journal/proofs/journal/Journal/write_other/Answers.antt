@@ -17,7 +17,8 @@ invariant_of-self g c =
     let shut : c.self.inside.gate ≡ Shut = gate_inside _ _ _ c.self.view_is c.requires.can.shut in (
       c.self.invariant.0,
       rw (calm, shut) (kept_unwritten _ _ _ _ _ _ _ _ c.args.head.now
-          (writes _ _ _ c.self.inside.version _ c.self.inside.end c.self.inside.frames c.self.inside.broken false _ _ c.new_header-header.ensures (rw c.other.ensures at c.in_err-write_area.ensures.does))
+          (writes _ _ _ c.self.inside.version _ c.self.inside.end c.self.inside.frames c.self.inside.broken false _ _
+          c.new_header-header.ensures (rw c.other.ensures at c.in_err-write_area.ensures.does))
           (rw (calm, shut) at c.self.invariant.1)),
       c.self.invariant.2,
     )
@@ -28,7 +29,8 @@ invariant_of-self-2 g c =
     let shut : c.self.inside.gate ≡ Shut = gate_inside _ _ _ c.self.view_is c.requires.can.shut in (
       c.self.invariant.0,
       rw calm (kept_written _ _ _ _ _ _ _ _ c.args.head.now
-          (writes _ _ _ c.self.inside.version _ c.self.inside.end c.self.inside.frames c.self.inside.broken true _ _ c.new_header-header.ensures (rw c.other.ensures at c.in_ok-write_area.ensures.does))
+          (writes _ _ _ c.self.inside.version _ c.self.inside.end c.self.inside.frames c.self.inside.broken true _ _
+          c.new_header-header.ensures (rw c.other.ensures at c.in_ok-write_area.ensures.does))
           (rw (calm, shut) at c.self.invariant.1)),
       c.self.invariant.2,
     )
@@ -36,4 +38,5 @@ invariant_of-self-2 g c =
 pub returns-clause-does : goal.returns-clause-does
 returns-clause-does g c =
     rw (← c.self.view_is)
-    (writes _ _ _ c.self.inside.version _ c.self.inside.end c.self.inside.frames c.self.inside.broken true _ _ c.new_header-header.ensures (rw c.other.ensures at c.in_ok-write_area.ensures.does))
+    (writes _ _ _ c.self.inside.version _ c.self.inside.end c.self.inside.frames c.self.inside.broken true _ _
+    c.new_header-header.ensures (rw c.other.ensures at c.in_ok-write_area.ensures.does))

@@ -11,7 +11,8 @@ returns-clause-called g c =
     let t = c.turn.ensures.turn in
     let before = t.ran.shown.now in let after = t.ran.left.now in
     let by = c.args.pass.now.number in let end = c.turn.result in
-    let ends : Ends (verdict_of (rows_of before.board) c.args.command) (length before.board.log) (rows_of before.board).next end = search rules in
+    let ends : Ends (verdict_of (rows_of before.board) c.args.command) (length before.board.log)
+    (rows_of before.board).next end = search rules in
     let log : after.board.log ≡ before.board.log ++ added end by c.args.command = search rules in
     let few : length after.board.log < 2 ^ 64 = search rules in
     shared_called _ _ before after (turn_at _ _ _ _ _ _ t) by c.args.command end log ends few

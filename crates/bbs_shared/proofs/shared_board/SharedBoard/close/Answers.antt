@@ -14,9 +14,11 @@ returns g c =
     let start : BoardStanding g.row.D.Denot = c.args.self.desk.table.shared.key.value in
     let same : found ≡ start = λ i. (c.into_desk.ensures i).table.shared.key.value in
     let began : found.board ≡ found.start =
-    ap (λ (at : BoardStanding g.row.D.Denot). at.board) same ∙ c.args.self.begun ∙ ap (λ (at : BoardStanding g.row.D.Denot). at.start) (sym same) in
+    ap (λ (at : BoardStanding g.row.D.Denot). at.board) same ∙ c.args.self.begun ∙ ap
+    (λ (at : BoardStanding g.row.D.Denot). at.start) (sym same) in
     let gone : HasGone told c.close.result.start c.close.result.board =
-    subst (λ (b : View g.row.D.Denot). HasGone told c.close.result.start b) c.into_board.ensures.board c.into_board.ensures.gone in
+    subst (λ (b : View g.row.D.Denot). HasGone told c.close.result.start b) c.into_board.ensures.board
+    c.into_board.ensures.gone in
     subst (λ (at : BoardStanding g.row.D.Denot). CameBack told at.start c.into_board.result passes) same
     (subst (λ (b : View g.row.D.Denot). CameBack told found.start b passes) (sym c.into_board.ensures.board)
     (came_back told found c.close.result passes began c.close.ensures gone))

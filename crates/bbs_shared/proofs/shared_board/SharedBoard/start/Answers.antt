@@ -9,5 +9,6 @@ use Rattle.bbs_shared.proofs.shared_board.SharedBoard.start.Goals as goal
 pub returns-in-Ok-clause-passes : goal.returns-in-Ok-clause-passes
 returns-in-Ok-clause-passes g c =
     let z = c.in-Ok.desk.table.shared.table_id in
-    subst (λ (b : View g.row.D.Denot). AreHanded b z c.args.passes c.in-Ok.dealt.items) (ap (λ (at : BoardStanding g.row.D.Denot). at.board) c.new.ensures)
+    subst (λ (b : View g.row.D.Denot). AreHanded b z c.args.passes c.in-Ok.dealt.items)
+    (ap (λ (at : BoardStanding g.row.D.Denot). at.board) c.new.ensures)
     (handed c.new.result z c.args.passes c.in-Ok.dealt.items c.in-Ok.ensures.ok.1)

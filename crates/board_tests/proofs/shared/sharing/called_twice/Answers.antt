@@ -21,16 +21,19 @@ module _ {V T O : Type 0} (z : TableId) (l m n : List (Pass V T O)) (two one : P
 
   pub one_of : l ≡ m ++ two ∷ [] → m ≡ n ++ one ∷ [] → one.place.table_id ≡ z
   one_of is then =
-      (all.1 (length n) one (ap (λ xs. get_elem? xs (length n)) (is ∙ ap (λ xs. xs ++ two ∷ []) then) ∙ earlier n m one two)).desk
+      (all.1 (length n) one (ap (λ xs. get_elem? xs (length n))
+      (is ∙ ap (λ xs. xs ++ two ∷ []) then) ∙ earlier n m one two)).desk
 
 pub call_and_meet-requires-clause-one : goal.call_and_meet-requires-clause-one
 call_and_meet-requires-clause-one g c =
     let z = c.in-Ok.shared.desk.table.shared.table_id in let items = c.in-Ok.passes.items in
     let all : AreAll z items = c.in-Ok.ensures.passes.1 in
-    one_of z items c.pop.new.self.items c.pop-2.new.self.items c.in_ok-two.two c.in_ok-one.one all c.in_ok-two.ensures.items c.in_ok-one.ensures.items
+    one_of z items c.pop.new.self.items c.pop-2.new.self.items c.in_ok-two.two c.in_ok-one.one all
+    c.in_ok-two.ensures.items c.in_ok-one.ensures.items
 
 pub call_and_meet-requires-clause-two : goal.call_and_meet-requires-clause-two
 call_and_meet-requires-clause-two g c =
     let z = c.in-Ok.shared.desk.table.shared.table_id in let items = c.in-Ok.passes.items in
     let all : AreAll z items = c.in-Ok.ensures.passes.1 in
-    two_of z items c.pop.new.self.items c.pop-2.new.self.items c.in_ok-two.two c.in_ok-one.one all c.in_ok-two.ensures.items
+    two_of z items c.pop.new.self.items c.pop-2.new.self.items c.in_ok-two.two c.in_ok-one.one all
+    c.in_ok-two.ensures.items

@@ -16,6 +16,7 @@ returns c = record {
       ∙ ap (jobs_on cell c.args.plan.now.jobs) c.items-2.ensures;
   left = λ name.
       c.in_ok-left.ensures name
-      ∙ ap (λ (ns : List (List ℕ)). is_lost ns name) (c.deref.ensures.value ∙ c.in_ok-names.ensures ∙ ap (filter_map task_left) c.items-3.ensures)
+      ∙ ap (λ (ns : List (List ℕ)). is_lost ns name) (c.deref.ensures.value ∙ c.in_ok-names.ensures ∙ ap
+      (filter_map task_left) c.items-3.ensures)
       ∙ left-from_names name c.args.plan.now.placements;
 }

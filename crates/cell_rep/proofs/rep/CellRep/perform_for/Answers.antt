@@ -6,4 +6,5 @@ use Rattle.cell_rep.proofs.rep.CellRep.perform_for.Goals as goal
 
 pub returns-in-None-clause-performs : goal.returns-in-None-clause-performs
 returns-in-None-clause-performs g c =
-    Performs-same _ _ [] _ _ _ (sym (ap (λ (o : Option Todo). option_to_list o) c.in-None.ensures)) (Performs-none _ _ _)
+    Performs-same _ _ [] _ _ _ (sym (ap (λ (o : Option Todo). option_to_list o) c.in-None.ensures))
+    (Performs-none _ _ _)

@@ -9,15 +9,22 @@ use Rattle.cell_tests.proofs.failing_port.FailingPort.store.Goals as goal
 pub invariant_of-self-then-fails : goal.invariant_of-self-then-fails
 invariant_of-self-then-fails c =
     let p = c.self.inside in
-    plain_doubt p.base p.rows p.log.items c.push_reserved.new.self.items p.told.items c.push_reserved-then-fails.new.self.items
+    plain_doubt p.base p.rows p.log.items c.push_reserved.new.self.items p.told.items
+    c.push_reserved-then-fails.new.self.items
     p.number c.args.command.now c.self.invariant
-    (c.push_reserved.ensures.items ∙ ap (λ (xs : List Item). xs ++ Doubt p.number c.args.command.now ∷ []) c.reserve.ensures.items)
-    (c.push_reserved-then-fails.ensures.items ∙ ap (λ (xs : List (Option Events)). xs ++ None ∷ []) c.reserve-else-is_err.ensures.items)
+    (c.push_reserved.ensures.items ∙ ap (λ (xs : List Item). xs ++ Doubt p.number c.args.command.now ∷ [])
+    c.reserve.ensures.items)
+    (c.push_reserved-then-fails.ensures.items ∙ ap (λ (xs : List (Option Events)). xs ++ None ∷ [])
+    c.reserve-else-is_err.ensures.items)
 
 pub invariant_of-self-in-Ok : goal.invariant_of-self-in-Ok
 invariant_of-self-in-Ok c =
     let p = c.self.inside in
-    plain_more p.base p.rows c.apply.new.rows p.log.items c.push_reserved-in-Ok.new.self.items p.told.items c.push_reserved-in-Ok-2.new.self.items
-    p.number c.args.command.now c.in-Ok.events c.self.invariant c.in-Ok.ensures.ok c.apply.ensures.valid c.in-Ok.ensures.events
-    (c.push_reserved-in-Ok.ensures.items ∙ ap (λ (xs : List Item). xs ++ Done p.number c.args.command.now ∷ []) c.reserve.ensures.items)
-    (c.push_reserved-in-Ok-2.ensures.items ∙ ap (λ (xs : List (Option Events)). xs ++ Some c.in-Ok.events ∷ []) c.reserve-else-is_err.ensures.items)
+    plain_more p.base p.rows c.apply.new.rows p.log.items c.push_reserved-in-Ok.new.self.items p.told.items
+    c.push_reserved-in-Ok-2.new.self.items
+    p.number c.args.command.now c.in-Ok.events c.self.invariant c.in-Ok.ensures.ok c.apply.ensures.valid
+    c.in-Ok.ensures.events
+    (c.push_reserved-in-Ok.ensures.items ∙ ap (λ (xs : List Item). xs ++ Done p.number c.args.command.now ∷ [])
+    c.reserve.ensures.items)
+    (c.push_reserved-in-Ok-2.ensures.items ∙ ap (λ (xs : List (Option Events)). xs ++ Some c.in-Ok.events ∷ [])
+    c.reserve-else-is_err.ensures.items)

@@ -17,10 +17,13 @@ use Rattle.cell_tests.proofs.failing_port.FailingPortPort.call.Goals as goal
 pub returns-in-Ok-clause-called : goal.returns-in-Ok-clause-called
 returns-in-Ok-clause-called c =
     let p = c.args.self.now in
-    let rows : c.self.inside.rows ≡ replay_log p.board.base p.board.log = c.self.invariant.replayed ∙ ap (λ (q : FailingBoard). replay_log q.board.base q.board.log) c.self.view_is in
-    let legal : verdict.Ok ≡ verdict_of (replay_log p.board.base p.board.log) c.args.command = c.in-Ok.ensures ∙ ap (λ (r : Rows). verdict_of r c.args.command) rows in
+    let rows : c.self.inside.rows ≡ replay_log p.board.base p.board.log =
+    c.self.invariant.replayed ∙ ap (λ (q : FailingBoard). replay_log q.board.base q.board.log) c.self.view_is in
+    let legal : verdict.Ok ≡ verdict_of (replay_log p.board.base p.board.log) c.args.command =
+    c.in-Ok.ensures ∙ ap (λ (r : Rows). verdict_of r c.args.command) rows in
     called_alone p.board.number (failing_seen_of p) c.args.command c.store.result (failing_seen_of c.store.new.self)
-    (subst (λ (v : Verdict). Ends v (length p.board.log) (replay_log p.board.base p.board.log).next c.store.result) legal
+    (subst (λ (v : Verdict). Ends v (length p.board.log) (replay_log p.board.base p.board.log).next c.store.result)
+    legal
     (ends_here (is_failing p.fails_at (length p.board.log)) _ _ _ c.store.ensures.ends))
     (ap failing_seen_of c.store.ensures.done)
     c.store.ensures.few
@@ -28,23 +31,29 @@ returns-in-Ok-clause-called c =
 pub returns-in-Same-clause-called : goal.returns-in-Same-clause-called
 returns-in-Same-clause-called c =
     let p = c.args.self.now in
-    let rows : c.self.inside.rows ≡ replay_log p.board.base p.board.log = c.self.invariant.replayed ∙ ap (λ (q : FailingBoard). replay_log q.board.base q.board.log) c.self.view_is in
+    let rows : c.self.inside.rows ≡ replay_log p.board.base p.board.log =
+    c.self.invariant.replayed ∙ ap (λ (q : FailingBoard). replay_log q.board.base q.board.log) c.self.view_is in
     let place : c.len-place.result ≡ length p.board.log = search rules in
-    let is : verdict.Same ≡ verdict_of (replay_log p.board.base p.board.log) c.args.command = c.in-Same.ensures ∙ ap (λ (r : Rows). verdict_of r c.args.command) rows in
+    let is : verdict.Same ≡ verdict_of (replay_log p.board.base p.board.log) c.args.command =
+    c.in-Same.ensures ∙ ap (λ (r : Rows). verdict_of r c.args.command) rows in
     let end : Result Reply CallFault = Ok (reply.Same c.len-place.result) in
     called_alone p.board.number (failing_seen_of p) c.args.command end (failing_seen_of p)
-    (subst (λ (v : Verdict). Ends v (length p.board.log) (replay_log p.board.base p.board.log).next end) is (ap (λ (n : ℕ). Ok (reply.Same n)) place))
+    (subst (λ (v : Verdict). Ends v (length p.board.log) (replay_log p.board.base p.board.log).next end) is
+    (ap (λ (n : ℕ). Ok (reply.Same n)) place))
     (own_nothing (failing_seen_of p))
     (subst (λ n. n < 2 ^ 64) place c.len-place.type_inv)
 
 pub returns-in-Refused-clause-called : goal.returns-in-Refused-clause-called
 returns-in-Refused-clause-called c =
     let p = c.args.self.now in
-    let rows : c.self.inside.rows ≡ replay_log p.board.base p.board.log = c.self.invariant.replayed ∙ ap (λ (q : FailingBoard). replay_log q.board.base q.board.log) c.self.view_is in
+    let rows : c.self.inside.rows ≡ replay_log p.board.base p.board.log =
+    c.self.invariant.replayed ∙ ap (λ (q : FailingBoard). replay_log q.board.base q.board.log) c.self.view_is in
     let place : c.len-place.result ≡ length p.board.log = search rules in
-    let is : verdict.Refused c.in-Refused.why ≡ verdict_of (replay_log p.board.base p.board.log) c.args.command = c.in-Refused.ensures ∙ ap (λ (r : Rows). verdict_of r c.args.command) rows in
+    let is : verdict.Refused c.in-Refused.why ≡ verdict_of (replay_log p.board.base p.board.log) c.args.command =
+    c.in-Refused.ensures ∙ ap (λ (r : Rows). verdict_of r c.args.command) rows in
     let end : Result Reply CallFault = Ok (reply.Refused c.in-Refused.why c.len-place.result) in
     called_alone p.board.number (failing_seen_of p) c.args.command end (failing_seen_of p)
-    (subst (λ (v : Verdict). Ends v (length p.board.log) (replay_log p.board.base p.board.log).next end) is (ap (λ (n : ℕ). Ok (reply.Refused c.in-Refused.why n)) place))
+    (subst (λ (v : Verdict). Ends v (length p.board.log) (replay_log p.board.base p.board.log).next end) is
+    (ap (λ (n : ℕ). Ok (reply.Refused c.in-Refused.why n)) place))
     (own_nothing (failing_seen_of p))
     (subst (λ n. n < 2 ^ 64) place c.len-place.type_inv)

@@ -15,7 +15,8 @@ loop-container-init c =
 pub loop-container-smaller : goal.loop-container-smaller
 loop-container-smaller c =
     let s = c.args.self.now in
-    let up = step_up (Some c.args.job.now) s.epoch s.last c.loop-container.after s.containers c.in-Some.container.now c.holds.ensures.given (sym c.in-Some.ensures) in
+    let up = step_up (Some c.args.job.now) s.epoch s.last c.loop-container.after s.containers c.in-Some.container.now
+    c.holds.ensures.given (sym c.in-Some.ensures) in
     omega (arith, up.0, up.1, c.holds.ensures.fits)
 
 pub loop-container-preserved : goal.loop-container-preserved
@@ -24,7 +25,8 @@ loop-container-preserved c =
     let x = c.in-Some.container.now in
     let rest = filter (is_later (Some c.args.job.now) (number_of x)) s.containers in
     c.loop-container.invariant
-    ∙ ap (λ xs. c.loop-container.list.items ++ xs) (filter-step (Some c.args.job.now) c.loop-container.after s.containers x c.holds.ensures.rising (sym c.in-Some.ensures))
+    ∙ ap (λ xs. c.loop-container.list.items ++ xs) (filter-step
+    (Some c.args.job.now) c.loop-container.after s.containers x c.holds.ensures.rising (sym c.in-Some.ensures))
     ∙ add_behind c.loop-container.list.items x rest
     ∙ ap (λ xs. xs ++ rest) (sym c.in_ok-push.ensures.items)
 
@@ -33,5 +35,6 @@ returns c =
     let none = sym c.next_of.ensures ∙ ap option_copied c.in_default.is in
     let list = c.loop-container.list.items in
     sym (c.loop-container.invariant
-    ∙ ap (λ xs. list ++ xs) (filter-none (is_later (Some c.args.job.now) c.loop-container.after) c.args.self.now.containers none)
+    ∙ ap (λ xs. list ++ xs) (filter-none (is_later (Some c.args.job.now) c.loop-container.after)
+    c.args.self.now.containers none)
     ∙ append-nil list)

@@ -9,4 +9,5 @@ returns-then-instance-self c =
 pub returns : goal.returns
 returns c =
     c.get.ensures.value
-    ∙ find-held c.self.inside c.self.invariant c.args.self.now c.self.view_is c.args.instance.now c.if-instance-self.false
+    ∙ find-held c.self.inside c.self.invariant c.args.self.now c.self.view_is c.args.instance.now
+    c.if-instance-self.false

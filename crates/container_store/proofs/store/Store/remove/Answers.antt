@@ -12,22 +12,26 @@ pub overflow_sub-self : goal.overflow_sub-self
 overflow_sub-self c =
     let found = sym c.find.ensures ∙ ap option_copied c.in_ok-container.ensures.ok_part in
     memory-held c.self.inside c.self.invariant c.args.instance.now
-    (held_as c.self.inside c.self.invariant c.args.self.now c.self.view_is c.args.instance.now c.in_ok-container.field-0.now found)
+    (held_as c.self.inside c.self.invariant c.args.self.now c.self.view_is c.args.instance.now
+    c.in_ok-container.field-0.now found)
 
 pub overflow_sub-self-2 : goal.overflow_sub-self-2
 overflow_sub-self-2 c =
     let found = sym c.find.ensures ∙ ap option_copied c.in_ok-container.ensures.ok_part in
     disk-held c.self.inside c.self.invariant c.args.instance.now
-    (held_as c.self.inside c.self.invariant c.args.self.now c.self.view_is c.args.instance.now c.in_ok-container.field-0.now found)
+    (held_as c.self.inside c.self.invariant c.args.self.now c.self.view_is c.args.instance.now
+    c.in_ok-container.field-0.now found)
 
 pub invariant_of-self : goal.invariant_of-self
 invariant_of-self c =
     let found = sym c.find.ensures ∙ ap option_copied c.in_ok-container.ensures.ok_part in
     IsInside-removed c.self.inside c.self.invariant c.args.instance.now
-    (held_as c.self.inside c.self.invariant c.args.self.now c.self.view_is c.args.instance.now c.in_ok-container.field-0.now found)
+    (held_as c.self.inside c.self.invariant c.args.self.now c.self.view_is c.args.instance.now
+    c.in_ok-container.field-0.now found)
     c.remove.new.self c.remove-2.new.self c.remove.ensures.entries c.remove.ensures.updates.0
     (λ q. c.remove-2.ensures.updates.0 q
-    ∙ ap (λ (k : JobEntry). cond (is_at (entry_order k) q) false (contains entry_order c.self.inside.jobs q)) c.job_entry.ensures)
+    ∙ ap (λ (k : JobEntry). cond (is_at (entry_order k) q) false (contains entry_order c.self.inside.jobs q))
+    c.job_entry.ensures)
 
 pub returns : goal.returns
 returns c =
@@ -40,4 +44,5 @@ returns c =
     (held_as c.self.inside c.self.invariant v c.self.view_is i c.in_ok-container.field-0.now found)
     c.remove.new.self c.remove-2.new.self c.remove.ensures.entries c.remove.ensures.updates.0
     (λ q. c.remove-2.ensures.updates.0 q
-    ∙ ap (λ (k : JobEntry). cond (is_at (entry_order k) q) false (contains entry_order c.self.inside.jobs q)) c.job_entry.ensures)))
+    ∙ ap (λ (k : JobEntry). cond (is_at (entry_order k) q) false (contains entry_order c.self.inside.jobs q))
+    c.job_entry.ensures)))

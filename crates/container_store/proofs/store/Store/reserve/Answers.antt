@@ -7,7 +7,8 @@ use Rattle.container_store.proofs.store.Store.reserve.Goals as goal
 
 pub put_container-requires : goal.put_container-requires
 put_container-requires c =
-    unlisted c.self.inside c.self.invariant (next_container (store_view_of c.self.inside) c.args.job c.args.memory c.args.disk) refl
+    unlisted c.self.inside c.self.invariant (next_container
+    (store_view_of c.self.inside) c.args.job c.args.memory c.args.disk) refl
 
 pub invariant_of-self : goal.invariant_of-self
 invariant_of-self c =
@@ -16,15 +17,19 @@ invariant_of-self c =
 
 pub invariant_of-self-in-Ok : goal.invariant_of-self-in-Ok
 invariant_of-self-in-Ok c =
-    IsInside-pushed c.self.inside c.self.invariant c.free-free.result c.args.job c.args.memory c.args.disk c.put_container.new.containers c.put_container.new.jobs
+    IsInside-pushed c.self.inside c.self.invariant c.free-free.result c.args.job c.args.memory c.args.disk
+    c.put_container.new.containers c.put_container.new.jobs
     c.in-Ok.ensures.containers c.in-Ok.ensures.found c.in-Ok.ensures.jobs
-    (c.free-free.ensures ∙ ap free_of (sym c.self.view_is)) c.if-memory-free.false c.if-disk-free.false c.if-free-eq0.false
+    (c.free-free.ensures ∙ ap free_of (sym c.self.view_is)) c.if-memory-free.false c.if-disk-free.false
+    c.if-free-eq0.false
 
 pub returns-in-Ok : goal.returns-in-Ok
 returns-in-Ok c = (
   ap next_of c.self.view_is,
-  reserving-ok c.args.self.now c.free-free.result c.args.job c.args.memory c.args.disk c.free-free.ensures c.if-memory-free.false c.if-disk-free.false c.if-free-eq0.false
+  reserving-ok c.args.self.now c.free-free.result c.args.job c.args.memory c.args.disk c.free-free.ensures
+      c.if-memory-free.false c.if-disk-free.false c.if-free-eq0.false
       ∙ ap (λ w. Ok (reserved w c.args.job c.args.memory c.args.disk)) (sym c.self.view_is)
-      ∙ ap (λ w. Ok w) (sym (view-pushed c.self.inside c.self.invariant c.free-free.result c.args.job c.args.memory c.args.disk c.put_container.new.containers c.put_container.new.jobs
+      ∙ ap (λ w. Ok w) (sym (view-pushed c.self.inside c.self.invariant c.free-free.result c.args.job c.args.memory
+      c.args.disk c.put_container.new.containers c.put_container.new.jobs
       c.in-Ok.ensures.containers c.in-Ok.ensures.found c.in-Ok.ensures.jobs)),
 )

@@ -8,7 +8,8 @@ use Rattle.container_store.specs.declared.refusal.StoreRefusal.TheVariants.{Wron
 use Rattle.container_store.proofs.Turns.{HeldAs, held_in, IsInside-turned, view-turned, ask-some}
 use Rattle.container_store.proofs.store.Store.run.Goals as goal
 
-state : (c : goal.After-set_state) → Some Reserved ≡ option_map (λ (x : Container). x.state) (find_container c.args.instance.now c.args.self.now.containers)
+state : (c : goal.After-set_state) → Some Reserved ≡ option_map (λ (x : Container). x.state)
+    (find_container c.args.instance.now c.args.self.now.containers)
 state c = ap (λ s. Some s) (sym c.in-Some-Reserved.field-0-is) ∙ sym c.in-Some-Reserved.is ∙ c.state_of.ensures
 
 here : (c : goal.After-set_state) → HeldAs c.self.inside c.args.instance.now
@@ -17,13 +18,16 @@ here c = held_in c.self.inside c.self.invariant c.args.self.now c.self.view_is c
 pub invariant_of-self : goal.invariant_of-self
 invariant_of-self c =
     let h = here c in
-    IsInside-turned c.self.inside c.self.invariant c.args.instance.now h Running c.set_state.new.containers (c.set_state.ensures.entries h.one h.held) (c.set_state.ensures.found h.one h.held)
+    IsInside-turned c.self.inside c.self.invariant c.args.instance.now h Running c.set_state.new.containers
+    (c.set_state.ensures.entries h.one h.held) (c.set_state.ensures.found h.one h.held)
 
 pub returns-in-Some-Reserved : goal.returns-in-Some-Reserved
 returns-in-Some-Reserved c =
     let v = c.args.self.now in
     let i = c.args.instance.now in
     let h = here c in
-    ask-some (find_container i v.containers) Reserved (λ s. cond (is_reserved s) (Ok (with_state v i Running)) (Err WrongState)) (state c)
+    ask-some (find_container i v.containers) Reserved (λ s.
+    cond (is_reserved s) (Ok (with_state v i Running)) (Err WrongState)) (state c)
     ∙ ap (λ w. Ok (with_state w i Running)) (sym c.self.view_is)
-    ∙ ap (λ w. Ok w) (sym (view-turned c.self.inside c.self.invariant i h Running c.set_state.new.containers (c.set_state.ensures.entries h.one h.held) (c.set_state.ensures.found h.one h.held)))
+    ∙ ap (λ w. Ok w) (sym (view-turned c.self.inside c.self.invariant i h Running c.set_state.new.containers
+    (c.set_state.ensures.entries h.one h.held) (c.set_state.ensures.found h.one h.held)))

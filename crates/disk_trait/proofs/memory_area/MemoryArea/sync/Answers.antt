@@ -7,7 +7,8 @@ use Rattle.disk_trait.specs.Possible.{torn_same}
 use Rattle.disk_trait.proofs.memory_area.MemoryArea.sync.Goals as goal
 
 pub returns-in_err-reserve : goal.returns-in_err-reserve
-returns-in_err-reserve c = refused c.from_residual.result c.args.clock c.args.self.now _ Synced c.from_residual.ensures.0 c.requires.numbered c.reserve.ensures.items refl (λ held. refl)
+returns-in_err-reserve c = refused c.from_residual.result c.args.clock c.args.self.now _ Synced
+    c.from_residual.ensures.0 c.requires.numbered c.reserve.ensures.items refl (λ held. refl)
 
 pub invariant_of-self-2 : goal.invariant_of-self-2
 invariant_of-self-2 c =

@@ -9,11 +9,13 @@ invariant_of-self c =
     let disk = c.args.self.now in
     record {
       numbered = numbered_upto disk.meter.clock _ disk.areas
-          (omega (arith, ticked_later c.tick-ticked.result _ _ c.tick-ticked.ensures.time, c.fail.ensures.clock)) disk.numbered;
+          (omega (arith, ticked_later c.tick-ticked.result _ _ c.tick-ticked.ensures.time, c.fail.ensures.clock))
+          disk.numbered;
     }
 
 pub returns-clause-does : goal.returns-clause-does
 returns-clause-does c =
     let disk = c.args.self.now in
-    subst (λ (k : ℕ). ChangesNothing (past_of disk.areas disk.meter.clock) (past_of disk.areas k)) (sym c.fail.ensures.clock)
+    subst (λ (k : ℕ). ChangesNothing (past_of disk.areas disk.meter.clock) (past_of disk.areas k))
+    (sym c.fail.ensures.clock)
     (ticked_looks c.tick-ticked.result _ _ disk.areas c.tick-ticked.ensures.time disk.numbered)

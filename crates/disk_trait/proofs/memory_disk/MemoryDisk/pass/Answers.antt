@@ -4,7 +4,10 @@ use Rattle.disk_trait.proofs.memory_disk.MemoryDisk.pass.Goals as goal
 pub invariant_of-self : goal.invariant_of-self
 invariant_of-self c =
     let disk = c.args.self.now in
-    record { numbered = numbered_upto disk.meter.clock _ disk.areas (ticked_later c.tick-ticked.result _ _ c.tick-ticked.ensures.time) disk.numbered }
+    record {
+      numbered = numbered_upto disk.meter.clock _ disk.areas
+          (ticked_later c.tick-ticked.result _ _ c.tick-ticked.ensures.time) disk.numbered;
+    }
 
 pub returns-clause-does : goal.returns-clause-does
 returns-clause-does c =

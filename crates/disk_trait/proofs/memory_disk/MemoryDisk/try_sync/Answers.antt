@@ -7,7 +7,9 @@ use Rattle.disk_trait.proofs.memory_disk.MemoryDisk.try_sync.Goals as goal
 pub returns-clause-does : goal.returns-clause-does
 returns-clause-does c =
     let disk = c.args.self.now in
-    tried_changes disk.meter.clock _ c.args.area (is_ok c.end.result) (is_ok c.sync.result) Synced disk.areas c.sync.new.self _ c.sync.ensures (c.end.ensures.ok ∙ c.is_ok-found.ensures.value) c.end.ensures.areas
+    tried_changes disk.meter.clock _ c.args.area (is_ok c.end.result)
+    (is_ok c.sync.result) Synced disk.areas c.sync.new.self _ c.sync.ensures
+    (c.end.ensures.ok ∙ c.is_ok-found.ensures.value) c.end.ensures.areas
     (c.tick-ticked.ensures.time.goes c.requires)
 
 pub returns-clause-calls : goal.returns-clause-calls

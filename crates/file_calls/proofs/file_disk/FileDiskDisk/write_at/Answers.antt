@@ -10,11 +10,14 @@ write_whole-answer-requires g c = place_begun g.C.Calls.first c.args.area c.args
 
 pub invariant_of-self-2 : goal.invariant_of-self-2
 invariant_of-self-2 g c = record {
-  timed = timed_on (writes c.args.area) _ _ _ c.begin.ensures c.write_whole-answer.ensures.adds _ _ _ c.tick.result (writes_work c.args.area) c.tick.ensures.time c.if-not-tick.false c.counted.ensures.clock c.args.self.now.timed;
-  named = λ is area. named_on (writes c.args.area) _ _ _ c.begin.ensures c.write_whole-answer.ensures.adds area (c.args.self.now.named is area);
+  timed = timed_on (writes c.args.area) _ _ _ c.begin.ensures c.write_whole-answer.ensures.adds _ _ _ c.tick.result
+      (writes_work c.args.area) c.tick.ensures.time c.if-not-tick.false c.counted.ensures.clock c.args.self.now.timed;
+  named = λ is area. named_on (writes c.args.area) _ _ _ c.begin.ensures c.write_whole-answer.ensures.adds area
+      (c.args.self.now.named is area);
 }
 
 pub returns-clause-does : goal.returns-clause-does
 returns-clause-does g c =
-    change_goes (writes c.args.area) _ _ _ c.begin.ensures c.write_whole-answer.ensures.adds g.C.Calls.first c.args.area (λ ok. Wrote ok c.args.at c.args.bytes.now) (is_ok c.counted.result) (is_ok c.write_whole-answer.result)
+    change_goes (writes c.args.area) _ _ _ c.begin.ensures c.write_whole-answer.ensures.adds g.C.Calls.first c.args.area
+    (λ ok. Wrote ok c.args.at c.args.bytes.now) (is_ok c.counted.result) (is_ok c.write_whole-answer.result)
     (writes_work c.args.area) (writes_spare c.args.area) c.counted.ensures.ok c.write_whole-answer.ensures.here

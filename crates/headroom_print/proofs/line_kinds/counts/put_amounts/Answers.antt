@@ -4,5 +4,6 @@ use Rattle.headroom_print.proofs.line_kinds.counts.put_amounts.Goals as goal
 pub returns : goal.returns
 returns c =
     closed _ c.end.result
-    (more (more (more (opened c.in_ok-begin.ensures) c.in_ok-put_number.ensures) c.in_ok-put_number-2.ensures) c.in_ok-put_number-3.ensures)
+    (more (more (more (opened c.in_ok-begin.ensures) c.in_ok-put_number.ensures) c.in_ok-put_number-2.ensures)
+    c.in_ok-put_number-3.ensures)
     c.end.ensures

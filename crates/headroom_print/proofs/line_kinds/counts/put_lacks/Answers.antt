@@ -9,7 +9,8 @@ use Rattle.headroom_print.proofs.line_kinds.counts.put_lacks.Goals as goal
 
 pub returns : goal.returns
 returns c =
-    let told = lacks_told c.lacking.result ∙ ap (λ ls. flat_map member_tokens (map count_named (filter is_some_count ls))) c.lacking.ensures in
+    let told = lacks_told c.lacking.result ∙ ap (λ ls. flat_map member_tokens
+    (map count_named (filter is_some_count ls))) c.lacking.ensures in
     built _ (map count_named (lacks c.args.reasons.now)) c.end.result c.in_ok-begin.ensures
     (subst (λ ts. AddsTokens c.begin.new.line c.add_lacks.new.line ts) told c.in_ok-add_lacks.ensures)
     c.end.ensures

@@ -19,7 +19,8 @@ add-requires-clause-few g c =
     let s = c.self.inside.state in
     let stays = c.reserve.ensures.stays in
     let still : IsSoundLocket c.reserve.new.self s =
-    sound_still l s c.self.invariant c.reserve.new.self (ap (λ (v : LogView g.row.D.Denot LockCommand). v.start) stays) (ap (λ (v : LogView g.row.D.Denot LockCommand). v.log) stays) in
+    sound_still l s c.self.invariant c.reserve.new.self (ap (λ (v : LogView g.row.D.Denot LockCommand). v.start) stays)
+    (ap (λ (v : LogView g.row.D.Denot LockCommand). v.log) stays) in
     few_payloads c.reserve.new.self s still
 
 pub invariant_of-self-then-is_err-2 : goal.invariant_of-self-then-is_err-2
@@ -29,13 +30,19 @@ invariant_of-self-then-is_err-2 g c =
     let command = c.args.command.now in
     let stays = c.reserve.ensures.stays in
     let still : IsSoundLocket c.reserve.new.self s =
-    sound_still l s c.self.invariant c.reserve.new.self (ap (λ (v : LogView g.row.D.Denot LockCommand). v.start) stays) (ap (λ (v : LogView g.row.D.Denot LockCommand). v.log) stays) in
-    let before : lock_step (state_of (lived (commands_in l.start.payloads) l.log)) command ≡ Changes c.args.next c.args.answer =
-    subst (λ (v : LocketView g.row.D.Denot). lock_step (state_of (life_of v)) command ≡ Changes c.args.next c.args.answer) (sym c.self.view_is) c.requires in
-    let step : lock_step s command ≡ Changes c.args.next c.args.answer = subst (λ (t : LockState). lock_step t command ≡ Changes c.args.next c.args.answer) (sym c.self.invariant.state_is) before in
+    sound_still l s c.self.invariant c.reserve.new.self (ap (λ (v : LogView g.row.D.Denot LockCommand). v.start) stays)
+    (ap (λ (v : LogView g.row.D.Denot LockCommand). v.log) stays) in
+    let before : lock_step (state_of (lived (commands_in l.start.payloads) l.log)) command
+    ≡ Changes c.args.next c.args.answer =
+    subst (λ (v : LocketView g.row.D.Denot). lock_step (state_of (life_of v)) command
+    ≡ Changes c.args.next c.args.answer) (sym c.self.view_is) c.requires in
+    let step : lock_step s command ≡ Changes c.args.next c.args.answer =
+    subst (λ (t : LockState). lock_step t command ≡ Changes c.args.next c.args.answer)
+    (sym c.self.invariant.state_is) before in
     let failed : is_ok c.add.result ≡ false = search rules in
     let grows = c.add.ensures.grows in
-    sound_more c.reserve.new.self s still c.add.new.self (is_ok c.add.result) command s grows.start grows.log c.fits.ensures (is_changed s command c.args.next c.args.answer step)
+    sound_more c.reserve.new.self s still c.add.new.self (is_ok c.add.result) command s grows.start grows.log
+    c.fits.ensures (is_changed s command c.args.next c.args.answer step)
     (ap (λ (b : Bool). if b then state_after s command else s) (sym failed))
 
 pub invariant_of-self-2 : goal.invariant_of-self-2
@@ -45,14 +52,21 @@ invariant_of-self-2 g c =
     let command = c.args.command.now in
     let stays = c.reserve.ensures.stays in
     let still : IsSoundLocket c.reserve.new.self s =
-    sound_still l s c.self.invariant c.reserve.new.self (ap (λ (v : LogView g.row.D.Denot LockCommand). v.start) stays) (ap (λ (v : LogView g.row.D.Denot LockCommand). v.log) stays) in
-    let before : lock_step (state_of (lived (commands_in l.start.payloads) l.log)) command ≡ Changes c.args.next c.args.answer =
-    subst (λ (v : LocketView g.row.D.Denot). lock_step (state_of (life_of v)) command ≡ Changes c.args.next c.args.answer) (sym c.self.view_is) c.requires in
-    let step : lock_step s command ≡ Changes c.args.next c.args.answer = subst (λ (t : LockState). lock_step t command ≡ Changes c.args.next c.args.answer) (sym c.self.invariant.state_is) before in
+    sound_still l s c.self.invariant c.reserve.new.self (ap (λ (v : LogView g.row.D.Denot LockCommand). v.start) stays)
+    (ap (λ (v : LogView g.row.D.Denot LockCommand). v.log) stays) in
+    let before : lock_step (state_of (lived (commands_in l.start.payloads) l.log)) command
+    ≡ Changes c.args.next c.args.answer =
+    subst (λ (v : LocketView g.row.D.Denot). lock_step (state_of (life_of v)) command
+    ≡ Changes c.args.next c.args.answer) (sym c.self.view_is) c.requires in
+    let step : lock_step s command ≡ Changes c.args.next c.args.answer =
+    subst (λ (t : LockState). lock_step t command ≡ Changes c.args.next c.args.answer)
+    (sym c.self.invariant.state_is) before in
     let made : is_ok c.add.result ≡ true = search rules in
     let grows = c.add.ensures.grows in
-    sound_more c.reserve.new.self s still c.add.new.self (is_ok c.add.result) command c.args.next grows.start grows.log c.fits.ensures (is_changed s command c.args.next c.args.answer step)
-    (sym (after_is s command c.args.next c.args.answer step) ∙ ap (λ (b : Bool). if b then state_after s command else s) (sym made))
+    sound_more c.reserve.new.self s still c.add.new.self (is_ok c.add.result) command c.args.next grows.start grows.log
+    c.fits.ensures (is_changed s command c.args.next c.args.answer step)
+    (sym (after_is s command c.args.next c.args.answer step) ∙ ap (λ (b : Bool). if b then state_after s command else s)
+    (sym made))
 
 pub returns-then-is_err-2-clause-does : goal.returns-then-is_err-2-clause-does
 returns-then-is_err-2-clause-does g c =
@@ -63,15 +77,26 @@ returns-then-is_err-2-clause-does g c =
     let stays = c.reserve.ensures.stays in
     let new = c.add.new.self in
     let still : IsSoundLocket c.reserve.new.self s =
-    sound_still l s c.self.invariant c.reserve.new.self (ap (λ (v : LogView g.row.D.Denot LockCommand). v.start) stays) (ap (λ (v : LogView g.row.D.Denot LockCommand). v.log) stays) in
-    let before : lock_step (state_of (lived (commands_in l.start.payloads) l.log)) command ≡ Changes c.args.next c.args.answer =
-    subst (λ (v : LocketView g.row.D.Denot). lock_step (state_of (life_of v)) command ≡ Changes c.args.next c.args.answer) (sym c.self.view_is) c.requires in
-    let step : lock_step s command ≡ Changes c.args.next c.args.answer = subst (λ (t : LockState). lock_step t command ≡ Changes c.args.next c.args.answer) (sym c.self.invariant.state_is) before in
+    sound_still l s c.self.invariant c.reserve.new.self (ap (λ (v : LogView g.row.D.Denot LockCommand). v.start) stays)
+    (ap (λ (v : LogView g.row.D.Denot LockCommand). v.log) stays) in
+    let before : lock_step (state_of (lived (commands_in l.start.payloads) l.log)) command
+    ≡ Changes c.args.next c.args.answer =
+    subst (λ (v : LocketView g.row.D.Denot). lock_step (state_of (life_of v)) command
+    ≡ Changes c.args.next c.args.answer) (sym c.self.view_is) c.requires in
+    let step : lock_step s command ≡ Changes c.args.next c.args.answer =
+    subst (λ (t : LockState). lock_step t command ≡ Changes c.args.next c.args.answer)
+    (sym c.self.invariant.state_is) before in
     let failed : is_ok c.add.result ≡ false = search rules in
-    let does = passes_lock c.reserve.new.self s still command c.fits.ensures (is_changed s command c.args.next c.args.answer step) (told c.reserve.new.self.disk) (told new.disk) c.reserve.new.self.waits (is_ok c.add.result) new.waits c.add.ensures.does in
-    subst (λ (v : LocketView g.row.D.Denot). Goes (told v.disk) (told new.disk) (PassesLock v.waits false new.waits (life_of v) command)) c.self.view_is
-    (subst (λ (v : LogView g.row.D.Denot LockCommand). Goes (told v.disk) (told new.disk) (PassesLock v.waits false new.waits (lived (commands_in v.start.payloads) v.log) command)) stays
-    (subst (λ (b : Bool). Goes (told c.reserve.new.self.disk) (told new.disk) (PassesLock c.reserve.new.self.waits b new.waits (lived (commands_in c.reserve.new.self.start.payloads) c.reserve.new.self.log) command)) failed does))
+    let does = passes_lock c.reserve.new.self s still command c.fits.ensures
+    (is_changed s command c.args.next c.args.answer step) (told c.reserve.new.self.disk)
+    (told new.disk) c.reserve.new.self.waits (is_ok c.add.result) new.waits c.add.ensures.does in
+    subst (λ (v : LocketView g.row.D.Denot). Goes (told v.disk) (told new.disk)
+    (PassesLock v.waits false new.waits (life_of v) command)) c.self.view_is
+    (subst (λ (v : LogView g.row.D.Denot LockCommand). Goes (told v.disk) (told new.disk)
+    (PassesLock v.waits false new.waits (lived (commands_in v.start.payloads) v.log) command)) stays
+    (subst (λ (b : Bool). Goes (told c.reserve.new.self.disk) (told new.disk)
+    (PassesLock c.reserve.new.self.waits b new.waits (lived
+    (commands_in c.reserve.new.self.start.payloads) c.reserve.new.self.log) command)) failed does))
 
 pub returns-clause-does : goal.returns-clause-does
 returns-clause-does g c =
@@ -82,12 +107,23 @@ returns-clause-does g c =
     let stays = c.reserve.ensures.stays in
     let new = c.add.new.self in
     let still : IsSoundLocket c.reserve.new.self s =
-    sound_still l s c.self.invariant c.reserve.new.self (ap (λ (v : LogView g.row.D.Denot LockCommand). v.start) stays) (ap (λ (v : LogView g.row.D.Denot LockCommand). v.log) stays) in
-    let before : lock_step (state_of (lived (commands_in l.start.payloads) l.log)) command ≡ Changes c.args.next c.args.answer =
-    subst (λ (v : LocketView g.row.D.Denot). lock_step (state_of (life_of v)) command ≡ Changes c.args.next c.args.answer) (sym c.self.view_is) c.requires in
-    let step : lock_step s command ≡ Changes c.args.next c.args.answer = subst (λ (t : LockState). lock_step t command ≡ Changes c.args.next c.args.answer) (sym c.self.invariant.state_is) before in
+    sound_still l s c.self.invariant c.reserve.new.self (ap (λ (v : LogView g.row.D.Denot LockCommand). v.start) stays)
+    (ap (λ (v : LogView g.row.D.Denot LockCommand). v.log) stays) in
+    let before : lock_step (state_of (lived (commands_in l.start.payloads) l.log)) command
+    ≡ Changes c.args.next c.args.answer =
+    subst (λ (v : LocketView g.row.D.Denot). lock_step (state_of (life_of v)) command
+    ≡ Changes c.args.next c.args.answer) (sym c.self.view_is) c.requires in
+    let step : lock_step s command ≡ Changes c.args.next c.args.answer =
+    subst (λ (t : LockState). lock_step t command ≡ Changes c.args.next c.args.answer)
+    (sym c.self.invariant.state_is) before in
     let made : is_ok c.add.result ≡ true = search rules in
-    let does = passes_lock c.reserve.new.self s still command c.fits.ensures (is_changed s command c.args.next c.args.answer step) (told c.reserve.new.self.disk) (told new.disk) c.reserve.new.self.waits (is_ok c.add.result) new.waits c.add.ensures.does in
-    subst (λ (v : LocketView g.row.D.Denot). Goes (told v.disk) (told new.disk) (PassesLock v.waits true new.waits (life_of v) command)) c.self.view_is
-    (subst (λ (v : LogView g.row.D.Denot LockCommand). Goes (told v.disk) (told new.disk) (PassesLock v.waits true new.waits (lived (commands_in v.start.payloads) v.log) command)) stays
-    (subst (λ (b : Bool). Goes (told c.reserve.new.self.disk) (told new.disk) (PassesLock c.reserve.new.self.waits b new.waits (lived (commands_in c.reserve.new.self.start.payloads) c.reserve.new.self.log) command)) made does))
+    let does = passes_lock c.reserve.new.self s still command c.fits.ensures
+    (is_changed s command c.args.next c.args.answer step) (told c.reserve.new.self.disk)
+    (told new.disk) c.reserve.new.self.waits (is_ok c.add.result) new.waits c.add.ensures.does in
+    subst (λ (v : LocketView g.row.D.Denot). Goes (told v.disk) (told new.disk)
+    (PassesLock v.waits true new.waits (life_of v) command)) c.self.view_is
+    (subst (λ (v : LogView g.row.D.Denot LockCommand). Goes (told v.disk) (told new.disk)
+    (PassesLock v.waits true new.waits (lived (commands_in v.start.payloads) v.log) command)) stays
+    (subst (λ (b : Bool). Goes (told c.reserve.new.self.disk) (told new.disk)
+    (PassesLock c.reserve.new.self.waits b new.waits (lived
+    (commands_in c.reserve.new.self.start.payloads) c.reserve.new.self.log) command)) made does))

@@ -16,5 +16,7 @@ pub returns-clause-kept : goal.returns-clause-kept
 returns-clause-kept g c =
     let l = c.self.inside.log in
     let sound = c.self.invariant in
-    subst (λ (v : LocketView g.row.D.Denot). ForSome (g.D.Disk.told v.disk) (KeptLocks v.base v.log v.marks v.since)) c.self.view_is
-    (λ p is. kept_locks l.start sound.opened l.log sound.fits sound.lawful l.marks l.since p (c.into_parts-disk.ensures.kept p is))
+    subst (λ (v : LocketView g.row.D.Denot). ForSome (g.D.Disk.told v.disk) (KeptLocks v.base v.log v.marks v.since))
+    c.self.view_is
+    (λ p is. kept_locks l.start sound.opened l.log sound.fits sound.lawful l.marks l.since p
+    (c.into_parts-disk.ensures.kept p is))

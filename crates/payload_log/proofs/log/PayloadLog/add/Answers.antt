@@ -25,14 +25,21 @@ invariant_of-self g c =
     let payloads : List (List ℕ) = payloads_of b.frames.value.items in
     let bytes = c.put-len.ensures.bytes in
     let log_is : c.push_reserved.new.self.items ≡ b.log.items ++ entry_of (is_ok c.put-stored.result) x ∷ [] =
-    c.push_reserved.ensures.items ∙ ap (λ (e : Entry g.row.X.Denot). b.log.items ++ e ∷ []) (c.entry_of-entry.ensures ∙ ap (λ (d : Bool). entry_of d x) c.is_ok.ensures.value) in
-    subst (λ (l : List (Entry g.row.X.Denot)). IsSound spelling told faults (opened_in later head payloads) l c.push_reserved-2.new.self.items b.since b.faults later) (sym log_is)
-    (subst (λ (m : List ℕ). IsSound spelling told faults (opened_in later head payloads) (b.log.items ++ entry_of (is_ok c.put-stored.result) x ∷ []) m b.since b.faults later) (sym c.push_reserved-2.ensures.items)
-    (sound_more spelling told faults head payloads b.log.items b.marks.items b.since b.faults b.journal later c.self.invariant x (is_ok c.put-stored.result) c.clock-mark.result
+    c.push_reserved.ensures.items ∙ ap (λ (e : Entry g.row.X.Denot). b.log.items ++ e ∷ [])
+    (c.entry_of-entry.ensures ∙ ap (λ (d : Bool). entry_of d x) c.is_ok.ensures.value) in
+    subst (λ (l : List (Entry g.row.X.Denot)). IsSound spelling told faults
+    (opened_in later head payloads) l c.push_reserved-2.new.self.items b.since b.faults later) (sym log_is)
+    (subst (λ (m : List ℕ). IsSound spelling told faults (opened_in later head payloads)
+    (b.log.items ++ entry_of (is_ok c.put-stored.result) x ∷ []) m b.since b.faults later)
+    (sym c.push_reserved-2.ensures.items)
+    (sound_more spelling told faults head payloads b.log.items b.marks.items b.since b.faults b.journal later
+    c.self.invariant x (is_ok c.put-stored.result) c.clock-mark.result
     (λ q is. g.met.D.Disk.timed later.disk q is ∙ sym c.clock-mark.ensures)
-    (puts_as (is_ok c.put-stored.result) (is_ok c.put-stored.result) _ _ refl bytes _ _ _ _ _ _ c.put-stored.ensures.does)
+    (puts_as (is_ok c.put-stored.result) (is_ok c.put-stored.result) _ _ refl bytes _ _ _ _ _ _
+    c.put-stored.ensures.does)
     (grows_as (is_ok c.put-stored.result) (is_ok c.put-stored.result) _ _ refl bytes _ _ c.put-stored.ensures.grows)
-    (subst (λ (e : Bool). HasCause e (faults b.journal.disk) (faults later.disk)) (err_is c.put-stored.result) c.put-stored.ensures.cause)))
+    (subst (λ (e : Bool). HasCause e (faults b.journal.disk) (faults later.disk))
+    (err_is c.put-stored.result) c.put-stored.ensures.cause)))
 
 pub returns-clause-does : goal.returns-clause-does
 returns-clause-does g c =
@@ -45,7 +52,13 @@ returns-clause-does g c =
     let start = opened_in b.journal b.head.value.items (payloads_of b.frames.value.items) in
     let bytes = c.put-len.ensures.bytes in
     let puts = puts_as ok ok _ _ refl bytes _ _ _ _ _ _ c.put-stored.ensures.does in
-    let extends = puts_extend spelling (told b.journal.disk) (told later.disk) start b.log.items b.marks.items b.since b.journal.end (is_waiting b.journal.waiting) c.self.invariant.holds ok (is_waiting later.waiting) (spelling x) puts in
-    let does = passes_by spelling (told b.journal.disk) (told later.disk) start b.log.items b.marks.items b.since b.journal.end (is_waiting b.journal.waiting) c.self.invariant.holds (spelling x) ok (is_waiting later.waiting) extends
+    let extends = puts_extend spelling (told b.journal.disk)
+    (told later.disk) start b.log.items b.marks.items b.since b.journal.end
+    (is_waiting b.journal.waiting) c.self.invariant.holds ok (is_waiting later.waiting) (spelling x) puts in
+    let does = passes_by spelling (told b.journal.disk) (told later.disk) start b.log.items b.marks.items b.since
+    b.journal.end (is_waiting b.journal.waiting) c.self.invariant.holds (spelling x) ok
+    (is_waiting later.waiting) extends
     (λ calm. adds_as ok ok _ _ refl bytes _ _ _ _ _ (c.put-stored.ensures.appends calm)) in
-    subst (λ (v : LogView g.row.D.Denot g.row.X.Denot). Goes (told v.disk) (told later.disk) (PassesAdd v.waits (is_ok c.put-stored.result) (is_waiting later.waiting) v.start (stored_in spelling v.log) (spelling x))) c.self.view_is does
+    subst (λ (v : LogView g.row.D.Denot g.row.X.Denot). Goes (told v.disk) (told later.disk)
+    (PassesAdd v.waits (is_ok c.put-stored.result) (is_waiting later.waiting) v.start (stored_in spelling v.log)
+    (spelling x))) c.self.view_is does

@@ -12,9 +12,14 @@ invariant_of-result g c =
     let told = g.D.Disk.told in
     let faults = g.D.Disk.fault_count in
     let journal = c.args.loaded.journal in
-    let begun = begun_sound spelling told faults c.args.loaded c.clock.result c.args.faults c.requires.can c.requires.faults (λ q is. g.met.D.Disk.timed journal.disk q is ∙ sym c.clock.ensures) in
-    let start_is : opened_by c.args.loaded ≡ opened_in journal c.of.result.value.items (payloads_of c.of-2.result.value.items) =
+    let begun = begun_sound spelling told faults c.args.loaded c.clock.result c.args.faults c.requires.can
+    c.requires.faults (λ q is. g.met.D.Disk.timed journal.disk q is ∙ sym c.clock.ensures) in
+    let start_is : opened_by c.args.loaded ≡ opened_in journal c.of.result.value.items
+    (payloads_of c.of-2.result.value.items) =
     λ i. opened_in journal (sym c.of.ensures i).items (payloads_of (sym c.of-2.ensures i).items) in
-    subst (λ (s : Opened). IsSound spelling told faults s c.new.result.items c.new-2.result.items c.clock.result c.args.faults journal) start_is
-    (subst (λ (l : List (Entry g.row.X.Denot)). IsSound spelling told faults (opened_by c.args.loaded) l c.new-2.result.items c.clock.result c.args.faults journal) (sym c.new.ensures.items)
-    (subst (λ (m : List ℕ). IsSound spelling told faults (opened_by c.args.loaded) [] m c.clock.result c.args.faults journal) (sym c.new-2.ensures.items) begun))
+    subst (λ (s : Opened). IsSound spelling told faults s c.new.result.items c.new-2.result.items c.clock.result
+    c.args.faults journal) start_is
+    (subst (λ (l : List (Entry g.row.X.Denot)). IsSound spelling told faults
+    (opened_by c.args.loaded) l c.new-2.result.items c.clock.result c.args.faults journal) (sym c.new.ensures.items)
+    (subst (λ (m : List ℕ). IsSound spelling told faults (opened_by c.args.loaded) [] m c.clock.result c.args.faults
+    journal) (sym c.new-2.ensures.items) begun))

@@ -9,6 +9,7 @@ invariant-loop-number g l = record {
   keeps : g.P.Port.keeps l.initial.port l.port;
   number : g.P.Port.number l.port ≡ g.P.Port.number l.initial.port;
   taken : Takes (g.P.Port.number l.initial.port) l.now (map (turn_at l.line) (range_with_len 0 l.number))
-      (actor_standing l.initial.self (g.P.Port.view l.initial.port) l.initial.out.items) (actor_standing l.self (g.P.Port.view l.port) l.out.items);
+      (actor_standing l.initial.self (g.P.Port.view l.initial.port) l.initial.out.items)
+      (actor_standing l.self (g.P.Port.view l.port) l.out.items);
   one : IsOneActor l.initial.self l.self;
 }

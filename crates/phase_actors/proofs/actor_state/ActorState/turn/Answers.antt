@@ -18,7 +18,8 @@ pub returns-in-Ok-add_all-clause-taken : goal.returns-in-Ok-add_all-clause-taken
 returns-in-Ok-add_all-clause-taken g c = record {
   new = map (line_answer by line.line) calls;
   out_is = c.in-Ok-add_all.ensures
-      ∙ ap (λ (xs : List Called). c.args.out.now.items ++ map (line_answer line.actor line.line) xs) c.deref-2.ensures.value
+      ∙ ap (λ (xs : List Called). c.args.out.now.items ++ map (line_answer line.actor line.line) xs)
+      c.deref-2.ensures.value
       ∙ ap (λ n. c.args.out.now.items ++ map (line_answer n line.line) calls) (sym c.requires.number);
   taken = one_taken by c.args.now (line_turn line c.args.mark) _ _ _ _ calls c.in-Ok.ensures.ran;
   fed = unfed_answers by line.line calls

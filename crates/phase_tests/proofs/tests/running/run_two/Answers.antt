@@ -20,16 +20,20 @@ client_can (act.Client op) name clients = tt
 client_can (act.Cell c) name clients = cc (clients)
 client_can act.Evacuate name clients = cc (clients)
 
-of_client : (lines : List Line) → are_of_clients lines ≡ true → (by : ℕ) (l : Line) → Contains (lines_by by lines) l → not (is_of_cell l.act) ≡ true
+of_client : (lines : List Line) → are_of_clients lines ≡ true → (by : ℕ) (l : Line) → Contains (lines_by by lines) l
+    → not (is_of_cell l.act) ≡ true
 of_client lines clients by l inside =
     All-contains (λ x. not (is_of_cell x.act) ≡ true) (lines_by by lines) l
-    (All-filter (λ x. x.actor == by) (λ x. not (is_of_cell x.act) ≡ true) lines (AllPass-from_list_all (λ x. not (is_of_cell x.act)) lines clients)) inside
+    (All-filter (λ x. x.actor == by) (λ x. not (is_of_cell x.act) ≡ true) lines
+    (AllPass-from_list_all (λ x. not (is_of_cell x.act)) lines clients)) inside
 
 both_can : (lines : List Line) (n m : List ℕ) → are_of_clients lines ≡ true → CanAllDo lines (Client n ∷ Client m ∷ [])
 both_can lines n m clients zero a is l inside =
-    subst (IsActOf l.act) (one_of (Some (Client n)) (Client n) a refl is) (client_can l.act n (of_client lines clients 1 l inside))
+    subst (IsActOf l.act) (one_of (Some (Client n)) (Client n) a refl is)
+    (client_can l.act n (of_client lines clients 1 l inside))
 both_can lines n m clients (suc zero) a is l inside =
-    subst (IsActOf l.act) (one_of (Some (Client m)) (Client m) a refl is) (client_can l.act m (of_client lines clients 2 l inside))
+    subst (IsActOf l.act) (one_of (Some (Client m)) (Client m) a refl is)
+    (client_can l.act m (of_client lines clients 2 l inside))
 both_can lines n m clients (suc (suc k)) a is l inside = cc (is)
 
 pub run_phase-board-requires-clause-can : goal.run_phase-board-requires-clause-can

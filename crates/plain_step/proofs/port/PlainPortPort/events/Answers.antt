@@ -7,8 +7,10 @@ use Rattle.plain_step.proofs.port.PlainPortPort.events.Goals as goal
 pub hear-requires : goal.hear-requires
 hear-requires c =
     let told : length c.as_slice.result.now ≡ length c.self.inside.log.items =
-    ap length (c.as_slice.ensures.value ∙ c.self.invariant.told_is) ∙ length-told_in c.self.inside.base c.self.inside.log.items in
-    let seen : length c.self.inside.log.items ≡ length c.args.self.now.log = ap (λ (p : PlainBoard). length p.log) c.self.view_is in
+    ap length (c.as_slice.ensures.value ∙ c.self.invariant.told_is) ∙ length-told_in c.self.inside.base
+    c.self.inside.log.items in
+    let seen : length c.self.inside.log.items ≡ length c.args.self.now.log =
+    ap (λ (p : PlainBoard). length p.log) c.self.view_is in
     omega (arith, told, seen, c.requires)
 
 pub returns-clause-heard : goal.returns-clause-heard

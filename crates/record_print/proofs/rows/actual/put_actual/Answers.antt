@@ -6,5 +6,10 @@ use Rattle.record_print.proofs.rows.actual.put_actual.Goals as goal
 pub returns : goal.returns
 returns c =
     closed _ c.end.result
-    (more_text c.word_of.ensures (more (more_text c.as_str.ensures (more_text c.presence_word.ensures (more_as (ap (λ it. optional_instance_data it) c.holder.ensures) (more (more (more (more_as (ap (λ it. optional_name_data it) c.cell.ensures) (opened c.in_ok-begin.ensures) c.in_ok-put_optional_name.ensures) c.in_ok-put_number.ensures) c.in_ok-put_truth.ensures) c.in_ok-put_number-2.ensures) c.in_ok-put_optional_instance.ensures) c.in_ok-put_text.ensures) c.in_ok-put_text-2.ensures) c.in_ok-put_number-3.ensures) c.in_ok-put_text-3.ensures)
+    (more_text c.word_of.ensures (more (more_text c.as_str.ensures
+    (more_text c.presence_word.ensures (more_as (ap (λ it. optional_instance_data it) c.holder.ensures)
+    (more (more (more (more_as (ap (λ it. optional_name_data it) c.cell.ensures)
+    (opened c.in_ok-begin.ensures) c.in_ok-put_optional_name.ensures) c.in_ok-put_number.ensures)
+    c.in_ok-put_truth.ensures) c.in_ok-put_number-2.ensures) c.in_ok-put_optional_instance.ensures)
+    c.in_ok-put_text.ensures) c.in_ok-put_text-2.ensures) c.in_ok-put_number-3.ensures) c.in_ok-put_text-3.ensures)
     c.end.ensures

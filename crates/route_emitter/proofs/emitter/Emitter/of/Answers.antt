@@ -27,4 +27,5 @@ returns c =
     is-routing c.args.rows.now _ c.requires.desired.rising c.requires.actual.rising
     (c.in_ok-kept.ensures.desired ∙ ap (filter has_route) c.items.ensures)
     running
-    (c.in_ok-table.ensures ∙ ap (routes_in desired) c.items-4.ensures ∙ sym (routes-running desired _) ∙ ap (routes_in desired) (sym running))
+    (c.in_ok-table.ensures ∙ ap (routes_in desired) c.items-4.ensures ∙ sym (routes-running desired _) ∙ ap
+    (routes_in desired) (sym running))

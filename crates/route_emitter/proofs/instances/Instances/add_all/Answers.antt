@@ -22,18 +22,23 @@ loop-event-preserved c =
           let now = contains key_order w.add.new.self.set in
           let at = subst (λ (o : Option Key). IfSome o (IsIndexed now)) (sym w.in-Some.is) w.in_ok-add.ensures.there in
           record {
-            more = λ k h. subst (λ (x : Instances). contains key_order x.set k ≡ true) (sym w.self-is) (w.in_ok-add.ensures.more k (c.loop-event.invariant.more k h));
+            more = λ k h. subst (λ (x : Instances). contains key_order x.set k ≡ true) (sym w.self-is)
+                (w.in_ok-add.ensures.more k (c.loop-event.invariant.more k h));
             covered = subst (λ (x : Instances). WillCover (contains key_order x.set) (take (i + 1) es)) (sym w.self-is)
-                (will-next was now es i e c.key_put.result c.loop-event-test.true w.in_ok-add.ensures.more put at c.loop-event.invariant.covered);
+                (will-next was now es i e c.key_put.result c.loop-event-test.true w.in_ok-add.ensures.more put at
+                c.loop-event.invariant.covered);
           }
       | in_default w ↦
           let at = subst (λ (o : Option Key). IfSome o (IsIndexed was)) (sym w.in_default.is) tt in
           record {
-            more = λ k h. subst (λ (x : Instances). contains key_order x.set k ≡ true) (sym w.self-is) (c.loop-event.invariant.more k h);
+            more = λ k h. subst (λ (x : Instances). contains key_order x.set k ≡ true) (sym w.self-is)
+                (c.loop-event.invariant.more k h);
             covered = subst (λ (x : Instances). WillCover (contains key_order x.set) (take (i + 1) es)) (sym w.self-is)
-                (will-next was was es i e c.key_put.result c.loop-event-test.true (λ k h. h) put at c.loop-event.invariant.covered);
+                (will-next was was es i e c.key_put.result c.loop-event-test.true
+                (λ k h. h) put at c.loop-event.invariant.covered);
           }
     ]
 
 pub returns-clause-all : goal.returns-clause-all
-returns-clause-all c = will-all (contains key_order c.loop-event.self.set) c.args.events.now c.loop-event.event-index (omega arith) c.loop-event.invariant.covered
+returns-clause-all c = will-all (contains key_order c.loop-event.self.set) c.args.events.now c.loop-event.event-index
+    (omega arith) c.loop-event.invariant.covered

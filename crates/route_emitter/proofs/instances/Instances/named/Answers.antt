@@ -15,4 +15,5 @@ returns c =
     let listed = c.as_slice.ensures.value ∙ c.in_ok-processes.ensures in
     named-all c.args.self.now.set c.args.events.now c.put_in_order.new.items.items
     (c.put_in_order.ensures.items
-    ∙ ap (table key_order (λ k. k)) (c.in_ok-list_all.ensures ∙ (λ i. c.in_ok-named.ensures i ++ flat_map (of_process c.args.self.now.set.keys) (listed i))))
+    ∙ ap (table key_order (λ k. k)) (c.in_ok-list_all.ensures ∙
+    (λ i. c.in_ok-named.ensures i ++ flat_map (of_process c.args.self.now.set.keys) (listed i))))

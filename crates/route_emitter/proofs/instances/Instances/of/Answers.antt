@@ -22,9 +22,11 @@ loop-row-preserved c =
           let now = contains key_order w.add.new.self.set in
           let there = subst (λ (r : Actual). IsIndexed now r.key) c.row-item.is w.in_ok-add.ensures.there in
           subst cover (sym w.instances-is)
-          (covers-next now rows i row c.loop-row-test.true (λ _. there) (covers-more was now (filter is_running (take i rows)) w.in_ok-add.ensures.more c.loop-row.invariant))
+          (covers-next now rows i row c.loop-row-test.true (λ _. there)
+          (covers-more was now (filter is_running (take i rows)) w.in_ok-add.ensures.more c.loop-row.invariant))
       | else-is_running w ↦
           subst cover (sym w.instances-is)
           (covers-next was rows i row c.loop-row-test.true
-          (λ is. absurd (false≢true (sym w.if-is_running.false ∙ c.is_running.ensures ∙ ap (λ (r : Actual). is_running r) c.row-item.is ∙ is))) c.loop-row.invariant)
+          (λ is. absurd (false≢true (sym w.if-is_running.false ∙ c.is_running.ensures ∙ ap
+          (λ (r : Actual). is_running r) c.row-item.is ∙ is))) c.loop-row.invariant)
     ]

@@ -12,5 +12,6 @@ returns c =
     let entries = members.object.now.entries in
     let read = c.index-said-place.result in
     let is = c.index-said-place.is ∙ ap (λ i. slice_index_or members.said.now i read) c.place.ensures.is in
-    read_kept members.said.now (place c.args.member) read (value_named (word c.args.member) entries) is (members.kept c.args.member)
+    read_kept members.said.now (place c.args.member) read (value_named (word c.args.member) entries) is
+    (members.kept c.args.member)
     ∙ view-lookup (word c.args.member) entries

@@ -6,8 +6,19 @@ use Rattle.step_tests.proofs.tests.verdicts.board.Goals as goal
 
 pub returns : goal.returns
 returns c =
-    let row : Desired = record { process = c.args.web; domain = c.args.web; instances = 1; memory = 64; disk = 128; tag = None; route = None; port = 8080 } in
-    let desired : c.from.result ≡ row ∷ [] = c.from.ensures ∙ c.in_ok-desired.ensures.items ∙ ap (λ d. d ∷ []) c.process.ensures in
+    let row : Desired = record {
+      process = c.args.web;
+      domain = c.args.web;
+      instances = 1;
+      memory = 64;
+      disk =
+          128;
+      tag = None;
+      route = None;
+      port = 8080;
+    } in
+    let desired : c.from.result ≡ row ∷ [] = c.from.ensures ∙ c.in_ok-desired.ensures.items ∙ ap
+    (λ d. d ∷ []) c.process.ensures in
     record {
       desired = subst AreDesired (sym desired) (one_desired row (omega arith));
       actual = subst (AreActual c.args.next) (sym c.new.ensures) (no_actual c.args.next);

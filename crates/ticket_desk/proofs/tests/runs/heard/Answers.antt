@@ -16,7 +16,8 @@ pub append-requires-2 : goal.append-requires-2
 append-requires-2 g c = let three = c.in_ok-zero.ensures in c.meet.ensures.hearer.desk ∙ three.2.desk
 
 pub turn-first-requires-clause-desk : goal.turn-first-requires-clause-desk
-turn-first-requires-clause-desk g c = let three = c.in_ok-zero.ensures in c.append-2.ensures.desk ∙ c.meet.ensures.hearer.desk ∙ three.2.desk
+turn-first-requires-clause-desk g c = let three = c.in_ok-zero.ensures in
+    c.append-2.ensures.desk ∙ c.meet.ensures.hearer.desk ∙ three.2.desk
 
 pub left-requires : goal.left-requires
 left-requires g c =

@@ -6,20 +6,24 @@ use Rattle.ticket_desk.proofs.Public.{by_index, all_stay}
 use Rattle.ticket_desk.proofs.tests.runs.run_all.Goals as goal
 
 -- what a list is after all of it was lent
-lent_whole : {A : Type 0} (n : ℕ) (new old : List A) → length new ≡ length old → n ≡ length old → take n (new ++ drop (length new) old) ≡ new
+lent_whole : {A : Type 0} (n : ℕ) (new old : List A) → length new ≡ length old → n ≡ length old
+    → take n (new ++ drop (length new) old) ≡ new
 lent_whole n new old same is =
-    ap (λ xs. take n (new ++ xs)) (drop_all (length new) old (omega arith)) ∙ ap (λ xs. take n xs) (append-nil new) ∙ take_all n new (omega arith)
+    ap (λ xs. take n (new ++ xs)) (drop_all (length new) old (omega arith)) ∙ ap (λ xs. take n xs)
+    (append-nil new) ∙ take_all n new (omega arith)
 
 pub all_run-requires-clause-desk : goal.all_run-requires-clause-desk
 all_run-requires-clause-desk g c =
     let z = c.in_ok-desk.desk.table.shared.table_id in let items = c.in_ok-desk.passes.items in
     let all : AreAll z items = search rules in
     λ _ _ k d lt. subst (λ xs. (get_or xs k d).place.table_id ≡ z) (sym c.as_mut_slice.ensures.value)
-    (by_index (IsPass z (length items)) items all.1 k d (subst (λ xs. k < length xs) c.as_mut_slice.ensures.value lt)).desk
+    (by_index (IsPass z (length items)) items all.1 k d (subst
+    (λ xs. k < length xs) c.as_mut_slice.ensures.value lt)).desk
 
 pub close-requires : goal.close-requires
 close-requires g c =
-    let z = c.in_ok-desk.desk.table.shared.table_id in let items = c.in_ok-desk.passes.items in let new = c.all_run.new.passes in
+    let z = c.in_ok-desk.desk.table.shared.table_id in let items = c.in_ok-desk.passes.items in let new =
+    c.all_run.new.passes in
     let all : AreAll z items = search rules in
     let same : length new ≡ length items = c.all_run.auto.passes ∙ ap length c.as_mut_slice.ensures.value in
     let whole = lent_whole c.in_ok-desk.passes.len new items same c.in_ok-desk.passes.ok.0 in

@@ -10,7 +10,8 @@ pub loop-at-init : goal.loop-at-init
 loop-at-init c = record {
   within = omega arith;
   found = λ key.
-      let none : holder_in (drop (length c.args.stays.now) c.args.stays.now) key ≡ None = ap (λ (ss : List Stay). holder_in ss key) (drop-length c.args.stays.now) in
+      let none : holder_in (drop (length c.args.stays.now) c.args.stays.now) key ≡ None =
+      ap (λ (ss : List Stay). holder_in ss key) (drop-length c.args.stays.now) in
       grind (arith, common_steps, none);
 }
 
@@ -22,5 +23,6 @@ loop-at-preserved c =
       found = λ key.
           c.in_ok-insert.ensures.updates.0 key
           ∙ ap (λ (o : Option (List ℕ)). cond (same_key s.key key) (Some s.cell) o) (c.loop-at.invariant.found key)
-          ∙ holder_back c.args.stays.now c.loop-at.at s (omega arith) c.loop-at.invariant.within c.index-stays-at.is key;
+          ∙ holder_back c.args.stays.now c.loop-at.at s (omega arith) c.loop-at.invariant.within c.index-stays-at.is
+          key;
     }

@@ -6,4 +6,5 @@ pub returns-in-Claimed : goal.returns-in-Claimed
 returns-in-Claimed c = rw c.in-Claimed.is (Puts-then (omega (arith, c.requires)) c.put_u8-at.ensures c.put_at.ensures)
 
 pub returns-in-Running : goal.returns-in-Running
-returns-in-Running c = rw c.in-Running.is (Puts-then (omega (arith, c.requires)) c.put_u8-at-in-Running.ensures c.put_at-in-Running.ensures)
+returns-in-Running c = rw c.in-Running.is (Puts-then (omega (arith, c.requires)) c.put_u8-at-in-Running.ensures
+    c.put_at-in-Running.ensures)

@@ -6,7 +6,9 @@ pub returns-in-Running : goal.returns-in-Running
 returns-in-Running c = rw c.in-Running.is (Puts-then (omega (arith, c.requires)) c.put_u8-at.ensures c.put_at.ensures)
 
 pub returns-in-Completed : goal.returns-in-Completed
-returns-in-Completed c = rw c.in-Completed.is (Puts-then (omega (arith, c.requires)) c.put_u8-at-in-Completed.ensures c.put_at-in-Completed.ensures)
+returns-in-Completed c = rw c.in-Completed.is (Puts-then
+    (omega (arith, c.requires)) c.put_u8-at-in-Completed.ensures c.put_at-in-Completed.ensures)
 
 pub returns-in-Resolving : goal.returns-in-Resolving
-returns-in-Resolving c = rw c.in-Resolving.is (Puts-then (omega (arith, c.requires)) c.put_u8-at-in-Resolving.ensures c.put_at-in-Resolving.ensures)
+returns-in-Resolving c = rw c.in-Resolving.is (Puts-then
+    (omega (arith, c.requires)) c.put_u8-at-in-Resolving.ensures c.put_at-in-Resolving.ensures)

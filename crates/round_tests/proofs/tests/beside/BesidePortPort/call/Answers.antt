@@ -8,4 +8,5 @@ returns-clause-called g c =
     let u = c.pay_visit_if.new.board in
     let e = c.call-end in
     looks_called (seen_of 7 v) (seen_of 7 u) c.args.command e.result (seen_of 7 e.new.self) c.pay_visit_if.ensures
-    (own_called u e.new.self c.args.command e.result (g.D.Disk.moment e.new.self.disk) e.ensures.ends e.ensures.grows c.holds.ensures.few)
+    (own_called u e.new.self c.args.command e.result (g.D.Disk.moment e.new.self.disk) e.ensures.ends e.ensures.grows
+    c.holds.ensures.few)
