@@ -1,6 +1,6 @@
 -- Elements of lists: what is kept of them, and that lists of the same elements have one table.
 use Rattle.std.proofs.Common.{◌≡◌, zero, suc, true, false, cond, List, [], ◌∷◌, filter_map, Option, Some, None, refl, sym, ap, subst, ◌∙◌, arith}
-use Rattle.std.specs.List.{Contains, cons_option}
+use Rattle.std.specs.List.{AllZip, Contains, cons_option}
 use Rattle.std.specs.Ordering.{eq_by_cmp}
 use Rattle.std.specs.declared.cmp.Ordering.{Ordering}
 use Rattle.converge_laws.proofs.Public.{inside_first, inside_rest}
@@ -10,6 +10,11 @@ use Rattle.forecast_laws.specs.Plans.{HaveTheSame}
 
 pub some_one : {X : Type 0} (x y : X) → Some x ≡ Some y → x ≡ y
 some_one x y e = cc
+
+-- a list that has no element is empty
+pub none_inside : {X : Type 0} (xs : List X) → ((x : X) → Contains xs x → ⊥) → xs ≡ []
+none_inside [] h = refl
+none_inside (x ∷ xs) h = absurd (h x (inside_first x xs))
 
 -- what an element comes to stands among what is kept
 pub kept_inside : {X Y : Type 0} (f : X → Option Y) (xs : List X) (x : X) (y : Y) → Contains xs x → f x ≡ Some y
@@ -24,6 +29,25 @@ kept_inside {Y = Y} f (z ∷ xs) x y (suc k, lt, at) e =
       | None ↦ rest
       | (Some w) ↦ inside_rest y w (filter_map f xs) rest
     ]
+
+module _ {X Y : Type 0} (R : X → Y → Type 0) where
+  -- what stands among the first of two lists that agree place by place agrees with one among the others
+  pub zip_there : (xs : List X) (ys : List Y) (x : X) → AllZip R xs ys → Contains xs x → (y : Y) × Contains ys y × R x y
+  zip_there [] ys x h (k, lt, at) = absurd (omega arith)
+  zip_there (z ∷ xs) [] x h inside = absurd h
+  zip_there (z ∷ xs) (y ∷ ys) x h (zero, lt, at) = (y, inside_first y ys, subst (λ (a : X). R a y) at h.0)
+  zip_there (z ∷ xs) (y ∷ ys) x h (suc k, lt, at) =
+      let rest = zip_there xs ys x h.1 (k, omega arith, at) in
+      (rest.0, inside_rest rest.0 y ys rest.1, rest.2)
+
+  -- and so they agree in what follows
+  pub zip_more : (Q : X → Y → Type 0) (xs : List X) (ys : List Y)
+      → ((x : X) (y : Y) → Contains ys y → R x y → Q x y) → AllZip R xs ys → AllZip Q xs ys
+  zip_more Q [] [] f h = tt
+  zip_more Q [] (y ∷ ys) f h = absurd h
+  zip_more Q (x ∷ xs) [] f h = absurd h
+  zip_more Q (x ∷ xs) (y ∷ ys) f h =
+      (f x y (inside_first y ys) h.0, zip_more Q xs ys (λ a b inside. f a b (inside_rest b y ys inside)) h.1)
 
 module _ {K X : Type 0} (R : K → K → Ordering) (key : X → K) (o : IsKeyOrder R) where
   -- a row that is there is not missed at its key

@@ -12,7 +12,7 @@ use Rattle.what_if.specs.declared.site.Site.{Site}
 use Rattle.forecast_laws.specs.Plans.{HaveTheSame, IsReadAs}
 use Rattle.forecast_laws.specs.Records.{AreAnswersOf, IsAnswered}
 
-both_true : (a b : Bool) → (a && b) ≡ true → (a ≡ true) × (b ≡ true)
+pub both_true : (a b : Bool) → (a && b) ≡ true → (a ≡ true) × (b ≡ true)
 both_true true b e = (refl, e)
 both_true false b e = absurd cc
 

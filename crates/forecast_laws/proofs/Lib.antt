@@ -5,3 +5,15 @@ mod Found
 mod RowsRead
 mod CellsRead
 mod SiteRead
+mod Holders
+mod Ground
+mod Untouched
+mod HeldStill
+mod OrdinaryLeft
+mod OthersLeft
+mod Namers
+mod HoldersLeft
+mod RowsLeft
+mod SiteLeft
+mod AllHeard
+mod LossRound

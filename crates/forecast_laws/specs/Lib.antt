@@ -1,3 +1,4 @@
 pub mod Plans
 pub mod Rooms
 pub mod Records
+pub mod Losses

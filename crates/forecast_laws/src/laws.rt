@@ -1,12 +1,17 @@
 //! The laws. These functions do nothing: they are there for what they ensure. Where one calls a law, it follows
 //! from that law.
+ghost use Rattle.forecast_laws.specs.Losses.{LossesGoAsPlanned, LossesLeaveTheSite};
 ghost use Rattle.forecast_laws.specs.Plans.{PlansAreRounds};
 ghost use Rattle.forecast_laws.specs.Records.{RecordsReadTheSite};
 ghost use Rattle.forecast_laws.specs.Rooms.{DisplacedJobsFindRoom, RoomLeavesNothingWaiting};
 ghost use Rattle.forecast_laws.specs.Rooms.{RoomMakesRoundsComplete, RoundsLeaveWhatPlansLeave};
 
-use round_completeness::{rounds_auction_what_is_left, rounds_that_nothing_disturbs_are_complete};
-use round_theorem::complete_rounds_converge;
+use round_completeness::{
+    rounds_auction_what_is_left, rounds_decline_no_start, rounds_that_nothing_disturbs_are_complete,
+};
+use round_theorem::{
+    complete_rounds_converge, rounds_hear_what_gets_through, rounds_lose_what_the_wire_lost,
+};
 
 /// Where a round reads what the site says with these cells lost, it places each job just where the
 /// plan does.
@@ -45,4 +50,25 @@ pub fn records_read_the_site()
     ensures { RecordsReadTheSite }
 {
     rounds_auction_what_is_left();
+}
+
+/// Where rows and cells are in order and as the site says before a loss, and the leases of the lost
+/// cells alone have ended, the commands of a round leave what the site says with these cells lost.
+pub fn losses_leave_the_site()
+    ensures { LossesLeaveTheSite }
+{}
+
+/// A round at such rows goes as planned, where nothing disturbs it but, perhaps, want of room.
+pub fn losses_go_as_planned()
+    ensures { LossesGoAsPlanned }
+{
+    losses_leave_the_site();
+    records_read_the_site();
+    rounds_hear_what_gets_through();
+    rounds_lose_what_the_wire_lost();
+    rounds_decline_no_start();
+    plans_are_rounds();
+    rounds_leave_what_plans_leave();
+    displaced_jobs_find_room();
+    room_makes_rounds_complete();
 }
