@@ -53,10 +53,15 @@ none_mute cells (c ∷ cs) s t f apart answers =
     let rest = none_mute cells cs f.0 t f.2 apart (λ d inside. answers d (inside_rest d c cs inside)) in
     omega (arith, one, rest)
 
-looks_so : (cell : List ℕ) (epoch : ℕ) (a : Answer) → a.cell ≡ cell → a.epoch ≡ epoch → is_answer_of cell epoch a ≡ true
-looks_so cell epoch a names epochs =
+-- a cell whose answer is there is found under its epoch
+found_under : (got : List Answer) (cell : List ℕ) (epoch : ℕ) (a : Answer) → Contains got a → a.cell ≡ cell
+    → a.epoch ≡ epoch → IsSome (answer_from got cell epoch)
+found_under got cell epoch a inside names epochs =
+    let looks : is_answer_of cell epoch a ≡ true =
     ap (λ (n : List ℕ). pointwise nat_eq n cell && a.epoch == epoch) names
-    ∙ ap (λ (b : Bool). b && a.epoch == epoch) (nat_list_eq_equiv.refl cell) ∙ eq-eqb a.epoch epoch epochs
+    ∙ ap (λ (b : Bool). b && a.epoch == epoch) (nat_list_eq_equiv.refl cell) ∙ eq-eqb a.epoch epoch epochs in
+    let found = find-some (is_answer_of cell epoch) got a inside looks in
+    ap (λ (o : Option Answer). is_some o) found.1
 
 module _ (hears : RoundsHearWhatGetsThrough) (loses : RoundsLoseWhatTheWireLost) (declines : RoundsDeclineNoStart)
     (by : ℕ) (now : Moment) (line : ℕ) (s s' : Standing) (r : Report) (h : IsRound by now line s s' r)
@@ -116,10 +121,8 @@ module _ (hears : RoundsHearWhatGetsThrough) (loses : RoundsLoseWhatTheWireLost)
       let a = heard_each x.row inside in
       let name : x.row.cell ≡ cell = key-find_row name_order cell_name_of IsKeyOrder-name_order cell x.row seen.cells
       x.found in
-      let names : a.0.cell ≡ cell = heard_cell s.reps x.row.cell x.row.epoch a.0 a.2 ∙ name in
-      let epochs : a.0.epoch ≡ epoch = a.2.epoch_is ∙ x.epoch_is in
-      let found = find-some (is_answer_of cell epoch) got a.0 a.1 (looks_so cell epoch a.0 names epochs) in
-      ap (λ (o : Option Answer). is_some o) found.1
+      found_under got cell epoch a.0 a.1 (heard_cell s.reps x.row.cell x.row.epoch a.0 a.2 ∙ name)
+      (a.2.epoch_is ∙ x.epoch_is)
 
   from_cell : (x : Answer) → Contains got x → (c : CellRow) × Contains (present seen now) c × IsHeardFrom s.reps
       c.cell c.epoch x

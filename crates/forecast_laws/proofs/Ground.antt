@@ -1,5 +1,5 @@
 -- What a loss leaves of the cells that are there, and of the rows that have to stay.
-use Rattle.std.proofs.Common.{◌≡◌, ◌≢◌, ℕ, ◌≤◌, Bool, true, false, ◌&&◌, ◌==◌, not, nat_lt, List, map, Option, Some, None, refl, sym, ap, ◌∙◌, arith}
+use Rattle.std.proofs.Common.{◌≡◌, ◌≢◌, ◌⊎◌, ⊎_elim, ℕ, ◌≤◌, Bool, true, false, ◌&&◌, ◌==◌, not, nat_lt, List, map, Option, Some, None, refl, sym, ap, ◌∙◌, arith}
 use Rattle.std.specs.List.{AllPairs}
 use Rattle.std.specs.Option.{option_map_or}
 use Rattle.std.proofs.lemmas.Bool.{eqb-true}
@@ -8,7 +8,7 @@ use Rattle.std.proofs.lemmas.Map.Made.{AllPairs-from_IsDistinct}
 use Rattle.bbs_model.specs.Domains.{is_fresh}
 use Rattle.bbs_model.specs.Tables.{cell_name_of, find_cell, find_domain}
 use Rattle.bbs_model.specs.Valid.{IsValid}
-use Rattle.bbs_model.specs.Work.{fresh_in, is_there, may_go}
+use Rattle.bbs_model.specs.Work.{fresh_in, is_retirable, is_there, may_go, wants}
 use Rattle.bbs_model.specs.declared.domain_row.DomainRow.{DomainRow}
 use Rattle.bbs_model.specs.declared.rows.Rows.{Rows}
 use Rattle.cell_records.specs.Presence.{is_present}
@@ -16,6 +16,7 @@ use Rattle.cell_records.specs.declared.cell_row.CellRow.{CellRow}
 use Rattle.crash_backoff.specs.declared.moment.Moment.{Moment}
 use Rattle.diego_names.proofs.Public.{IsKeyOrder-name_order}
 use Rattle.diego_names.specs.Order.{name_order}
+use Rattle.diego_names.specs.declared.key.Key.{Key}
 use Rattle.lrp_records.specs.declared.actual.Actual.{Actual}
 use Rattle.round_theorem.proofs.Public.{differ_pairs, one_of_name}
 use Rattle.row_tables.proofs.Public.{Contains-find_row, key-find_row}
@@ -101,6 +102,12 @@ module _ (rows : Rows) (lost : List (List ℕ)) (old now : Moment) (ended : Only
   stale_domain None e = absurd cc
   stale_domain (Some name) e = stale_row (find_domain rows name) e
 
-  -- a row that had to stay has to stay
-  pub may_not_go : (a : Actual) → may_go rows old a ≡ false → may_go rows now a ≡ false
-  may_not_go a e = stale_domain a.domain e
+  -- a row of a wanted instance isn't to be retired, nor is one that had to stay
+  pub not_retired : (key : Key) (a : Actual) → ((wants rows key ≡ true) ⊎ (may_go rows old a ≡ false))
+      → is_retirable rows now key a ≡ false
+  not_retired key a h =
+      ⊎_elim
+      (λ (wanted : wants rows key ≡ true). ap (λ (b : Bool). not b && may_go rows now a) wanted)
+      (λ (stale : may_go rows old a ≡ false).
+      ap (λ (b : Bool). not (wants rows key) && b) (stale_domain a.domain stale) ∙ and_false (not (wants rows key)))
+      h

@@ -1,5 +1,5 @@
 -- What a loss leaves of an ORDINARY row: it stays if the cell of its container is there, and else it is UNCLAIMED.
-use Rattle.std.proofs.Common.{◌≡◌, ◌≢◌, ℕ, Bool, true, false, cond, ◌&&◌, not, List, Option, Some, None, refl, sym, ap, subst, ◌∙◌, ⊎_elim}
+use Rattle.std.proofs.Common.{◌≡◌, ◌≢◌, ℕ, Bool, true, false, cond, not, List, Option, Some, None, refl, sym, ap, subst, ◌∙◌, ⊎_elim, inl, inr}
 use Rattle.std.specs.Option.{option_and_then}
 use Rattle.bbs_model.specs.Lrps.{is_running_as, left_row}
 use Rattle.bbs_model.specs.Runs.{state_after}
@@ -23,7 +23,6 @@ use Rattle.converge_laws.specs.Stages.{IsPlaceable, MayBePlaced}
 use Rattle.converge_laws.proofs.MoveEnds.{IsUnclaimed, unclaimed}
 use Rattle.converge_laws.proofs.Moves.{after-suspect, after-unclaim}
 use Rattle.converge_laws.proofs.Public.{instance_itself, stays-ordinary}
-use Rattle.converge_laws.proofs.WorkOps.{kept-wanted, rests-unclaimed}
 use Rattle.crash_backoff.specs.declared.moment.Moment.{Moment}
 use Rattle.diego_names.specs.declared.instance.Instance.{Instance}
 use Rattle.diego_names.specs.declared.key.Key.{Key}
@@ -36,7 +35,7 @@ use Rattle.what_if.specs.Stays.{is_lost}
 use Rattle.what_if.specs.declared.site.Site.{Site}
 use Rattle.forecast_laws.specs.Losses.{AreThoseThere, IsBehindALoss}
 use Rattle.forecast_laws.proofs.Alike.{some_one}
-use Rattle.forecast_laws.proofs.Ground.{and_false, gone_now, may_not_go}
+use Rattle.forecast_laws.proofs.Ground.{gone_now, not_retired}
 use Rattle.forecast_laws.proofs.HeldStill.{actual_idle, actual_rests, ordinary_held}
 use Rattle.forecast_laws.proofs.Untouched.{leaves-plan, leaves-work, takes-work}
 
@@ -111,12 +110,11 @@ module _ {site : Site} {lost : List (List ℕ)} {rows : Rows} {got stores : List
   -- the row isn't to be retired
   kept : told.is_retirable rows now key a ≡ false
   kept =
-      ⊎_elim
-      (λ (w : (told.wants rows key ≡ true) × MayBePlaced rows stores old a a.state). kept-wanted rows now key a w.0)
-      (λ (u : IsUnwantedKept rows stores old key a).
-      ap (λ (b : Bool). not (told.wants rows key) && b) (may_not_go rows lost old now loss.ended a u.1)
-      ∙ and_false (not (told.wants rows key)))
-      placeable
+      not_retired rows lost old now loss.ended key a
+      (⊎_elim
+      (λ (w : (told.wants rows key ≡ true) × MayBePlaced rows stores old a a.state). inl w.0)
+      (λ (u : IsUnwantedKept rows stores old key a). inr u.1)
+      placeable)
 
   -- so what is asked of it goes by its state
   abbrev asked : LrpState → Option Op
@@ -153,7 +151,7 @@ module _ {site : Site} {lost : List (List ℕ)} {rows : Rows} {got stores : List
   placed_rests lrp.Crashed p on there = absurd cc
 
   state_rests : (s : LrpState) → a.state ≡ s → StandsStill → told.ordinary_work rows now key (Some a) ≡ None
-  state_rests lrp.Unclaimed state stands = rests-unclaimed rows now key a kept state
+  state_rests lrp.Unclaimed state stands = asks ∙ ap asked state ∙ none_either (told.wants rows key)
   state_rests (lrp.Claimed i c) state stands =
       asks ∙ ap asked state ∙ placed_rests (lrp.Claimed i c) (i, c) refl (stands i c (ap site_of state))
   state_rests (lrp.Running i c) state stands =

@@ -1,5 +1,5 @@
 -- What a loss leaves of EVACUATING rows, of tasks, of cells and of desired rows.
-use Rattle.std.proofs.Common.{◌≡◌, ◌≢◌, ℕ, Bool, true, false, cond, ◌&&◌, ◌||◌, not, nat_le, nat_lt, List, Option, Some, None, refl, sym, ap, subst, ◌∙◌, arith, ⊎_elim}
+use Rattle.std.proofs.Common.{◌≡◌, ◌≢◌, ℕ, Bool, true, false, cond, ◌||◌, not, nat_le, nat_lt, List, Option, Some, None, refl, sym, ap, subst, ◌∙◌, arith, ⊎_elim}
 use Rattle.std.specs.Option.{option_and_then}
 use Rattle.std.proofs.lemmas.Bool.Decides.{nat_tests}
 use Rattle.bbs_model.specs.Runs.{state_after}
@@ -21,7 +21,7 @@ use Rattle.converge_laws.specs.Converged.{IsKeptAside}
 use Rattle.converge_laws.specs.Laws.{after_plan, after_work}
 use Rattle.converge_laws.proofs.Public.{kept_after, plan_of_round, run-other, stays-cell, stays-evacuating, stays-task, work_of_round}
 use Rattle.converge_laws.proofs.TaskMoves.{HasEnded}
-use Rattle.converge_laws.proofs.WorkOps.{kept-wanted, task-step}
+use Rattle.converge_laws.proofs.WorkOps.{task-step}
 use Rattle.crash_backoff.specs.declared.moment.Moment.{Moment}
 use Rattle.diego_names.proofs.Public.{IsKeyOrder-name_order}
 use Rattle.diego_names.specs.Order.{name_order}
@@ -39,7 +39,7 @@ use Rattle.task_records.specs.declared.task.Task.{Task}
 use Rattle.what_if.specs.declared.site.Site.{Site}
 use Rattle.forecast_laws.specs.Losses.{AreThoseThere, IsBehindALoss}
 use Rattle.forecast_laws.proofs.Alike.{some_one}
-use Rattle.forecast_laws.proofs.Ground.{and_false, may_not_go, row_there}
+use Rattle.forecast_laws.proofs.Ground.{not_retired, row_there}
 use Rattle.forecast_laws.proofs.HeldStill.{actual_rests, evacuating_held, task_held, task_idle, task_rests}
 use Rattle.forecast_laws.proofs.OrdinaryLeft.{state_lost}
 use Rattle.forecast_laws.proofs.Untouched.{leaves-plan, leaves-work, takes-work, valid-work}
@@ -99,13 +99,7 @@ module _ {site : Site} {lost : List (List ℕ)} {rows : Rows} {got stores : List
   evacuating_stays key a instance cell is on there =
       let h : IsKeptAside rows stores old key (Some a) =
       subst (IsKeptAside rows stores old key) is (loss.cleared.planned.aside key) in
-      let kept : told.is_retirable rows now key a ≡ false =
-      ⊎_elim
-      (λ (wanted : told.wants rows key ≡ true). kept-wanted rows now key a wanted)
-      (λ (stale : told.may_go rows old a ≡ false).
-      ap (λ (b : Bool). not (told.wants rows key) && b) (may_not_go rows lost old now loss.ended a stale)
-      ∙ and_false (not (told.wants rows key)))
-      h.0 in
+      let kept : told.is_retirable rows now key a ≡ false = not_retired rows lost old now loss.ended key a h.0 in
       let found = state_lost rows now false a.state (instance, cell) on (ap not there) in
       let idle = idle_row rows now (find_actual rows key Ordinary) h.2 in
       let unspent : told.is_spent rows now key a ≡ false =
