@@ -17,8 +17,7 @@ use Rattle.convergence.specs.Strays.{is_stray, strays}
 use Rattle.converge_laws.specs.Accepted.{AreAccepted}
 use Rattle.converge_laws.specs.Converged.{is_held}
 use Rattle.converge_laws.specs.Laws.{after_plan}
-use Rattle.converge_laws.proofs.Naming.{named-by}
-use Rattle.converge_laws.proofs.Public.{held-in, named-evacuating, named-ordinary, named-task, same_instance, stray-from}
+use Rattle.converge_laws.proofs.Public.{held-in, named-by, named-evacuating, named-ordinary, named-task, same_instance, stray-from}
 use Rattle.crash_backoff.specs.declared.moment.Moment.{Moment}
 use Rattle.diego_names.specs.declared.instance.Instance.{Instance}
 use Rattle.diego_names.specs.declared.key.Key.{Key}

@@ -20,9 +20,7 @@ use Rattle.converge_laws.specs.Accepted.{AreAccepted, IsAccepted, IsOfRound}
 use Rattle.converge_laws.specs.Converged.{IsUnwantedKept}
 use Rattle.converge_laws.specs.Laws.{after_plan, after_work}
 use Rattle.converge_laws.specs.Stages.{IsPlaceable, MayBePlaced}
-use Rattle.converge_laws.proofs.MoveEnds.{IsUnclaimed, unclaimed}
-use Rattle.converge_laws.proofs.Moves.{after-suspect, after-unclaim}
-use Rattle.converge_laws.proofs.Public.{instance_itself, stays-ordinary}
+use Rattle.converge_laws.proofs.Public.{IsUnclaimed, after-suspect, after-unclaim, instance_itself, stays-ordinary, unclaimed}
 use Rattle.crash_backoff.specs.declared.moment.Moment.{Moment}
 use Rattle.diego_names.specs.declared.instance.Instance.{Instance}
 use Rattle.diego_names.specs.declared.key.Key.{Key}

@@ -19,9 +19,7 @@ use Rattle.convergence.specs.Subjects.{OfCell, OfPlace, OfTask, subject_in, work
 use Rattle.converge_laws.specs.Accepted.{AreAccepted, IsOfRound}
 use Rattle.converge_laws.specs.Converged.{IsKeptAside}
 use Rattle.converge_laws.specs.Laws.{after_plan, after_work}
-use Rattle.converge_laws.proofs.Public.{kept_after, plan_of_round, run-other, stays-cell, stays-evacuating, stays-task, work_of_round}
-use Rattle.converge_laws.proofs.TaskMoves.{HasEnded}
-use Rattle.converge_laws.proofs.WorkOps.{task-step}
+use Rattle.converge_laws.proofs.Public.{HasEnded, kept_after, plan_of_round, run-other, stays-cell, stays-evacuating, stays-task, task-step, work_of_round}
 use Rattle.crash_backoff.specs.declared.moment.Moment.{Moment}
 use Rattle.diego_names.proofs.Public.{IsKeyOrder-name_order}
 use Rattle.diego_names.specs.Order.{name_order}
