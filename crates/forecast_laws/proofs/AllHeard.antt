@@ -26,8 +26,7 @@ use Rattle.diego_names.proofs.Public.{IsKeyOrder-name_order}
 use Rattle.diego_names.specs.Order.{name_order}
 use Rattle.round_completeness.specs.Completeness.{IsCountSame, TellsThrough}
 use Rattle.round_completeness.specs.Rooms.{RoundsDeclineNoStart}
-use Rattle.round_theorem.proofs.Public.{are-heard, heard_cell}
-use Rattle.round_theorem.proofs.RoomyCells.{present-there}
+use Rattle.round_theorem.proofs.Public.{are-heard, heard_cell, present-there}
 use Rattle.round_theorem.specs.Losses.{RoundsHearWhatGetsThrough, RoundsLoseWhatTheWireLost, mute_among, mute_if, mute_of}
 use Rattle.row_tables.proofs.Public.{Contains-find_row, key-find_row}
 use Rattle.forecast_laws.specs.Losses.{AreThoseThere}

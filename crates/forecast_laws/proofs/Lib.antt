@@ -16,5 +16,4 @@ mod HoldersLeft
 mod RowsLeft
 mod SiteLeft
 mod AllHeard
-mod AloneRows
 mod LossRound

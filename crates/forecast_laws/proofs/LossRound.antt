@@ -13,7 +13,7 @@ use Rattle.converge_round.specs.Stops.{Stopped, StopsOne, so_far, stops_at}
 use Rattle.crash_backoff.specs.declared.moment.Moment.{Moment}
 use Rattle.diego_names.specs.declared.instance.Instance.{Instance}
 use Rattle.round_completeness.specs.Rooms.{RoundsDeclineNoStart}
-use Rattle.round_theorem.proofs.Public.{alone-refused}
+use Rattle.round_theorem.proofs.Public.{alone-refused, auction_rows, first_rows, third_rows, work_accepted}
 use Rattle.round_theorem.specs.Losses.{RoundsHearWhatGetsThrough, RoundsLoseWhatTheWireLost}
 use Rattle.what_if.specs.declared.site.Site.{Site}
 use Rattle.forecast_laws.specs.Losses.{AreThoseThere, IsBehindALoss, LossesGoAsPlanned, LossesLeaveTheSite}
@@ -22,7 +22,6 @@ use Rattle.forecast_laws.specs.Records.{AreAsTheSite, RecordsReadTheSite}
 use Rattle.forecast_laws.specs.Rooms.{DisplacedJobsFindRoom, IsOtherwiseUndisturbed, RoomMakesRoundsComplete, RoundsLeaveWhatPlansLeave}
 use Rattle.forecast_laws.proofs.Alike.{none_inside}
 use Rattle.forecast_laws.proofs.AllHeard.{those_there}
-use Rattle.forecast_laws.proofs.AloneRows.{auction_rows, first_rows, third_rows, work_accepted}
 
 module _ (by : ℕ) (now : Moment) (line : ℕ) (s s' : Standing) (r : Report) (h : IsRound by now line s s' r)
     (u : IsOtherwiseUndisturbed by now line s s' r h) where

@@ -22,6 +22,7 @@ pub mod Segments
 pub mod Account
 pub mod WholeAccount
 pub mod Accounted
+pub mod AloneRows
 pub mod Hearings
 pub mod Causes
 pub mod Lost
