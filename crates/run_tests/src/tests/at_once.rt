@@ -158,3 +158,79 @@ fn the_first_actor_can_wait_until_the_second_was_answered(rt: HostRuntime) {
     assert_eq!(rt; gate.seen.load(Ordering::SeqCst), 2);
     second_came_first(&rt, &left.log);
 }
+
+// How often either actor passed, and how often one that was held up saw what it waited for.
+#[derive(Drop)]
+struct Leaps {
+    first: AtomicU32,
+    second: AtomicU32,
+    seen: AtomicU32,
+}
+
+impl Leaps {
+    // Waits until that many have passed, for so many turns at most.
+    fn wait(&self, passes: &AtomicU32, count: u32) {
+        for _ in 0..10_000_000 {
+            if passes.load(Ordering::SeqCst) >= count {
+                self.seen.fetch_add(1, Ordering::SeqCst);
+                return;
+            }
+            thread::yield_now();
+        }
+    }
+}
+
+// An actor passes before each call and behind its last answer. The first one's second call waits until the second one's
+// second was answered, whose third waits until the first one's second was.
+impl Gate for Leaps {
+    fn pass(&self, actor: u32) {
+        if actor == 1 {
+            if self.first.fetch_add(1, Ordering::SeqCst) == 1 {
+                self.wait(&self.second, 3);
+            }
+        } else if self.second.fetch_add(1, Ordering::SeqCst) == 2 {
+            self.wait(&self.first, 3);
+        }
+    }
+}
+
+// Two clients of three lines each. None of them makes an item, so the text is the same in each order.
+const THREE_LINES: &str = r#"{"at":0}
+{"client":"a","op":"undesire","process":"p"}
+{"client":"a","op":"undesire","process":"p"}
+{"client":"a","op":"undesire","process":"p"}
+{"client":"b","op":"undesire","process":"p"}
+{"client":"b","op":"undesire","process":"p"}
+{"client":"b","op":"undesire","process":"p"}
+"#;
+
+const ALL_REFUSED: &str =
+    r#"{"actor":"a","answer":"refused","call":"undesire","line":2,"subject":"p","why":"unknown"}
+{"actor":"a","answer":"refused","call":"undesire","line":3,"subject":"p","why":"unknown"}
+{"actor":"a","answer":"refused","call":"undesire","line":4,"subject":"p","why":"unknown"}
+{"actor":"b","answer":"refused","call":"undesire","line":5,"subject":"p","why":"unknown"}
+{"actor":"b","answer":"refused","call":"undesire","line":6,"subject":"p","why":"unknown"}
+{"actor":"b","answer":"refused","call":"undesire","line":7,"subject":"p","why":"unknown"}
+{"done":0,"doubts":0,"next":0,"phases":1}
+"#;
+
+#[test]
+fn actors_overtake_one_another_from_line_to_line(rt: HostRuntime) {
+    let gate = Leaps {
+        first: AtomicU32::new(0),
+        second: AtomicU32::new(0),
+        seen: AtomicU32::new(0),
+    };
+    let disk = disk_of(&rt, rt.alloc(), EMPTY, &[]);
+    let left = left_at(
+        &rt,
+        rt.alloc(),
+        "run",
+        THREE_LINES.as_bytes(),
+        &[],
+        disk,
+        &gate,
+    );
+    ends(&rt, &left, 0, ALL_REFUSED);
+    assert_eq!(rt; gate.seen.load(Ordering::SeqCst), 2);
+}
