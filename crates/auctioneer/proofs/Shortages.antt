@@ -1,14 +1,14 @@
 -- Cells that lack room, and the spots that are kept where these are left out.
-use Rattle.std.proofs.Common.{◌≡◌, ℕ, ◌+◌, ◌<◌, ◌≤◌, true, false, ◌&&◌, nat_le, List, [], ◌∷◌, ◌++◌, length, set, get_or, inl, inr, ◌⊎◌, refl, sym, ap, subst, ◌∙◌, arith}
-use Rattle.std.specs.BTreeSet.{BTreeSet, contains, IsFromIterResult}
+use Rattle.std.proofs.Common.{◌≡◌, ℕ, ◌+◌, ◌<◌, ◌≤◌, true, false, ◌&&◌, List, [], ◌∷◌, ◌++◌, length, set, get_or, inl, inr, ◌⊎◌, refl, sym, ap, subst, ◌∙◌, arith}
+use Rattle.std.specs.BTreeSet.{contains, IsFromIterResult}
 use Rattle.std.specs.List.{Contains}
 use Rattle.std.proofs.lemmas.Bool.{cases_eq, cases_lt, and_parts, leb-true, le-leb}
 use Rattle.std.proofs.lemmas.List.{get_or_default, get_or_read, get_or-set_same, get_or-set_other}
-use Rattle.std.proofs.lemmas.List.Elements.{Contains-append_left, Contains-push, Contains-push_cases, Contains-get_or}
+use Rattle.std.proofs.lemmas.List.Elements.{Contains-append_left, Contains-push, Contains-push_cases}
 use Rattle.cell_records.specs.declared.job.Job.{Job}
 use Rattle.cell_records.specs.declared.job_name.JobName.{JobName}
 use Rattle.auctioneer.specs.Needs.{asks_for, LacksRoom, IsUpTo}
-use Rattle.auctioneer.specs.Spots.{spot_order, AreSpotsFor, IsOrderOf, IsRanking}
+use Rattle.auctioneer.specs.Spots.{spot_order, AreSpotsFor, IsRanking}
 use Rattle.auctioneer.specs.Stands.{can_take, with_job}
 use Rattle.auctioneer.specs.declared.groups.Group.{Group}
 use Rattle.auctioneer.specs.declared.needs.Need.{Need}

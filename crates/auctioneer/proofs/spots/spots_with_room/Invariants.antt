@@ -1,4 +1,3 @@
-use Rattle.std.proofs.Common.{◌≤◌, length}
 use Rattle.auctioneer.proofs.Shortages.{AreKept}
 use Rattle.auctioneer.proofs.spots.spots_with_room.Given as goal
 

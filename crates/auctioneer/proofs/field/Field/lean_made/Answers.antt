@@ -5,7 +5,6 @@ use Rattle.cell_records.specs.declared.job_name.JobName.TheVariants.{Task}
 use Rattle.auctioneer.specs.Fields.{ServesEach}
 use Rattle.auctioneer.specs.Spots.{AreSpotsFor, IsRanking}
 use Rattle.auctioneer.specs.declared.groups.Group.{Group}
-use Rattle.auctioneer.specs.declared.spots.Spot.{Spot}
 use Rattle.auctioneer.specs.declared.stand.Stand.{Stand}
 use Rattle.auctioneer.proofs.field.Field.lean_made.Goals as goal
 

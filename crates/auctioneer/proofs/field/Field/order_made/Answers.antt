@@ -1,4 +1,4 @@
-use Rattle.std.proofs.Common.{◌≡◌, List, sym, subst}
+use Rattle.std.proofs.Common.{List, sym, subst}
 use Rattle.std.proofs.lemmas.Result.{IfOk-weaker}
 use Rattle.cell_records.specs.declared.job_name.JobName.{JobName}
 use Rattle.auctioneer.specs.Spots.{AreSpotsFor, IsRanking}

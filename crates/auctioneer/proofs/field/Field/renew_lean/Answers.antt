@@ -1,4 +1,4 @@
-use Rattle.std.proofs.Common.{◌≡◌, [], Option, subst, arith}
+use Rattle.std.proofs.Common.{[], Option, subst, arith}
 use Rattle.std.specs.Option.{IfSome}
 use Rattle.cell_records.specs.declared.job_name.JobName.TheVariants.{Task}
 use Rattle.auctioneer.specs.Fields.{ServesEach}

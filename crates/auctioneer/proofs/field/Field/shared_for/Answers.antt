@@ -1,4 +1,4 @@
-use Rattle.std.proofs.Common.{◌≡◌, Option, subst}
+use Rattle.std.proofs.Common.{Option, subst}
 use Rattle.std.specs.Option.{IfSome}
 use Rattle.auctioneer.specs.Fields.{ServesEach}
 use Rattle.auctioneer.specs.declared.spots.Spots.{Spots}
