@@ -9,6 +9,7 @@ pub mod Counts
 pub mod SpotOrders
 pub mod SpotLists
 pub mod Refusals
+pub mod Shortages
 pub mod Offers
 pub mod SpotRanges
 pub mod Walks

@@ -57,7 +57,7 @@ NoneFits-more stands job other asks none b there =
     (record { memory = omega (arith, room.memory); disk = omega (arith, room.disk); slot = room.slot })) (none b there)
 
 -- what doesn't fit on a cell doesn't once it has a job more
-unfit_later : (job other : Job) (s : Stand) → can_take other s ≡ false → can_take other (with_job job s) ≡ false
+pub unfit_later : (job other : Job) (s : Stand) → can_take other s ≡ false → can_take other (with_job job s) ≡ false
 unfit_later job other s none =
     unfit other other (with_job job s) s (λ yes.
     let room = HasRoom-can_take other (with_job job s) yes in

@@ -1,5 +1,6 @@
 -- The spots of the cells, one after the other.
 use Rattle.std.proofs.Common.{◌≡◌, ℕ, zero, suc, ◌-◌, ◌*◌, ◌/◌, ◌<◌, ◌≤◌, true, false, cond, eqb, List, [], ◌∷◌, ◌++◌, length, set, get_or, count_by, sum_by, is_some, Bool, refl, sym, ap, subst, ◌∙◌, inl, inr, arith}
+use Rattle.std.specs.BTreeSet.{contains}
 use Rattle.std.specs.Option.{IfSome}
 use Rattle.std.proofs.Math.Nat.{div-mul-le_self}
 use Rattle.std.proofs.lemmas.Nat.{le-div}
@@ -11,9 +12,11 @@ use Rattle.auction_scoring.specs.Score.{used_share}
 use Rattle.diego_names.specs.declared.key.Key.{Key}
 use Rattle.cell_records.specs.declared.job_name.JobName.{JobName}
 use Rattle.cell_records.specs.declared.job_name.JobName.TheVariants.{Lrp, Task}
-use Rattle.auctioneer.specs.Spots.{load_in, IsGroupOf, AreFirstSpots, AreSpotsFor, IsOrderOf, IsRanking, IsSpotOf}
+use Rattle.auctioneer.specs.Needs.{LacksRoom}
+use Rattle.auctioneer.specs.Spots.{spot_order, load_in, IsGroupOf, AreFirstSpots, AreSpotsFor, IsOrderOf, IsRanking, IsSpotOf}
 use Rattle.auctioneer.specs.Stands.{same_name, is_of, held_of, in_zone, with_job}
 use Rattle.auctioneer.specs.declared.groups.Group.{Group}
+use Rattle.auctioneer.specs.declared.needs.Need.{Need}
 use Rattle.auctioneer.specs.declared.spots.Spot.{Spot}
 use Rattle.auctioneer.specs.declared.spots.Spots.{Spots}
 use Rattle.auctioneer.specs.declared.stand.Stand.{Stand}
@@ -237,6 +240,7 @@ IsRanking-process a b groups stands spots e h = record {
     each = λ k p below. IsSpotOf-process a b groups stands k (get_or spots.all.items k p) e (h.spots.each k p below);
   };
   order = h.order;
+  left_out = h.left_out;
 }
 
 -- the spot of a cell with a larger load that is still its own
@@ -270,11 +274,21 @@ IsSpotOf-counted job other groups stands at p stand g zone held load inside is h
 
 -- the order with another spot of a cell, which moved there
 pub IsRanking-moved : (job : JobName) (groups : List Group) (stands : List Stand) (old new : Spots) (at : ℕ)
-    (after : Spot) → at < length old.all.items → IsSpotOf job groups stands at after → IsRanking job groups stands old
-    → new.all.items ≡ set old.all.items at after → IsOrderOf new.order (set old.all.items at after)
-    → IsRanking job groups stands new
-IsRanking-moved job groups stands old new at after inside one h set_is order = record {
+    (after : Spot) → at < length old.all.items → IsSpotOf job groups stands at after
+    → IsRanking job groups stands old → new.all.items ≡ set old.all.items at after → new.need ≡ old.need
+    → IsOrderOf new.order (set old.all.items at after)
+    → ((k : ℕ) (p : Spot) → k < length (set old.all.items at after)
+    → contains spot_order new.order (get_or (set old.all.items at after) k p) ≡ false
+    → (get_or (set old.all.items at after) k p ≡ get_or old.all.items k p) ×
+    (contains spot_order old.order (get_or old.all.items k p) ≡ false)) → IsRanking job groups stands new
+IsRanking-moved job groups stands old new at after inside one h set_is need order before = record {
   spots = subst (AreSpotsFor job groups stands) (sym set_is)
       (AreSpotsFor-set job groups stands old.all.items at after inside one h.spots);
   order = subst (IsOrderOf new.order) (sym set_is) order;
+  left_out = λ k s p below out.
+      let within : k < length (set old.all.items at after) = subst (λ (xs : List Spot). k < length xs) set_is below in
+      let was = before k p within
+      (sym (ap (λ (xs : List Spot). contains spot_order new.order (get_or xs k p)) set_is) ∙ out) in
+      subst (λ (n : Need). LacksRoom n (get_or stands k s)) (sym need)
+      (h.left_out k s p (simp length-set at within) was.1);
 }

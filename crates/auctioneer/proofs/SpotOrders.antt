@@ -2,6 +2,7 @@
 use Rattle.std.proofs.Common.{◌≡◌, ◌≢◌, ℕ, ◌<◌, true, false, cond, List, length, set, get_or, refl, ◌⊎◌, inl, inr, sym, ap, subst, ◌∙◌}
 use Rattle.std.specs.BTreeMap.{is_at}
 use Rattle.std.specs.BTreeSet.{BTreeSet, contains, IsFromIterResult}
+use Rattle.std.specs.List.{Contains}
 use Rattle.std.specs.Cmp.{nat_cmp_total, on_total, then_total, tied_itself}
 use Rattle.std.specs.FinMap.{nat_cmp-IsAntisymmetric}
 use Rattle.std.specs.Ordering.{nat_cmp, is_eq}
@@ -54,24 +55,30 @@ test_from_spot a b e = ap is_eq (subst (λ (x : Spot). spot_order a x ≡ Equal)
 abbrev pub AreCellsOf : List Spot → Type 0
 AreCellsOf spots = (k : ℕ) (p : Spot) → k < length spots → (get_or spots k p).cell ≡ k
 
--- a set that was made of spots
-pub IsOrderOf-made : (order : BTreeSet Spot) (spots : List Spot) → AreCellsOf spots
-    → IsFromIterResult spot_order spots order → IsOrderOf order spots
-IsOrderOf-made order spots cells made =
+-- some of the spots
+abbrev pub AreAmong : List Spot → List Spot → Type 0
+AreAmong kept spots = (q : Spot) → Contains kept q → (q.cell < length spots) × (get_or spots q.cell q ≡ q)
+
+pub AreAmong-itself : (spots : List Spot) → AreCellsOf spots → AreAmong spots spots
+AreAmong-itself spots cells q at =
+    let cell : q.cell ≡ at.0 = sym (ap (λ (x : Spot). x.cell) at.2) ∙ cells at.0 q at.1 in
+    (subst (λ n. n < length spots) (sym cell) at.1, ap (λ n. get_or spots n q) cell ∙ at.2)
+
+-- a set that was made of some of the spots
+pub IsOrderOf-made : (order : BTreeSet Spot) (kept spots : List Spot) → AreAmong kept spots
+    → IsFromIterResult spot_order kept order → IsOrderOf order spots
+IsOrderOf-made order kept spots among made =
     let there = λ (q : Spot) (e : contains spot_order order q ≡ true).
-    (btree_set_contains_from_list IsKeyOrder-spot_order.total IsKeyOrder-spot_order.exact spots order made q).0 e in
-    record {
-      all = λ k p below. (btree_set_contains_from_list IsKeyOrder-spot_order.total IsKeyOrder-spot_order.exact spots
-          order made (get_or spots k p)).1 (Contains-get_or spots k p below);
-      inside = λ q e.
-          let at = there q e in
-          let cell : q.cell ≡ at.0 = sym (ap (λ (x : Spot). x.cell) at.2) ∙ cells at.0 q at.1 in
-          subst (λ n. n < length spots) (sym cell) at.1;
-      is = λ q e.
-          let at = there q e in
-          let cell : q.cell ≡ at.0 = sym (ap (λ (x : Spot). x.cell) at.2) ∙ cells at.0 q at.1 in
-          ap (λ n. get_or spots n q) cell ∙ at.2;
-    }
+    (btree_set_contains_from_list IsKeyOrder-spot_order.total IsKeyOrder-spot_order.exact kept order made q).0
+    e in
+    record { inside = λ q e. (among q (there q e)).0; is = λ q e. (among q (there q e)).1 }
+
+-- it has each spot that it was made of
+pub IsOrderOf-whole : (order : BTreeSet Spot) (spots : List Spot) → IsFromIterResult spot_order spots order
+    → (k : ℕ) (p : Spot) → k < length spots → contains spot_order order (get_or spots k p) ≡ true
+IsOrderOf-whole order spots made k p below =
+    (btree_set_contains_from_list IsKeyOrder-spot_order.total IsKeyOrder-spot_order.exact spots order made
+    (get_or spots k p)).1 (Contains-get_or spots k p below)
 
 -- a set into which one spot was put, and from which another of the same cell was then taken
 module _ (order mid new : BTreeSet Spot) (spots : List Spot) (at : ℕ) (before after : Spot) (inside : at < length spots)
@@ -124,20 +131,6 @@ module _ (order mid new : BTreeSet Spot) (spots : List Spot) (at : ℕ) (before 
 
   pub IsOrderOf-moved : IsOrderOf new (set spots at after)
   IsOrderOf-moved = record {
-    all = λ k p below.
-        elim (cases_eq k at) [
-          | (inl same) ↦
-              let here : get_or (set spots at after) k p ≡ after =
-              ap (λ n. get_or (set spots at after) n p) same ∙ get_or-set_same spots at after p inside in
-              ap (contains spot_order new) here ∙ kept after other ∙ ap
-              (λ t. cond t true (contains spot_order order after)) (test_from_spot after after refl)
-          | (inr apart) ↦
-              let within : k < length spots = simp length-set at below in
-              let here : get_or (set spots at after) k p ≡ get_or spots k p =
-              get_or-set_other spots at k after p apart in
-              ap (contains spot_order new) here ∙ stays (get_or spots k p) (h.all k p within)
-              (λ e. apart (sym (cells k p within) ∙ e))
-        ];
     inside = λ q e.
         let within : q.cell < length spots =
         elim (came q e) [
@@ -156,3 +149,33 @@ module _ (order mid new : BTreeSet Spot) (spots : List Spot) (at : ℕ) (before 
               get_or-set_other spots at q.cell after q apart ∙ h.is q old.0
         ];
   }
+
+  -- what is left out was left out
+  pub left_out_before : (k : ℕ) (p : Spot) → k < length (set spots at after)
+      → contains spot_order new (get_or (set spots at after) k p) ≡ false
+      → (get_or (set spots at after) k p ≡ get_or spots k p) × (contains spot_order order (get_or spots k p) ≡ false)
+  left_out_before k p below out =
+      elim (cases_eq k at) [
+        | (inl same) ↦
+            let here : get_or (set spots at after) k p ≡ after = ap (λ n. get_or (set spots at after) n p) same
+            ∙ get_or-set_same spots at after p inside in
+            let yes : contains spot_order new (get_or (set spots at after) k p) ≡ true =
+            ap (contains spot_order new) here ∙ kept after other
+            ∙ ap (λ t. cond t true (contains spot_order order after)) (test_from_spot after after refl) in
+            absurd cc
+        | (inr apart) ↦
+            let within : k < length spots = simp length-set at below in
+            let here : get_or (set spots at after) k p ≡ get_or spots k p =
+            get_or-set_other spots at k after p apart in (
+              here,
+              elim (contains spot_order order (get_or spots k p)) as
+                  (λ t. contains spot_order order (get_or spots k p) ≡ t → t ≡ false) [
+                    | true ↦ λ was.
+                        let yes : contains spot_order new (get_or (set spots at after) k p) ≡ true =
+                        ap (contains spot_order new) here
+                        ∙ stays (get_or spots k p) was (λ e. apart (sym (cells k p within) ∙ e)) in
+                        absurd cc
+                    | false ↦ λ no. refl
+                  ] refl,
+            )
+      ]

@@ -2,7 +2,7 @@
 use Rattle.std.proofs.Common.{◌≡◌, ℕ, ◌+◌, ◌<◌, ◌≤◌, true, false, ◌&&◌, nat_eq, nat_le, nat_lt, List, [], ◌∷◌, length, get_or, Option, Some, None, ◌⊎◌, inl, inr, refl, is_some, option_map, unwrap_or, sym, ap, subst, ◌∙◌, arith}
 use Rattle.std.specs.BTreeMap.{is_at}
 use Rattle.std.specs.BTreeMap.Range.{range_contains}
-use Rattle.std.specs.BTreeSet.{IsOrdered, IsKeyInRange, keys_between}
+use Rattle.std.specs.BTreeSet.{contains, IsOrdered, IsKeyInRange, keys_between}
 use Rattle.std.specs.Cmp.{nat_cmp_total, tied_itself}
 use Rattle.std.specs.Cmp.Lexicographic.{pointwise}
 use Rattle.std.specs.List.{All, Contains, list_any}
@@ -25,6 +25,7 @@ use Rattle.auction_scoring.specs.declared.scores.Score.{Score}
 use Rattle.auctioneer.specs.Candidates.{better_candidate}
 use Rattle.auctioneer.specs.Fields.{IsFieldOf, IsFitting, IsNoWorse, IsBestOf}
 use Rattle.auctioneer.specs.Least.{best, IsBestAt}
+use Rattle.auctioneer.specs.Needs.{asks_for}
 use Rattle.auctioneer.specs.Spots.{spot_order, load_in, IsRanking}
 use Rattle.auctioneer.specs.Stands.{can_take, held_of, score_in, in_zone}
 use Rattle.auctioneer.specs.Tallies.{tallied}
@@ -82,11 +83,11 @@ module _ (f : Field) (field : IsFieldOf f) (job : Job) (spots : Spots)
     (ranks : IsRanking job.job f.groups.items f.stands.items spots) (number : ℕ) where
   -- at the start
   pub best_at_start : (found : Option Candidate) (list : List Spot)
-      → IsBestOf f.stands.items spots.all.items job (λ p. p.group < number) found
+      → asks_for job spots.need ≡ true → IsBestOf f.stands.items spots.all.items job (λ p. p.group < number) found
       → list ≡ keys_between spot_order (Included (first_of number)) (Excluded (first_of (number + 1))) spots.order
       → All (IsKeyInRange spot_order (Included (first_of number)) (Excluded (first_of (number + 1))) spots.order) list
       → IsOrdered spot_order spots.order → IsBestBefore f.stands.items spots.all.items job number list found
-  best_at_start found list best is inside ordered = record {
+  best_at_start found list served best is inside ordered = record {
     best = best;
     seen = λ k s p below group.
         let q : Spot = get_or spots.all.items k p in
@@ -96,12 +97,21 @@ module _ (f : Field) (field : IsFieldOf f) (job : Job) (spots : Spots)
         let e : y.group ≡ number = ap (λ (x : Spot). x.group) (sym (spot_from_test q y yes)) ∙ group in
         range_contains-from_IsInRange IsKeyOrder-spot_order.total (Included (first_of number))
         (Excluded (first_of (number + 1))) y (from_first number y e, before_next number y e) in
-        let there : list_any (is_at (spot_order q)) list ≡ true =
-        ap (list_any (is_at (spot_order q))) is
-        ∙ any-filter_same (is_at (spot_order q)) (range_contains spot_order (Included (first_of number))
-        (Excluded (first_of (number + 1)))) true passes spots.order.keys
-        ∙ ranks.order.all k p (omega (arith, ranks.spots.all)) in
-        inl (Contains-from_any {eq = eq_by_cmp spot_order} spot_from_test q list there);
+        elim (contains spot_order spots.order q) as
+        (λ t. contains spot_order spots.order q ≡ t
+        → Contains list q ⊎ IsNoWorse f.stands.items job found (get_or f.stands.items k s)) [
+          | true ↦ λ kept.
+              let there : list_any (is_at (spot_order q)) list ≡ true =
+              ap (list_any (is_at (spot_order q))) is
+              ∙ any-filter_same (is_at (spot_order q))
+              (range_contains spot_order (Included (first_of number)) (Excluded (first_of (number + 1)))) true
+              passes spots.order.keys
+              ∙ kept in
+              inl (Contains-from_any {eq = eq_by_cmp spot_order} spot_from_test q list there)
+          | false ↦ λ out.
+              inr (no_worse_unfit f.stands.items job found (get_or f.stands.items k s)
+              (ranks.left_out k s p (omega (arith, ranks.spots.all)) out job served))
+        ] refl;
     rising = subst (IsStrictlySortedBy spot_order) (sym is)
         (IsStrictlySortedBy-filter spot_order (range_contains spot_order (Included (first_of number))
         (Excluded (first_of (number + 1)))) spots.order.keys ordered);

@@ -6,6 +6,7 @@ use Rattle.cell_records.specs.declared.job_name.JobName.{JobName}
 use Rattle.cell_records.specs.declared.job_name.JobName.TheVariants.{Lrp}
 use Rattle.auction_scoring.specs.Order.{is_better}
 use Rattle.auctioneer.specs.Asked.{AreStands}
+use Rattle.auctioneer.specs.Needs.{asks_for}
 use Rattle.auctioneer.specs.Refused.{AreRefused}
 use Rattle.auctioneer.specs.Spots.{IsRanking}
 use Rattle.auctioneer.specs.Stands.{can_take, score_in}
@@ -15,6 +16,7 @@ use Rattle.auctioneer.specs.declared.field.Field.{Field}
 use Rattle.auctioneer.specs.declared.field.Own.{Own}
 use Rattle.auctioneer.specs.declared.groups.Group.{Group}
 use Rattle.auctioneer.specs.declared.spots.Spot.{Spot}
+use Rattle.auctioneer.specs.declared.spots.Spots.{Spots}
 use Rattle.auctioneer.specs.declared.stand.Stand.{Stand}
 use Rattle.auctioneer.specs.declared.tally.Place.TheVariants.{Zone, Cell}
 
@@ -22,10 +24,16 @@ use Rattle.auctioneer.specs.declared.tally.Place.TheVariants.{Zone, Cell}
 abbrev pub ServesOwn : List Group → List Stand → Own → Type 0
 ServesOwn groups stands own = (key : Key) → key.process ≡ own.process → IsRanking (Lrp key) groups stands own.spots
 
+-- the spots serve for every job that asks for what is needed
+abbrev pub ServesEach : List Group → List Stand → Spots → Type 0
+ServesEach groups stands spots = (job : JobName) → IsRanking job groups stands spots
+
 -- orders and tallies are those of the cells, one order serves for every job, and jobs of the refused sizes fit nowhere
 pub record IsFieldOf (f : Field) : Type 0 where
   pub sound : AreStands f.stands.items
-  pub common : (job : JobName) → IsRanking job f.groups.items f.stands.items f.common
+  pub common : ServesEach f.groups.items f.stands.items f.common
+  pub whole : (job : Job) → asks_for job f.common.need ≡ true
+  pub lean : IfSome f.lean (ServesEach f.groups.items f.stands.items)
   pub own : IfSome f.own (ServesOwn f.groups.items f.stands.items)
   pub zones : CountsAt Zone f.in_zones f.stands.items
   pub cells : CountsAt Cell f.on_cells f.stands.items
@@ -48,7 +56,8 @@ IsNoWorse stands job None s = can_take job s ≡ false
 IsNoWorse stands job (Some c) s = can_take job s ≡ true → is_better (score_in stands job.job s) c.score ≡ false
 
 -- the best so far is a cell that fits, and no worse than those that were looked at, as their spots say
-pub record IsBestOf (stands : List Stand) (spots : List Spot) (job : Job) (seen : Spot → Type 0) (found : Option Candidate)
+pub record IsBestOf (stands : List Stand) (spots : List Spot) (job : Job) (seen : Spot → Type 0)
+    (found : Option Candidate)
     : Type 0 where
   pub fitting : IfSome found (IsFitting stands job)
   pub no_worse : (k : ℕ) (s : Stand) (p : Spot) → k < length stands →

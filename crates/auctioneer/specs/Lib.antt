@@ -5,6 +5,7 @@ pub mod Auction
 pub mod Candidates
 pub mod Asked
 pub mod Laws
+pub mod Needs
 pub mod Spots
 pub mod Tallies
 pub mod Refused

@@ -1,10 +1,11 @@
 -- Orders of the cells: in groups of one tag and mostly of one zone, by what a cell scores at least, then by name.
-use Rattle.std.specs.Prelude.{◌≡◌, ℕ, ◌<◌, ◌≤◌, true, is_some, List, length, slice_index_or, IfSome}
+use Rattle.std.specs.Prelude.{◌≡◌, ℕ, ◌<◌, ◌≤◌, true, false, is_some, List, length, slice_index_or, IfSome}
 use Rattle.std.specs.BTreeSet.{BTreeSet, contains}
 use Rattle.std.specs.Ordering.{nat_cmp, on, then_cmp}
 use Rattle.std.specs.declared.cmp.Ordering.{Ordering}
 use Rattle.auction_scoring.specs.Score.{load_of}
 use Rattle.cell_records.specs.declared.job_name.JobName.{JobName}
+use Rattle.auctioneer.specs.Needs.{LacksRoom}
 use Rattle.auctioneer.specs.Stands.{view_of, in_zone, held_of}
 use Rattle.auctioneer.specs.declared.groups.Group.{Group}
 use Rattle.auctioneer.specs.declared.spots.Spot.{Spot}
@@ -54,13 +55,15 @@ pub record AreFirstSpots (groups : List Group) (stands : List Stand) (spots : Li
   pub group : (k : ℕ) (s : Stand) (p : Spot) → k < length stands →
       IsGroupOf groups (slice_index_or stands k s) (slice_index_or spots k p).group
 
--- the set holds the spot of each cell and nothing else
+-- the set holds spots of cells and nothing else
 pub record IsOrderOf (order : BTreeSet Spot) (spots : List Spot) : Type 0 where
-  pub all : (k : ℕ) (p : Spot) → k < length spots → contains spot_order order (slice_index_or spots k p) ≡ true
   pub inside : (q : Spot) → contains spot_order order q ≡ true → q.cell < length spots
   pub is : (q : Spot) → contains spot_order order q ≡ true → slice_index_or spots q.cell q ≡ q
 
--- the spots and their order serve for the job
+-- the spots and their order serve for the job if it asks for what is needed, since a cell that is left out lacks that
 pub record IsRanking (job : JobName) (groups : List Group) (stands : List Stand) (ranking : Spots) : Type 0 where
   pub spots : AreSpotsFor job groups stands ranking.all.items
   pub order : IsOrderOf ranking.order ranking.all.items
+  pub left_out : (k : ℕ) (s : Stand) (p : Spot) → k < length ranking.all.items →
+      contains spot_order ranking.order (slice_index_or ranking.all.items k p) ≡ false →
+      LacksRoom ranking.need (slice_index_or stands k s)

@@ -7,10 +7,12 @@ ghost use Rattle.auctioneer.specs.Least.{best, IsBestAt};
 ghost use Rattle.auctioneer.specs.Stands.{stands_of};
 
 use crate::groups::Group;
+use crate::looks::Looks;
+use crate::needs::Need;
 use crate::placement::Placement;
 use crate::placing::place_at;
 use crate::refused::{Size, remember};
-use crate::spots::{Spot, Spots, load_of, order_of, spots_of};
+use crate::spots::{Spots, order_of, spots_of};
 use crate::stand::Stand;
 use crate::standing::stands_of;
 use crate::tally::{Place, Tally, tally_of};
@@ -32,9 +34,13 @@ pub(crate) struct Field {
     pub(crate) groups: Vec<Group>,
     // By load alone, for each job.
     pub(crate) common: Spots,
+    // The same without cells that jobs looked at in vain, for jobs that ask for as much.
+    pub(crate) lean: Option<Spots>,
     // For the process whose jobs had to look at many cells.
     pub(crate) own: Option<Own>,
-    // The process of the last job, and how many cells its jobs looked at.
+    // How many cells jobs looked at in vain.
+    pub(crate) in_vain: usize,
+    // The process of the last job, and how many other cells its jobs looked at.
     pub(crate) watched: Option<Name>,
     pub(crate) looked: usize,
     // What the zones hold of each process, and the cells.
@@ -59,8 +65,14 @@ impl Field {
             alloc,
             stands,
             groups,
-            common: Spots { all, order },
+            common: Spots {
+                all,
+                order,
+                need: Need::NOTHING,
+            },
+            lean: None,
             own: None,
+            in_vain: 0,
             watched: None,
             looked: 0,
             in_zones,
@@ -110,18 +122,6 @@ impl Field {
         Ok(made)
     }
 
-    // Lets the common order know the load of the cell at that place.
-    fn renew_common(&mut self, at: usize)
-        requires field { IsFieldOf self.old }
-        requires inside { at < length self.old.stands.items }
-        ensures stands { self.new.stands.items ≡ self.old.stands.items }
-        ensures field { IsFieldOf self.new }
-    {
-        let load = load_of(&self.stands[at]);
-        let before = self.common.all[at];
-        self.common.move_cell(at, Spot { load, ..before });
-    }
-
     // Puts the job on the cell at that place, which is the best for it. After an error the cells are
     // as before.
     fn put(&mut self, job: &Job, at: usize) -> Result<Placement, OutOfMemory>
@@ -136,6 +136,7 @@ impl Field {
     {
         let made = self.count_in(job, at)?;
         self.renew_common(at);
+        self.renew_lean(at);
         self.renew_own(&job.job, at);
         Ok(made)
     }
@@ -162,11 +163,11 @@ impl Field {
         ensures err { OnErr result (self.new.stands.items ≡ self.old.stands.items) }
         ensures sound { IsFieldOf self.new }
     {
-        let mut looks = 0;
+        let mut looks = Looks::NONE;
         match self.best_of(job, &mut looks) {
             None => Ok(self.refuse(job)),
             Some(at) => {
-                self.watch(&job.job, looks);
+                self.watch(job, looks);
                 self.put(job, at)
             }
         }

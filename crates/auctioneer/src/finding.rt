@@ -1,9 +1,10 @@
 //! The best cell for a job: groups are gone through from the cell that scores least at least.
-ghost use Rattle.std.specs.Prelude.{◌≡◌, ◌+◌, ◌<◌, false, length, slice_index_or, option_map, unwrap_or};
+ghost use Rattle.std.specs.Prelude.{◌≡◌, ◌+◌, ◌<◌, true, false, length, slice_index_or, option_map, unwrap_or};
 ghost use Rattle.std.specs.Prelude.{IsTrue, IfSome, IfNone, IsSomeAnd, MatchOption, None};
 ghost use Rattle.auction_scoring.specs.Order.{is_better};
 ghost use Rattle.auctioneer.specs.Fields.{IsFieldOf, IsFitting, IsBestOf};
 ghost use Rattle.auctioneer.specs.Least.{best, IsBestAt};
+ghost use Rattle.auctioneer.specs.Needs.{asks_for};
 ghost use Rattle.auctioneer.specs.Spots.{IsRanking};
 ghost use Rattle.auctioneer.specs.Stands.{can_take, in_zone};
 ghost use Rattle.auctioneer.specs.Tallies.{tallied};
@@ -12,6 +13,7 @@ ghost use Rattle.auctioneer.specs.declared.stand.Stand.{Stand as AStand};
 
 use crate::candidate::{Candidate, better_of, view_of};
 use crate::field::Field;
+use crate::looks::Looks;
 use crate::refused::is_refused;
 use crate::spots::{Spot, Spots, first_of};
 use auction_scoring::{Score, better, fits, score};
@@ -69,8 +71,14 @@ impl Field {
         }
     }
 
-    // The cell at that place, if it fits the job.
-    fn candidate_at(&self, job: &Job, at: usize, floor: Option<u64>) -> Option<Candidate>
+    // The cell at that place, if it fits the job. It counts the look.
+    fn candidate_at(
+        &self,
+        job: &Job,
+        at: usize,
+        floor: Option<u64>,
+        looks: &mut Looks,
+    ) -> Option<Candidate>
         requires field { IsFieldOf self.now }
         requires inside { at < length self.now.stands.items }
         requires zone { (s : AStand) → IfSome floor (λ count. count
@@ -83,8 +91,10 @@ impl Field {
         let stand = &self.stands[at];
         let mut view = view_of(stand, 0, 0);
         if !fits(job, &view) {
+            looks.count_in_vain();
             return None;
         }
+        looks.count_fitting();
         view.in_zone = self.zone_count(&job.job, &stand.zone, floor);
         view.on_cell = self.on_cells.count(&job.job, &stand.cell);
         Some(Candidate {
@@ -101,10 +111,11 @@ impl Field {
         job: &Job,
         group: usize,
         found: Option<Candidate>,
-        looks: &mut usize,
+        looks: &mut Looks,
     ) -> Option<Candidate>
         requires field { IsFieldOf self.now }
         requires spots { IsRanking job.now.job self.now.groups.items self.now.stands.items spots.now }
+        requires served { asks_for job.now spots.now.need ≡ true }
         requires inside { group < length self.now.groups.items }
         requires found { IsBestOf self.now.stands.items spots.now.all.items job.now
             (λ p. p.group < group) found }
@@ -117,8 +128,7 @@ impl Field {
             if is_settled(&best, &self.least_of(spot, floor)) {
                 return best;
             }
-            *looks = looks.saturating_add(1);
-            if let Some(other) = self.candidate_at(job, spot.cell, floor) {
+            if let Some(other) = self.candidate_at(job, spot.cell, floor, looks) {
                 best = Some(better_of(best, other));
             }
         }
@@ -126,9 +136,10 @@ impl Field {
     }
 
     // The place of the best cell, by a look at the groups.
-    fn best_of_groups(&self, spots: &Spots, job: &Job, looks: &mut usize) -> Option<usize>
+    fn best_of_groups(&self, spots: &Spots, job: &Job, looks: &mut Looks) -> Option<usize>
         requires field { IsFieldOf self.now }
         requires spots { IsRanking job.now.job self.now.groups.items self.now.stands.items spots.now }
+        requires served { asks_for job.now spots.now.need ≡ true }
         ensures { MatchOption result (best self.now.stands.items job.now ≡ None)
             (IsBestAt self.now.stands.items job.now) }
     {
@@ -141,28 +152,50 @@ impl Field {
         best.map(|found: Candidate| found.at)
     }
 
-    // The order that serves best for the job.
-    fn spots_for(&self, job: &JobName) -> &Spots
+    // The order that serves best for jobs of any process that ask for as much as the job.
+    fn shared_for(&self, job: &Job) -> &Spots
         requires { IsFieldOf self.now }
-        ensures { IsRanking job.now self.now.groups.items self.now.stands.items result.now }
+        ensures ranking { IsRanking job.now.job self.now.groups.items self.now.stands.items result.now }
+        ensures served { asks_for job.now result.now.need ≡ true }
     {
-        match job {
+        match &self.lean {
+            Some(lean) => {
+                if lean.need.is_asked_by(job) {
+                    lean
+                } else {
+                    &self.common
+                }
+            }
+            None => &self.common,
+        }
+    }
+
+    // The order that serves best for the job.
+    fn spots_for(&self, job: &Job) -> &Spots
+        requires { IsFieldOf self.now }
+        ensures ranking { IsRanking job.now.job self.now.groups.items self.now.stands.items result.now }
+        ensures served { asks_for job.now result.now.need ≡ true }
+    {
+        match job.job {
             JobName::Lrp(key) => match &self.own {
                 Some(own) => {
-                    if own.process == key.process {
+                    if own.process != key.process {
+                        return self.shared_for(job);
+                    }
+                    if own.spots.need.is_asked_by(job) {
                         &own.spots
                     } else {
-                        &self.common
+                        self.shared_for(job)
                     }
                 }
-                None => &self.common,
+                None => self.shared_for(job),
             },
-            JobName::Task(_) => &self.common,
+            JobName::Task(_) => self.shared_for(job),
         }
     }
 
     // The place of the best cell. It counts the cells that it looks at.
-    pub(crate) fn best_of(&self, job: &Job, looks: &mut usize) -> Option<usize>
+    pub(crate) fn best_of(&self, job: &Job, looks: &mut Looks) -> Option<usize>
         requires { IsFieldOf self.now }
         ensures { MatchOption result (best self.now.stands.items job.now ≡ None)
             (IsBestAt self.now.stands.items job.now) }
@@ -170,6 +203,6 @@ impl Field {
         if is_refused(self.refused.as_slice(), job) {
             return None;
         }
-        self.best_of_groups(self.spots_for(&job.job), job, looks)
+        self.best_of_groups(self.spots_for(job), job, looks)
     }
 }

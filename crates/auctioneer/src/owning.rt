@@ -1,12 +1,12 @@
 //! A process whose jobs look at many cells gets an order of its own, by what the cells score for it.
 ghost use Rattle.std.specs.Prelude.{◌≡◌, ◌<◌, length, IfOk};
 ghost use Rattle.auctioneer.specs.Fields.{IsFieldOf};
-ghost use Rattle.auctioneer.specs.Spots.{IsRanking, IsSpotOf};
+ghost use Rattle.auctioneer.specs.Spots.{AreSpotsFor, IsRanking, IsSpotOf};
 
 use crate::field::{Field, Own};
-use crate::spots::{Spot, Spots, load_of, order_of};
-use cell_records::JobName;
-use diego_names::{Name, OutOfMemory};
+use crate::spots::{Spot, Spots, load_of, spots_with_room};
+use cell_records::{Job, JobName};
+use diego_names::OutOfMemory;
 
 impl Field {
     // The spot of the cell at that place, by what it scores for the job now.
@@ -32,16 +32,25 @@ impl Field {
     }
 
     // The cells by what they score for the job now.
-    fn spots_made(&self, job: &JobName) -> Result<Spots, OutOfMemory>
+    fn spots_made(&self, job: &JobName) -> Result<Vec<Spot>, OutOfMemory>
         requires { IsFieldOf self.now }
-        ensures { IfOk result (IsRanking job.now self.now.groups.items self.now.stands.items) }
+        ensures { IfOk result
+            (λ all. AreSpotsFor job.now self.now.groups.items self.now.stands.items all.items) }
     {
         let mut all = Vec::new(self.alloc);
         for at in 0..self.stands.len() {
             all.push(self.spot_for(job, at))?;
         }
-        let order = order_of(self.alloc, all.as_slice())?;
-        Ok(Spots { all, order })
+        Ok(all)
+    }
+
+    // These in their order, but for the cells that lack room for the job.
+    fn order_made(&self, job: &Job) -> Result<Spots, OutOfMemory>
+        requires { IsFieldOf self.now }
+        ensures { IfOk result (IsRanking job.now.job self.now.groups.items self.now.stands.items) }
+    {
+        let all = self.spots_made(&job.job)?;
+        spots_with_room(self.alloc, all, self.stands.as_slice(), job)
     }
 
     // Lets the order of the job's own process know what the cell at that place scores now.
@@ -62,7 +71,7 @@ impl Field {
     }
 
     // Whether the job's process has an order of its own.
-    fn has_own(&self, job: &JobName) -> bool {
+    pub(crate) fn has_own(&self, job: &JobName) -> bool {
         match (job, &self.own) {
             (JobName::Lrp(key), Some(own)) => own.process == key.process,
             _ => false,
@@ -103,52 +112,18 @@ impl Field {
         }
     }
 
-    // Gives the job's process an order of its own. Without memory the common one serves on.
-    fn give_own(&mut self, job: &JobName)
+    // Gives the job's process an order of its own, without the cells that lack room for the job. Without memory
+    // the others serve on.
+    pub(crate) fn give_own(&mut self, job: &Job)
         requires { IsFieldOf self.old }
         ensures stands { self.new.stands.items ≡ self.old.stands.items }
         ensures field { IsFieldOf self.new }
     {
-        if let JobName::Lrp(key) = job {
+        if let JobName::Lrp(key) = job.job {
             let process = key.process;
-            match self.spots_made(job) {
+            match self.order_made(job) {
                 Ok(spots) => self.own = Some(Own { process, spots }),
                 Err(_) => {}
-            }
-        }
-    }
-
-    // Adds to what the jobs of the process, one behind the other, looked at.
-    fn add_looks(&mut self, process: Name, looks: usize)
-        requires { IsFieldOf self.old }
-        ensures stands { self.new.stands.items ≡ self.old.stands.items }
-        ensures field { IsFieldOf self.new }
-    {
-        let before = self.looks_of(process);
-        self.watched = Some(process);
-        self.looked = before.saturating_add(looks);
-    }
-
-    fn looks_of(&self, process: Name) -> usize {
-        if self.watched == Some(process) {
-            self.looked
-        } else {
-            0
-        }
-    }
-
-    // Takes note of how many cells a job looked at. Where the jobs of one process, one behind the other, looked
-    // at twice as many as there are, it gets an order of its own, which costs as much.
-    pub(crate) fn watch(&mut self, job: &JobName, looks: usize)
-        requires { IsFieldOf self.old }
-        ensures stands { self.new.stands.items ≡ self.old.stands.items }
-        ensures field { IsFieldOf self.new }
-    {
-        if let JobName::Lrp(key) = job {
-            self.add_looks(key.process, looks);
-            if self.looked / 2 > self.stands.len() {
-                self.looked = 0;
-                self.give_own(job);
             }
         }
     }

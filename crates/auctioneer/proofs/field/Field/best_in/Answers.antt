@@ -30,7 +30,7 @@ loop-spot-init c =
     subst (λ (xs : List Spot). IsBestBefore f.stands.items spots.all.items c.args.job.now c.args.group xs c.args.found)
     (sym c.into_iter-spot-iterator.ensures.into_iter_gives)
     (best_at_start f c.requires.field c.args.job.now spots c.requires.spots c.args.group c.args.found list
-    c.requires.found is inside c.range-spot-items.ensures.ordered)
+    c.requires.served c.requires.found is inside c.range-spot-items.ensures.ordered)
 
 pub least_of-requires : goal.least_of-requires
 least_of-requires c =

@@ -6,7 +6,7 @@ use Rattle.cell_records.specs.declared.job_name.JobName.{JobName}
 use Rattle.cell_records.specs.declared.job_name.JobName.TheVariants.{Lrp}
 use Rattle.auctioneer.specs.Asked.{AreStands}
 use Rattle.auctioneer.specs.Refused.{AreRefused}
-use Rattle.auctioneer.specs.Fields.{ServesOwn}
+use Rattle.auctioneer.specs.Fields.{ServesEach, ServesOwn}
 use Rattle.auctioneer.specs.Spots.{IsRanking}
 use Rattle.auctioneer.specs.Stands.{with_job}
 use Rattle.auctioneer.specs.Tallies.{HasRoomFor, Gains, CountsAt}
@@ -17,6 +17,7 @@ use Rattle.auctioneer.specs.declared.stand.Stand.{Stand}
 use Rattle.auctioneer.specs.declared.tally.Place.TheVariants.{Zone, Cell}
 use Rattle.auctioneer.proofs.Counts.{CountsAt-put, tallied-few}
 use Rattle.auctioneer.proofs.Refusals.{AreRefused-put}
+use Rattle.auctioneer.proofs.Shortages.{LacksRoom-put}
 use Rattle.auctioneer.proofs.SpotLists.{AreSpotsFor-put}
 use Rattle.auctioneer.proofs.field.Field.count_in.Goals as goal
 
@@ -35,7 +36,16 @@ ranking_put : (stands : List Stand) (groups : List Group) (at : ℕ) (s : Stand)
 ranking_put stands groups at s job inside is other spots h = record {
   spots = AreSpotsFor-put other groups stands at s job inside is spots.all.items h.spots;
   order = h.order;
+  left_out = λ k x p below out. LacksRoom-put spots.need stands at s job k x inside is (h.left_out k x p below out);
 }
+
+lean_put : (lean : Option Spots) (stands new : List Stand) (groups : List Group) (at : ℕ) (s : Stand) (job : Job)
+    → at < length stands → s ≡ get_or stands at s → new ≡ set stands at (with_job job s)
+    → IfSome lean (ServesEach groups stands) → IfSome lean (ServesEach groups new)
+lean_put None stands new groups at s job inside is changed h = tt
+lean_put (Some spots) stands new groups at s job inside is changed h = λ other.
+    subst (λ (ss : List Stand). IsRanking other groups ss spots) (sym changed)
+    (ranking_put stands groups at s job inside is other spots (h other))
 
 own_put : (own : Option Own) (stands new : List Stand) (groups : List Group) (at : ℕ) (s : Stand) (job : Job)
     → at < length stands → s ≡ get_or stands at s → new ≡ set stands at (with_job job s)
@@ -102,6 +112,8 @@ returns-clause-field c =
       sound = c.in_ok-made.ensures.sound;
       common = λ other. subst (λ (ss : List Stand). IsRanking other f.groups.items ss f.common) (sym changed)
           (ranking_put items f.groups.items at s job inside is other f.common (field.common other));
+      whole = field.whole;
+      lean = lean_put f.lean items c.place_at.new.stands.items f.groups.items at s job inside is changed field.lean;
       own = own_put f.own items c.place_at.new.stands.items f.groups.items at s job inside is changed field.own;
       zones =
           subst (CountsAt Zone c.add.new.self) (sym changed)
@@ -123,6 +135,8 @@ returns-in_err-made-clause-field c =
       sound = subst AreStands (sym same) field.sound;
       common = λ other. subst (λ (ss : List Stand). IsRanking other f.groups.items ss f.common) (sym same)
           (field.common other);
+      whole = field.whole;
+      lean = subst (λ (ss : List Stand). IfSome f.lean (ServesEach f.groups.items ss)) (sym same) field.lean;
       own = subst (λ (ss : List Stand). IfSome f.own (ServesOwn f.groups.items ss)) (sym same) field.own;
       zones = subst (CountsAt Zone f.in_zones) (sym same) field.zones;
       cells = subst (CountsAt Cell f.on_cells) (sym same) field.cells;

@@ -12,6 +12,8 @@ returns-in-Ok-clause-field c =
     record {
       sound = field.sound;
       common = field.common;
+      whole = field.whole;
+      lean = field.lean;
       own = λ other is.
           IsRanking-process key other f.groups.items f.stands.items c.in-Ok.spots (sym is)
           (subst (λ (j : JobName). IsRanking j f.groups.items f.stands.items c.in-Ok.spots) c.in-Lrp.is

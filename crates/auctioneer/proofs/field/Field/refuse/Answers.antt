@@ -8,6 +8,8 @@ returns-clause-field c =
     record {
       sound = field.sound;
       common = field.common;
+      whole = field.whole;
+      lean = field.lean;
       own = field.own;
       zones = field.zones;
       cells = field.cells;

@@ -35,8 +35,10 @@ returns-then-eq-clause-field c =
     record {
       sound = field.sound;
       common = field.common;
+      whole = field.whole;
+      lean = field.lean;
       own = λ other is.
-          c.move_cell.ensures (Lrp other) f.groups.items f.stands.items
+          c.move_cell.ensures.ranking (Lrp other) f.groups.items f.stands.items
           (IsSpotOf-process key other f.groups.items f.stands.items c.args.at c.spot_for-spot.result
           (sym same ∙ sym is) spot)
           (serves other is);

@@ -1,10 +1,8 @@
 use Rattle.std.proofs.Common.{◌≡◌, ◌<◌, List, [], ◌∷◌, ◌++◌, length, get_or, inl, inr, sym, ap, subst, ◌∙◌, arith}
-use Rattle.std.specs.BTreeSet.{IsFromIterResult}
 use Rattle.std.proofs.lemmas.Bool.{cases_lt}
 use Rattle.std.proofs.lemmas.List.{length-append, get_or_append_left, get_or_push}
-use Rattle.auctioneer.specs.Spots.{spot_order, IsSpotOf}
+use Rattle.auctioneer.specs.Spots.{IsSpotOf}
 use Rattle.auctioneer.specs.declared.spots.Spot.{Spot}
-use Rattle.auctioneer.proofs.SpotOrders.{AreCellsOf, IsOrderOf-made}
 use Rattle.auctioneer.proofs.field.Field.spots_made.Goals as goal
 
 pub loop-at-preserved : goal.loop-at-preserved
@@ -36,15 +34,7 @@ loop-at-preserved c =
 
 pub returns : goal.returns
 returns c =
-    let f = c.args.self.now in
     let so_far = c.loop-at.invariant in
-    let all = c.loop-at.all.items in
-    let length_is : length all ≡ length f.stands.items = omega
-    (arith, so_far.0, so_far.1, c.loop-at-test.false, c.len-at-end.ensures) in
-    let cells : AreCellsOf all = λ k p below. (so_far.2 k p (omega (arith, so_far.0))).cell in
-    record {
-      spots = record { all = length_is; each = λ k p below. so_far.2 k p (omega (arith, so_far.0, length_is)) };
-      order = IsOrderOf-made c.in_ok-order.order all cells
-          (subst (λ (ps : List Spot). IsFromIterResult spot_order ps c.in_ok-order.order) c.as_slice.ensures.value
-          c.in_ok-order.ensures);
-    }
+    let all : length c.loop-at.all.items ≡ length c.args.self.now.stands.items =
+    omega (arith, so_far.0, so_far.1, c.loop-at-test.false, c.len-at-end.ensures) in
+    record { all = all; each = λ k p below. so_far.2 k p (omega (arith, so_far.0, all)) }
