@@ -14,26 +14,24 @@ use Rattle.lrp_records.specs.declared.presence.Presence.TheVariants.{Ordinary, E
 use Rattle.lrp_records.specs.declared.state.LrpState.{LrpState}
 use Rattle.lrp_records.specs.declared.state.LrpState.TheVariants as lrp
 use Rattle.bbs_model.specs.Found.{suspect_in}
-use Rattle.bbs_model.specs.Runs.{state_after, state_after_all}
-use Rattle.bbs_model.specs.Step.{verdict_of}
+use Rattle.bbs_model.specs.Runs.{state_after_all}
 use Rattle.bbs_model.specs.Tables.{find_actual}
-use Rattle.bbs_model.specs.Work.{at, is_there, wants, fresh_in, is_running, runs}
+use Rattle.bbs_model.specs.Work.{is_there, wants, fresh_in, is_running, runs}
 use Rattle.bbs_model.specs.declared.command.Command.{Command}
 use Rattle.bbs_model.specs.declared.command.Op.TheVariants as op
 use Rattle.bbs_model.specs.declared.rows.Rows.{Rows}
 use Rattle.convergence.specs.Containers.{row_names, is_holder}
-use Rattle.convergence.specs.Subjects.{OfPlace, subject_of, subject_in, ordinary_of}
-use Rattle.converge_laws.specs.Accepted.{IsAccepted}
+use Rattle.convergence.specs.Subjects.{OfPlace, subject_in, ordinary_of}
 use Rattle.converge_laws.specs.Converged.{is_held, IsStateHeld, HasItsPlace, HasItsContainer, IsUnwantedKept, IsInstanceSettled, IsKeptAside, IsSuspected}
 use Rattle.converge_laws.specs.Stages.{IsClaimOf, MayBePlaced, IsPlaceable}
 use Rattle.converge_laws.proofs.Frames.{stays-ordinary, stays-evacuating, stays-suspect}
 use Rattle.converge_laws.proofs.Held.{held-ground, row-key}
 use Rattle.converge_laws.proofs.Kept.{suspected-any, unwanted-ground, reason-ground}
-use Rattle.converge_laws.proofs.MoveEnds.{IsNowClaimed, claimed}
-use Rattle.converge_laws.proofs.Moves.{after-claim}
+use Rattle.converge_laws.proofs.MoveEnds.{IsNowClaimed}
 use Rattle.converge_laws.proofs.Naming.{instance_itself}
-use Rattle.converge_laws.proofs.Runs.{about_some, run-other, run-took}
-use Rattle.converge_laws.proofs.Claims.{subject_for, claim-about, claim-unsuspected, same_job_as, not_aside, IsClaiming, of_round, ground, held-more, held-new, claim-is}
+use Rattle.converge_laws.proofs.OwnClaims.{row-taken}
+use Rattle.converge_laws.proofs.Runs.{about_some, run-other}
+use Rattle.converge_laws.proofs.Claims.{subject_for, claim-about, claim-unsuspected, same_job_as, not_aside, IsClaiming, of_round, ground, held-more, held-new}
 
 module _ (rows : Rows) (before after : List Answer) (now : Moment) (cs : List Command)
     (g : IsClaiming rows before after now cs) where
@@ -60,22 +58,7 @@ module _ (rows : Rows) (before after : List Answer) (now : Moment) (cs : List Co
         → c.op ≡ op.Claim key instance cell
         → (old : Actual) × (ordinary rows ≡ Some old) × IsNowClaimed old instance cell (ordinary new)
     row-claimed c instance cell inside claims =
-        run-took ordinary (λ (d : Command). subject_in d ≢ ordinary_of key)
-        (λ r d h other. stays-ordinary r d h key other)
-        (λ (r : Option Actual). (old : Actual) × (ordinary rows ≡ Some old) × IsNowClaimed old instance cell r) c rows
-        cs (of_round rows before after now cs g).ops g.apart g.taken inside
-        (λ d in_d other same. other (same ∙ sym (ap subject_of claims)))
-        (λ start same h.
-        let command : c ≡ at now (op.Claim key instance cell) =
-        (claim-is rows before after now cs g) c (op.Claim key instance cell) inside claims in
-        let accepted : IsAccepted (verdict_of start (at now (op.Claim key instance cell))) =
-        subst (λ (d : Command). IsAccepted (verdict_of start d)) command h in
-        let m = after-claim start now key instance cell accepted in (
-          m.old,
-          sym same ∙ m.found,
-          subst (λ (d : Command). IsNowClaimed m.old instance cell (ordinary (state_after start d))) (sym command)
-              (subst (IsNowClaimed m.old instance cell) (sym m.after) (claimed m.old now instance cell m.taken)),
-        ))
+        row-taken rows now cs (of_round rows before after now cs g) g.apart g.taken key c instance cell inside claims
 
     -- a row is claimed, or stays as it was
     row-fate : IsRowClaimed ⊎ ((ordinary new ≡ ordinary rows)

@@ -10,25 +10,24 @@ use Rattle.lrp_records.specs.States.{is_same_instance}
 use Rattle.task_records.specs.declared.state.TaskState.{TaskState}
 use Rattle.task_records.specs.declared.state.TaskState.TheVariants as task
 use Rattle.task_records.specs.declared.task.Task.{Task}
-use Rattle.bbs_model.specs.Runs.{state_after, state_after_all}
-use Rattle.bbs_model.specs.Step.{verdict_of}
+use Rattle.bbs_model.specs.Runs.{state_after_all}
 use Rattle.bbs_model.specs.Tables.{find_task}
 use Rattle.task_records.specs.States.{runner_of}
-use Rattle.bbs_model.specs.Work.{at, is_there}
+use Rattle.bbs_model.specs.Work.{is_there}
 use Rattle.bbs_model.specs.declared.command.Command.{Command}
 use Rattle.bbs_model.specs.declared.command.Op.TheVariants as op
 use Rattle.bbs_model.specs.declared.rows.Rows.{Rows}
 use Rattle.convergence.specs.Containers.{task_names, is_holder}
-use Rattle.convergence.specs.Subjects.{OfTask, subject_of, subject_in}
-use Rattle.converge_laws.specs.Accepted.{IsAccepted}
+use Rattle.convergence.specs.Subjects.{OfTask, subject_in}
 use Rattle.converge_laws.specs.Converged.{IsTaskSettled}
 use Rattle.converge_laws.specs.Stages.{IsClaimOf, MayTaskBePlaced, IsTaskPlaceable}
 use Rattle.converge_laws.proofs.Frames.{stays-task}
 use Rattle.converge_laws.proofs.Held.{held-ground}
 use Rattle.converge_laws.proofs.Naming.{instance_itself}
-use Rattle.converge_laws.proofs.Runs.{about_some, run-other, run-took}
-use Rattle.converge_laws.proofs.TaskMoves.{IsNowRunning, after-start, started}
-use Rattle.converge_laws.proofs.Claims.{subject_for, claim-about, same_task_as, IsClaiming, of_round, ground, held-more, held-new, claim-is}
+use Rattle.converge_laws.proofs.OwnClaims.{task-taken}
+use Rattle.converge_laws.proofs.Runs.{about_some, run-other}
+use Rattle.converge_laws.proofs.TaskMoves.{IsNowRunning}
+use Rattle.converge_laws.proofs.Claims.{subject_for, claim-about, same_task_as, IsClaiming, of_round, ground, held-more, held-new}
 
 module _ (rows : Rows) (before after : List Answer) (now : Moment) (cs : List Command)
     (g : IsClaiming rows before after now cs) where
@@ -55,21 +54,7 @@ module _ (rows : Rows) (before after : List Answer) (now : Moment) (cs : List Co
         → c.op ≡ op.StartTask name instance cell
         → (old : Task) × (the_task rows ≡ Some old) × IsNowRunning old instance cell (the_task new)
     task-claimed c instance cell inside claims =
-        run-took the_task (λ (d : Command). subject_in d ≢ OfTask name) (λ r d h other. stays-task r d h name other)
-        (λ (r : Option Task). (old : Task) × (the_task rows ≡ Some old) × IsNowRunning old instance cell r) c rows cs
-        (of_round rows before after now cs g).ops g.apart g.taken inside
-        (λ d in_d other same. other (same ∙ sym (ap subject_of claims)))
-        (λ start same h.
-        let command : c ≡ at now (op.StartTask name instance cell) =
-        (claim-is rows before after now cs g) c (op.StartTask name instance cell) inside claims in
-        let accepted : IsAccepted (verdict_of start (at now (op.StartTask name instance cell))) =
-        subst (λ (d : Command). IsAccepted (verdict_of start d)) command h in
-        let m = after-start start now name instance cell accepted in (
-          m.old,
-          sym same ∙ m.found,
-          subst (λ (d : Command). IsNowRunning m.old instance cell (the_task (state_after start d))) (sym command)
-              (subst (IsNowRunning m.old instance cell) (sym m.after) (started m.old now instance cell m.taken)),
-        ))
+        task-taken rows now cs (of_round rows before after now cs g) g.apart g.taken name c instance cell inside claims
 
     task-fate : IsTaskClaimed ⊎ ((the_task new ≡ the_task rows)
         × ((c : Command) → Contains cs c → subject_in c ≢ OfTask name))

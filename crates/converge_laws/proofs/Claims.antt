@@ -14,7 +14,7 @@ use Rattle.lrp_records.specs.declared.presence.Presence.TheVariants.{Ordinary, E
 use Rattle.bbs_model.specs.Found.{suspect_in}
 use Rattle.bbs_model.specs.Runs.{state_after_all}
 use Rattle.bbs_model.specs.Valid.{IsValid}
-use Rattle.bbs_model.specs.Work.{at, is_there}
+use Rattle.bbs_model.specs.Work.{is_there}
 use Rattle.bbs_model.specs.declared.command.Command.{Command}
 use Rattle.bbs_model.specs.declared.command.Op.{Op}
 use Rattle.bbs_model.specs.declared.rows.Rows.{Rows}
@@ -156,7 +156,3 @@ module _ (rows : Rows) (before after : List Answer) (now : Moment) (cs : List Co
       } in
       let d = y.2.claimed j instance is (ap (λ (p : List ℕ × ℕ). p.1) (sym same)) in
       held-any j instance cell y.0 d.0 there y.1 d.1 (looks_like j instance d.0 d.2 d.3)
-
-  -- the command is the claim at that moment
-  pub claim-is : (c : Command) (o : Op) → Contains cs c → c.op ≡ o → c ≡ at now o
-  claim-is c o inside is = λ i. record { now = g.moments c inside i; op = is i }

@@ -15,6 +15,7 @@ pub mod Lists
 pub mod Naming
 pub mod StopStage
 pub mod Claims
+pub mod OwnClaims
 pub mod ClaimRows
 pub mod ClaimTasks
 pub mod ClaimStage

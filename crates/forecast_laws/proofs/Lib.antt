@@ -16,4 +16,5 @@ mod HoldersLeft
 mod RowsLeft
 mod SiteLeft
 mod AllHeard
+mod TakenPlaces
 mod LossRound

@@ -1,5 +1,7 @@
 -- A round behind a loss goes as planned.
 use Rattle.std.proofs.Common.{◌≡◌, ℕ, List, [], sym, ap, subst, ◌∙◌}
+use Rattle.std.specs.List.{Contains}
+use Rattle.auctioneer.specs.declared.placement.Placement.TheVariants.{On}
 use Rattle.bbs_model.specs.PortView.{rows_seen}
 use Rattle.bbs_model.specs.Valid.{IsValid}
 use Rattle.bbs_model.specs.declared.rows.Rows.{Rows}
@@ -22,6 +24,7 @@ use Rattle.forecast_laws.specs.Records.{AreAsTheSite, RecordsReadTheSite}
 use Rattle.forecast_laws.specs.Rooms.{DisplacedJobsFindRoom, IsOtherwiseUndisturbed, RoomMakesRoundsComplete, RoundsLeaveWhatPlansLeave}
 use Rattle.forecast_laws.proofs.Alike.{none_inside}
 use Rattle.forecast_laws.proofs.AllHeard.{those_there}
+use Rattle.forecast_laws.proofs.TakenPlaces.{displaced_place, place_taken}
 
 module _ (by : ℕ) (now : Moment) (line : ℕ) (s s' : Standing) (r : Report) (h : IsRound by now line s s' r)
     (u : IsOtherwiseUndisturbed by now line s s' r h) where
@@ -37,7 +40,7 @@ module _ (by : ℕ) (now : Moment) (line : ℕ) (s s' : Standing) (r : Report) (
   valid : IsValid R
   valid = subst IsValid first h.opens.heard.valid
 
-  none_refused : r.refused ≡ []
+  pub none_refused : r.refused ≡ []
   none_refused =
       none_inside r.refused (λ x inside. u.room x inside
       (alone-refused by now line s s' r h u.names u.alone x inside))
@@ -74,9 +77,16 @@ module _ (leaves : LossesLeaveTheSite) (reads : RecordsReadTheSite) (hears : Rou
       → LossesGoAsPlanned
   as_planned plans leave displaced completes by now line s s' r h site lost stores old u loss =
       let read = loss_read by now line s s' r h u leaves reads hears loses declines site lost stores old loss in
+      let refused = none_refused by now line s s' r h u in
+      let placed = plans by now line s s' r h site lost read in
+      let taken = place_taken by now line s s' r h u refused in
       record {
-        placed = plans by now line s s' r h site lost read;
+        placed = placed;
+        taken = λ n cell inside. taken n cell (subst (λ ps. Contains ps (On n cell)) (sym placed) inside);
         unplaced = leave by now line s s' r h site lost read;
         displaced_placed = λ room j moved inside. displaced by now line s s' r h site lost read room j moved inside;
+        displaced_taken = λ room j moved.
+            let p = displaced_place by now line s s' r h u refused site lost read displaced room j moved in
+            (p.0, subst (λ ps. Contains ps (On j.job p.0)) placed p.1, taken j.job p.0 p.1);
         ends = λ none. completes by now line s s' r h site lost read none u;
       }

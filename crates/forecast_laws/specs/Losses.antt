@@ -4,6 +4,7 @@ use Rattle.std.specs.List.{All, AllZip, Contains}
 use Rattle.std.specs.Ordering.{nat_cmp}
 use Rattle.auctioneer.specs.Stands.{jobs_of}
 use Rattle.auctioneer.specs.declared.placement.Placement.{Placement}
+use Rattle.auctioneer.specs.declared.placement.Placement.TheVariants.{On}
 use Rattle.bbs_model.specs.PortView.{rows_seen}
 use Rattle.bbs_model.specs.Tables.{find_actual, find_task}
 use Rattle.bbs_model.specs.Valid.{IsValid}
@@ -11,6 +12,8 @@ use Rattle.bbs_model.specs.Work.{has_passed, is_due, is_there, wants, work}
 use Rattle.bbs_model.specs.declared.rows.Rows.{Rows}
 use Rattle.cell_records.specs.declared.answer.Answer.{Answer}
 use Rattle.cell_records.specs.declared.job.Job.{Job}
+use Rattle.cell_records.specs.declared.job_name.JobName.{JobName}
+use Rattle.cell_records.specs.declared.job_name.JobName.TheVariants as name
 use Rattle.container_store.specs.Store.{IsGiven, number_of}
 use Rattle.convergence.specs.Containers.{answer_from, site_of}
 use Rattle.convergence.specs.Strays.{strays}
@@ -117,14 +120,25 @@ LossesLeaveTheSite = (site : Site) (lost : List (List ℕ)) (rows : Rows) (got s
     IsValid rows → AreAccepted rows (work rows now) → AreThoseThere rows got now →
     IsBehindALoss site lost rows got stores old now → LeavesTheSite site lost rows got now
 
--- a round does what the plan of the loss says: the same placements, the same jobs without room, none of them displaced
--- where the verdict is room, and where none is left all is as it should be
+-- a job's row says that it has its place on that cell: an instance's ORDINARY row is CLAIMED there, a task is RUNNING
+abbrev pub IsTakenOn : Rows → List ℕ → JobName → Type 0
+IsTakenOn rows cell (name.Lrp key) =
+    (a : Actual) × (i : Instance) × (find_actual rows key Ordinary ≡ Some a) × (a.state ≡ lrp.Claimed i cell)
+IsTakenOn rows cell (name.Task n) =
+    (t : Task) × (i : Instance) × (find_task rows n ≡ Some t) × (t.state ≡ task.Running i cell)
+
+-- a round does what the plan of the loss says: the same placements, which the last rows have, the same jobs without
+-- room, none of them displaced where the verdict is room, and where none is left all is as it should be
 pub record GoesAsPlanned (site : Site) (lost : List (List ℕ)) (now : Moment) (placements : List Placement)
     (s' : Standing) (r : Report) : Type 0 where
   pub placed : placements ≡ plan site lost
+  pub taken : (n : JobName) (cell : List ℕ) → Contains (plan site lost) (On n cell) →
+      IsTakenOn (rows_seen s'.view) cell n
   pub unplaced : r.unplaced ≡ map (λ j. j.job) (left_of site lost)
   pub displaced_placed : verdict_of_loss site lost ≡ Room → (j : Job) → Contains (displaced site lost) j →
       Contains r.unplaced j.job → ⊥
+  pub displaced_taken : verdict_of_loss site lost ≡ Room → (j : Job) → Contains (displaced site lost) j →
+      (cell : List ℕ) × Contains (plan site lost) (On j.job cell) × IsTakenOn (rows_seen s'.view) cell j.job
   pub ends : left_of site lost ≡ [] → EndsWell now s' r
 
 -- a round behind a loss goes as planned, where nothing disturbs it but, perhaps, want of room for its jobs

@@ -58,7 +58,8 @@ pub fn losses_leave_the_site()
     ensures { LossesLeaveTheSite }
 {}
 
-/// A round at such rows goes as planned, where nothing disturbs it but, perhaps, want of room.
+/// A round at such rows goes as planned, where nothing disturbs it but, perhaps, want of room: at its
+/// end each job that the plan places has its row on that cell.
 pub fn losses_go_as_planned()
     ensures { LossesGoAsPlanned }
 {

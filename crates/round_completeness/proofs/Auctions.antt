@@ -67,7 +67,7 @@ task_found rows t (task.Running i c) j valid inside e = absurd cc
 task_found rows t (task.Completed failed) j valid inside e = absurd cc
 task_found rows t (task.Resolving failed) j valid inside e = absurd cc
 
-job_found : (rows : Rows) → IsValid rows → (j : Job) → Contains (jobs rows) j → named_job rows j.job ≡ Some j
+pub job_found : (rows : Rows) → IsValid rows → (j : Job) → Contains (jobs rows) j → named_job rows j.job ≡ Some j
 job_found rows valid j inside = ⊎_elim
     (λ (here : Contains (filter_map (row_job rows) rows.actual) j).
     let a = from_kept (row_job rows) rows.actual j here in

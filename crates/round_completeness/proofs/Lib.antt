@@ -9,3 +9,4 @@ pub mod ByEnds
 pub mod Lessened
 pub mod Openings
 pub mod Whole
+pub mod Public

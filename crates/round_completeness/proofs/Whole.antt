@@ -23,7 +23,7 @@ use Rattle.converge_round.specs.declared.placing.Places.{Places}
 use Rattle.crash_backoff.specs.declared.moment.Moment.{Moment}
 use Rattle.round_theorem.specs.Losses.{mute_if, mute_among, mute_of}
 use Rattle.round_theorem.proofs.Public.{alone-refused, has-causes}
-use Rattle.round_completeness.specs.Completeness.{IsCountSame, TellsThrough, IsUndisturbed, RoundsThatNothingDisturbsAreComplete}
+use Rattle.round_completeness.specs.Completeness.{IsCountSame, TellsThrough, LosesNothing, EachAnswers, RoundsThatNothingDisturbsAreComplete}
 use Rattle.round_completeness.specs.Ends.{gets_through, AreHeardByEnds, is_stopped, starts_lost}
 use Rattle.round_completeness.proofs.ByEnds.{by-ends}
 use Rattle.round_completeness.proofs.Ready.{decline-none}
@@ -48,11 +48,11 @@ mute_none cells (c ∷ cs) s t f apart answers =
     omega (arith, one, rest)
 
 none-mute : (by : ℕ) (now : Moment) (line : ℕ) (s s' : Standing) (r : Report) (h : IsRound by now line s s' r)
-    → IsUndisturbed by now line s s' r h → mute_of by now line s s' r h ≡ 0
-none-mute by now line s s' r h u =
+    → StandApart (names_of s.reps) → EachAnswers s.reps (rows_seen h.opens.first) now → mute_of by now line s s' r h ≡ 0
+none-mute by now line s s' r h names answer =
     mute_none s.reps (present (rows_seen h.opens.first) now) (questions s.wire [])
     (questions h.opens.wire h.opens.hearing.got)
-    h.opens.heard.got u.names u.answer
+    h.opens.heard.got names answer
 
 -- where all gets through, each of them is heard, all are stopped, and no start is lost
 heard_some : (cells : List CellRep) (c : CellRow) (o : Option Answer) → StandApart (names_of cells) → (a : Answer)
@@ -87,7 +87,7 @@ all_kept p (x ∷ xs) h = ap (λ (b : Bool). length (cond b (x ∷ filter p xs) 
     (arith, all_kept p xs h)
 
 module _ (by : ℕ) (now : Moment) (line : ℕ) (s s' : Standing) (r : Report) (h : IsRound by now line s s' r)
-    (u : IsUndisturbed by now line s s' r h) where
+    (names : StandApart (names_of s.reps)) (answer : EachAnswers s.reps (rows_seen h.opens.first) now) where
   none_by_count : IsCountSame s.wire s'.wire → r.lost ≡ 0
   none_by_count w =
       let c = has-causes by now line s s' r h in
@@ -97,8 +97,8 @@ module _ (by : ℕ) (now : Moment) (line : ℕ) (s s' : Standing) (r : Report) (
         c.rose,
         w.stands,
         w.rises,
-        none-mute by now line s s' r h u,
-        decline-none by now line s s' r h u.names,
+        none-mute by now line s s' r h names answer,
+        decline-none by now line s s' r h names,
       )
 
   none_by_ends : TellsThrough s.wire → r.lost ≡ 0
@@ -108,7 +108,7 @@ module _ (by : ℕ) (now : Moment) (line : ℕ) (s s' : Standing) (r : Report) (
       (w.through (record { actor = cell; kind = kind }) 0) in
       let steady : IsSteady s.wire.ends = subst IsSteady (sym w.told)
       (λ call n. w.through call n ∙ sym (w.through call 0)) in
-      let b = by-ends by now line s s' r h w.ends u.names w.told steady in
+      let b = by-ends by now line s s' r h w.ends names w.told steady in
       let gone = strays (rows_seen h.opens.third) h.opens.hearing.got in
       omega (
         arith,
@@ -116,12 +116,16 @@ module _ (by : ℕ) (now : Moment) (line : ℕ) (s s' : Standing) (r : Report) (
         h.reports.asked,
         h.opens.asked_is,
         h.opens.heard.asked,
-        all_heard w.ends through s.reps (present (rows_seen h.opens.first) now) h.opens.hearing.got u.names u.answer
+        all_heard w.ends through s.reps (present (rows_seen h.opens.first) now) h.opens.hearing.got names answer
             b.heard,
         ap length b.stopped,
         all_kept (is_stopped w.ends) gone (λ a. through a.0 Stop),
         none_starts w.ends through h.opening_is.places h.opening_is.places.roomy,
       )
+
+  -- nothing is lost where the wire loses nothing and each cell that is present has an answer
+  pub none-lost : LosesNothing s.wire s'.wire → r.lost ≡ 0
+  none-lost wire = ⊎_elim none_by_count none_by_ends wire
 
 none_inside : {X : Type 0} (xs : List X) → ((x : X) → Contains xs x → ⊥) → xs ≡ []
 none_inside [] h = refl
@@ -129,7 +133,7 @@ none_inside (x ∷ xs) h = absurd (h x (inside_first x xs))
 
 pub complete-round : RoundsThatNothingDisturbsAreComplete
 complete-round by now line s s' r h u = record {
-  lost = ⊎_elim (none_by_count by now line s s' r h u) (none_by_ends by now line s s' r h u) u.wire;
+  lost = none-lost by now line s s' r h u.names u.answer u.wire;
   refused = none_inside r.refused (λ x inside. u.room x inside
       (alone-refused by now line s s' r h u.names u.alone x inside));
   placed = u.placed;

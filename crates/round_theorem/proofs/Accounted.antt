@@ -1,5 +1,5 @@
 -- Each round has its account: what its parts say together.
-use Rattle.std.proofs.Common.{◌≡◌, ℕ, ◌+◌, ◌-◌, ◌^◌, min, false, List, [], ◌++◌, length, sym, ap, subst, ◌∙◌, arith, ⊎_elim}
+use Rattle.std.proofs.Common.{◌≡◌, ◌≤◌, ℕ, ◌+◌, ◌-◌, ◌^◌, min, false, List, [], ◌++◌, length, sym, ap, subst, ◌∙◌, arith, ⊎_elim}
 use Rattle.std.specs.List.{Contains}
 use Rattle.auctioneer.specs.declared.placement.Placement.{Placement}
 use Rattle.bbs_model.specs.PortView.{PortView, rows_seen, IsLater, IsQuiet}
@@ -100,6 +100,15 @@ module _ (by : ℕ) (now : Moment) (line : ℕ) (s s' : Standing) (r : Report) (
         (λ (n : ℕ). (r.end - r.start) - n) (sym h.reports.own);
   }
 
+  -- claims that are missing were lost
+  pub missing_lost : min (parts.served by now line s s' r h).missing (2 ^ 64 - 1) ≤ r.lost
+  missing_lost = omega (
+    arith,
+    lost_is,
+    (parts.served by now line s s' r h).lost,
+    lost_each by (parts.notes by now line s s' r h) (in_course h.served) h.noted h.notes,
+  )
+
   module _ (none : r.foreign ≡ 0) where
     abbrev pub R : Rows
     R = rows_seen h.first
@@ -180,12 +189,7 @@ module _ (by : ℕ) (now : Moment) (line : ℕ) (s s' : Standing) (r : Report) (
     alone = record {
       claims = claims;
       missing = (parts.served by now line s s' r h).missing;
-      lost = omega (
-        arith,
-        lost_is,
-        (parts.served by now line s s' r h).lost,
-        lost_each by (parts.notes by now line s s' r h) (in_course h.served) h.noted h.notes,
-      );
+      lost = missing_lost;
       are_claims =
           subst (λ (x : Rows). AreClaims now (after_plan x got now) (placements (after_plan x got now) roomy) roomy
           (parts.served by now line s s' r h).missing claims) (sym then_is)

@@ -29,7 +29,7 @@ first_empty : {X : Type 0} (xs ys : List X) → xs ++ ys ≡ [] → xs ≡ []
 first_empty [] ys e = sym e ∙ e
 first_empty (x ∷ xs) ys e = absurd cc
 
-second_empty : {X : Type 0} (xs ys : List X) → xs ++ ys ≡ [] → ys ≡ []
+pub second_empty : {X : Type 0} (xs ys : List X) → xs ++ ys ≡ [] → ys ≡ []
 second_empty [] ys e = e
 second_empty (x ∷ xs) ys e = absurd cc
 
@@ -39,7 +39,7 @@ accepted_if c verdict.Same e = tt
 accepted_if c (verdict.Refused why) e = absurd cc
 
 -- commands of which none is refused are accepted
-all_accepted : (rows : Rows) (cs : List Command) → refused_of rows cs ≡ [] → AreAccepted rows cs
+pub all_accepted : (rows : Rows) (cs : List Command) → refused_of rows cs ≡ [] → AreAccepted rows cs
 all_accepted rows [] e = tt
 all_accepted rows (c ∷ cs) e = (
   accepted_if c (verdict_of rows c)

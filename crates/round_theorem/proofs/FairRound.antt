@@ -106,7 +106,7 @@ module _ (now : Moment) (A : Rows) (roomy : List Answer) (valid : IsValid A) (n 
   claim_about c cell e u = ap subject_in u.2 ∙ claim-about u.0 u.1 cell (claim_op cell u.0 u.1)
       (claims_itself u.0 u.1 cell)
 
-  waits : (m : JobName) → Contains (map job_in list) m → IsRowWaiting A m
+  pub waits : (m : JobName) → Contains (map job_in list) m → IsRowWaiting A m
   waits m inside = placed-waits A roomy m valid js inside
 
   -- the job of a note
@@ -130,7 +130,7 @@ module _ (now : Moment) (A : Rows) (roomy : List Answer) (valid : IsValid A) (n 
       part_differ (map subject_in notes) (map subject_for (unplaced list))
       (kept_part (fail_of A now) subject_for subject_in note_about (unplaced list)) us
 
-  all_differ : Differ (map subject_in (claims ++ notes))
+  pub all_differ : Differ (map subject_in (claims ++ notes))
   all_differ = subst Differ (sym (map-append subject_in claims notes))
       (differ_append (map subject_in claims) (map subject_in notes)
       (part_differ (map subject_in claims) about part (all_cells A list differ roomy cells)) notes_differ
@@ -146,14 +146,14 @@ module _ (now : Moment) (A : Rows) (roomy : List Answer) (valid : IsValid A) (n 
       absurd cc))
 
   -- none of them changes a SUSPECT row
-  unsuspected : (c : Command) → Contains (claims ++ notes) c → suspect_in c.op ≡ None
+  pub unsuspected : (c : Command) → Contains (claims ++ notes) c → suspect_in c.op ≡ None
   unsuspected c inside = ⊎_elim
       (λ here. let u = (under c here).2 in ap (λ (d : Command). suspect_in d.op) u.2 ∙ claim-unsuspected u.0 u.1
       (under c here).0.cell (claim_op (under c here).0.cell u.0 u.1) (claims_itself u.0 u.1 (under c here).0.cell))
       (λ here. let m = note_job c here in ap (λ (d : Command). suspect_in d.op) (note-of A now m.0 c m.2).is)
       (Contains-append_cases claims notes c inside)
 
-  of_round : AreOfRound now (claims ++ notes)
+  pub of_round : AreOfRound now (claims ++ notes)
   of_round = record {
     ops = λ c inside. ⊎_elim
         (λ here. let u = (under c here).2 in subst (λ (d : Command). IsOfRound d.op) (sym u.2)
@@ -220,7 +220,7 @@ module _ (by : ℕ) (now : Moment) (line : ℕ) (s s' : Standing) (r : Report) (
   valid_work : IsValid (after_work R now)
   valid_work = run-valid R (work R now) valid
 
-  valid_plan : IsValid A
+  pub valid_plan : IsValid A
   valid_plan = run-valid (after_work R now) (plan_of_answers (after_work R now) got now) valid_work
 
   apart_later : StandApart (names_of h.opened.reps)
@@ -228,7 +228,7 @@ module _ (by : ℕ) (now : Moment) (line : ℕ) (s s' : Standing) (r : Report) (
       (so_far (stops_at h.opens.wire s.reps) []) (so_far (stops_at h.opened.wire h.opened.reps) h.opens.stops.stopped)
       h.opens.stopped.each)) apart
 
-  roomy_there : (y : Answer) → Contains roomy y → is_there A now y.cell y.epoch ≡ true
+  pub roomy_there : (y : Answer) → Contains roomy y → is_there A now y.cell y.epoch ≡ true
   roomy_there y inside =
       let q = parts.roomy_cell by now line s s' r h y inside in
       let heard = are-heard s.reps (present (rows_seen h.opens.first) now) (questions s.wire [])
@@ -244,13 +244,13 @@ module _ (by : ℕ) (now : Moment) (line : ℕ) (s s' : Standing) (r : Report) (
       ∙ ap (λ (x : Rows). is_there x now c.0.cell c.0.epoch) (sym first_rows) ∙ present-there
       (rows_seen h.opens.first) now c.0 h.opens.heard.valid c.1
 
-  under : (c : Command) → Contains (parts.claims by now line s s' r h) c
+  pub under : (c : Command) → Contains (parts.claims by now line s s' r h) c
       → (x : Answer) × Contains roomy x × IsClaimUnder now x.cell x.epoch c
   under = (parts.served by now line s s' r h).under (λ y inside.
       let q = parts.roomy_cell by now line s s' r h y inside in
       is-ready h.opened.reps y apart_later (heard_inside h.opened.reps q.answer.cell q.answer.epoch y q.heard))
 
-  are : AreClaims now A (placements A roomy) roomy (parts.served by now line s s' r h).missing
+  pub are : AreClaims now A (placements A roomy) roomy (parts.served by now line s s' r h).missing
       (parts.claims by now line s s' r h)
   are = subst (λ (ps : List Placement). AreClaims now A ps roomy (parts.served by now line s s' r h).missing
       (parts.claims by now line s s' r h)) (account.places_are by now line s s' r h none)
@@ -259,12 +259,13 @@ module _ (by : ℕ) (now : Moment) (line : ℕ) (s s' : Standing) (r : Report) (
       (account.places_rows by now line s s' r h none)
       (parts.served by now line s s' r h).are)
 
+  pub cells_differ : Differ (map (λ (x : Answer). x.cell) roomy)
+  cells_differ = differ_pairs (map (λ (x : Answer). x.cell) roomy) (open_answers
+      (rows_seen h.opened.view) h.opened.reps got roomy h.opens.heard.apart h.opens.placed.open_are).differ
+
   last : AreRefusedForRoom A (parts.claims by now line s s' r h ++ fails_of A now (unplaced (placements A roomy)))
   last = claims-refused now A roomy valid_plan (parts.served by now line s s' r h).missing
-      (parts.claims by now line s s' r h) are
-      (differ_pairs (map (λ (x : Answer). x.cell) roomy) (open_answers
-      (rows_seen h.opened.view) h.opened.reps got roomy h.opens.heard.apart h.opens.placed.open_are).differ) under
-      roomy_there
+      (parts.claims by now line s s' r h) are cells_differ under roomy_there
 
   pub alone-refused : (x : Command × BoardRefusal) → Contains r.refused x → IsLack x.1
   alone-refused x inside =

@@ -33,5 +33,6 @@ pub mod Parts
 pub mod FairClaims
 pub mod ClaimParts
 pub mod FairRound
+pub mod LastCalls
 pub mod Converges
 pub mod Public
