@@ -3,4 +3,5 @@ mod Counting
 mod Told
 mod Named
 mod Darkness
+mod Taking
 mod Answered

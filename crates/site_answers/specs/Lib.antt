@@ -9,3 +9,4 @@ pub mod Rooms
 pub mod Dark
 pub mod Noting
 pub mod Parts
+pub mod Processes

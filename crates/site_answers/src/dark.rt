@@ -14,13 +14,13 @@ use std::alloc::Global;
 use std::collections::HashMap;
 use what_if::{Holders, Scene, Site, Wanted, does_wait};
 
-fn process_of(wanted: &Wanted) -> Name
+pub(crate) fn process_of(wanted: &Wanted) -> Name
     ensures { result ≡ process_of wanted.now }
 {
     wanted.key.process
 }
 
-fn processes_of(alloc: Global, list: &[Wanted]) -> Result<Vec<Name>, OutOfMemory>
+pub(crate) fn processes_of(alloc: Global, list: &[Wanted]) -> Result<Vec<Name>, OutOfMemory>
     ensures { IfOk result (λ names. names.items ≡ map process_of list.now) }
 {
     let names = list.iter().map(process_of).collect(alloc)?;
@@ -28,7 +28,7 @@ fn processes_of(alloc: Global, list: &[Wanted]) -> Result<Vec<Name>, OutOfMemory
 }
 
 // How often each name is among these.
-fn times_of(alloc: Global, names: &[Name]) -> Result<HashMap<Name, u64>, OutOfMemory>
+pub(crate) fn times_of(alloc: Global, names: &[Name]) -> Result<HashMap<Name, u64>, OutOfMemory>
     ensures { IfOk result (λ counts. (name : List ℕ)
         → unwrap_or (get same_name counts name) 0 ≡ times name names.now) }
 {
@@ -60,7 +60,11 @@ fn displaced_processes(alloc: Global, scene: &Scene) -> Result<Vec<Name>, OutOfM
 }
 
 // The process of each instance that is wanted and held.
-fn held_processes(alloc: Global, site: &Site, holders: &Holders) -> Result<Vec<Name>, OutOfMemory>
+pub(crate) fn held_processes(
+    alloc: Global,
+    site: &Site,
+    holders: &Holders,
+) -> Result<Vec<Name>, OutOfMemory>
     ensures { IfOk result (λ names. names.items
         ≡ map process_of (filter (λ w. is_some (found holders.now w.key)) site.now.wanted)) }
 {
@@ -114,7 +118,7 @@ fn dark_among(alloc: Global, shares: &Shares, names: &[Name]) -> Result<Vec<Name
 }
 
 // The names of the processes that are wanted, each once.
-fn process_names(alloc: Global, site: &Site) -> Result<Vec<Name>, OutOfMemory>
+pub(crate) fn process_names(alloc: Global, site: &Site) -> Result<Vec<Name>, OutOfMemory>
     ensures { IfOk result (λ names. names.items ≡ map process_of (processes site.now)) }
 {
     let list = processes(alloc, site)?;

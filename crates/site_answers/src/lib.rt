@@ -4,6 +4,7 @@
 mod amounts;
 mod cell_counts;
 mod dark;
+mod going_dark;
 mod losing;
 mod notes;
 mod showing;
@@ -13,6 +14,7 @@ mod zone_cells;
 mod zones;
 
 pub use dark::dark_of_many;
+pub use going_dark::{Processes, dark_with, processes_in};
 pub use losing::{lose, lose_in};
 pub use notes::notes_of;
 pub use showing::show;

@@ -14,3 +14,11 @@ mod Parts
 mod VerdictLemmas
 mod SoundSites
 mod InOrder
+mod Grouped
+pub mod Left
+mod Taking
+mod Reordered
+pub mod Awaiting
+mod AlikeCells
+mod KeptCells
+mod AlikePlans

@@ -1,7 +1,7 @@
 -- Tests of names, tags and keys say whether two are one.
 use Rattle.std.proofs.Common.{◌≡◌, ◌≢◌, ℕ, true, false, ◌&&◌, ◌==◌, List, Option, Some, None, refl, ap, arith}
 use Rattle.std.specs.Option.{option_eq}
-use Rattle.std.proofs.lemmas.Bool.{false_from_ne_true}
+use Rattle.std.proofs.lemmas.Bool.{and_parts, eqb-true, false_from_ne_true}
 use Rattle.std.proofs.lemmas.Bool.Decides.{Decides-eqb}
 use Rattle.std.proofs.lemmas.Cmp.{nat_list_eq_equiv}
 use Rattle.std.proofs.lemmas.Slice.Eq.{slice_eq-Decides}
@@ -38,3 +38,11 @@ keys_turned a b = λ i. names_turned a.process b.process i && numbers_turned a.i
   where
     numbers_turned : (n m : ℕ) → (n == m) ≡ (m == n)
     numbers_turned n m = grind arith
+
+pub key_from_test : (a b : Key) → same_key a b ≡ true → a ≡ b
+key_from_test a b e =
+    let both = and_parts (same_name a.process b.process) (a.index == b.index) e in
+    λ i. record {
+      process = name_from_test a.process b.process both.0 i;
+      index = eqb-true a.index b.index both.1 i;
+    }

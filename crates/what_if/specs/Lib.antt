@@ -8,3 +8,6 @@ pub mod Plans
 pub mod Holders
 pub mod Scenes
 pub mod Placed
+pub mod Taken
+pub mod Baselines
+pub mod Kept

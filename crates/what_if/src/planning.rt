@@ -1,8 +1,9 @@
 //! The plan of a loss.
 ghost use Rattle.std.specs.Prelude.{◌≡◌, ℕ, ◌≤◌, ◌^◌, List, length, map, filter, is_some, IfOk};
-ghost use Rattle.auctioneer.specs.Asked.{AreJobs};
+ghost use Rattle.auctioneer.specs.Asked.{AreAnswers, AreJobs};
 ghost use Rattle.what_if.specs.Holders.{found_before, waits_by, IsHolders};
 ghost use Rattle.what_if.specs.Scenes.{IsScene};
+ghost use Rattle.what_if.specs.Placed.{planned_on};
 ghost use Rattle.what_if.specs.Plans.{planned};
 ghost use Rattle.what_if.specs.Sites.{IsSite};
 ghost use Rattle.what_if.specs.Stays.{stays};
@@ -15,7 +16,7 @@ use crate::standing::{Holders, stays};
 use crate::verdicts::verdict_of;
 use crate::waiting::{held_before, waits};
 use auctioneer::{Auction, Stand, in_order};
-use cell_records::Job;
+use cell_records::{Answer, Job};
 use diego_names::{List, Name, OutOfMemory};
 use forecast_records::Verdict;
 use std::alloc::Global;
@@ -93,28 +94,43 @@ fn plan_from(
     }
 }
 
-/// The plan of a loss, where it is known already which cells hold what: what one loss after another shares is
-/// looked up once.
+// The plan of what waits on these cells, where the holders tell which of the jobs a cell held before the loss.
+pub(crate) fn plan_on(
+    alloc: Global,
+    before: &Holders,
+    cells: &[Answer],
+    waiting: &[Job],
+) -> Result<Plan, OutOfMemory>
+    requires cells { AreAnswers cells.now }
+    requires apart { AreJobs waiting.now }
+    requires few { length waiting.now ≤ 2 ^ 32 }
+    ensures { IfOk result (λ plan. plan ≡ planned_on before.now cells.now waiting.now) }
+{
+    let displaced = held_jobs(alloc, waiting, before)?;
+    let jobs = in_order(alloc, waiting)?;
+    let mut auction = Auction::new(alloc, cells)?;
+    let bare = without_jobs(alloc, auction.stands())?;
+    let setting = Setting {
+        before: &bare,
+        jobs: &jobs,
+        holders: before,
+    };
+    let outcome = place_all(alloc, &mut auction, &setting)?;
+    let counting = held_jobs(alloc, outcome.left.items(), before)?;
+    let verdict = verdict_of(&bare, &jobs, &counting);
+    Ok(plan_from(jobs, bare, outcome, auction, &displaced, verdict))
+}
+
+/// The plan of a loss, where it is known already which cells hold what.
 pub fn plan_in(alloc: Global, scene: &Scene) -> Result<Plan, OutOfMemory>
     requires site { IsSite scene.now.site.now }
     requires scene { IsScene scene.now }
     ensures { IfOk result (λ plan. plan ≡ planned scene.now.site.now scene.now.lost.now) }
 {
     let waiting = waiting_of(alloc, scene.site, scene.after)?;
-    let displaced = held_jobs(alloc, &waiting, scene.before)?;
-    let jobs = in_order(alloc, &waiting)?;
     let cells = open_cells(alloc, scene.site, scene.lost)?;
-    let mut auction = Auction::new(alloc, &cells)?;
-    let before = without_jobs(alloc, auction.stands())?;
-    let setting = Setting {
-        before: &before,
-        jobs: &jobs,
-        holders: scene.before,
-    };
-    let outcome = place_all(alloc, &mut auction, &setting)?;
-    let counting = held_jobs(alloc, outcome.left.items(), scene.before)?;
-    let verdict = verdict_of(&before, &jobs, &counting);
-    Ok(plan_from(jobs, before, outcome, auction, &displaced, verdict))
+    let plan = plan_on(alloc, scene.before, &cells, &waiting)?;
+    Ok(plan)
 }
 
 /// Where all that waits goes once these cells are lost.

@@ -9,7 +9,7 @@ use cell_records::{Job, JobName};
 use diego_names::{Name, OutOfMemory};
 use std::alloc::Global;
 
-fn instance_job(wanted: &Wanted) -> Job
+pub(crate) fn instance_job(wanted: &Wanted) -> Job
     ensures { result ≡ instance_job wanted.now }
 {
     Job {
