@@ -4,9 +4,9 @@
 
 mod places;
 mod streams;
-mod words;
 
 use byte_ports::{OpenGate, StdSink, StdSource};
+use command_line::words;
 use diego_engine::{TopEnd, diego_top};
 use real_files::{FileDisk, RealCalls};
 use std::alloc::AllocError;
@@ -24,7 +24,7 @@ const NO_STREAM: u8 = 4;
 
 /// The words, and the names of the files.
 fn asked<R: Env + AllocGlobal>(rt: &R) -> Result<(Vec<String>, String, String), AllocError> {
-    let words = words::words(rt)?;
+    let words = words(rt)?;
     let folder = places::folder(rt)?;
     let (a, b) = places::file_names(rt.alloc(), folder.as_str())?;
     Ok((words, a, b))
