@@ -77,13 +77,13 @@ fn answers(rt: &impl Abort, alloc: Global) -> String {
 
 // How often actors passed, and how often one saw that all had come.
 #[derive(Drop)]
-struct Crowd {
+struct Gathering {
     passes: AtomicU32,
     seen: AtomicU32,
 }
 
 // It holds each actor until the last one has come, for so many turns at most.
-impl Gate for Crowd {
+impl Gate for Gathering {
     fn pass(&self, _actor: u32) {
         self.passes.fetch_add(1, Ordering::SeqCst);
         for _ in 0..1_000_000 {
@@ -98,7 +98,7 @@ impl Gate for Crowd {
 
 #[test]
 fn the_first_of_256_actors_can_wait_until_the_last_has_come(rt: HostRuntime) {
-    let gate = Crowd {
+    let gate = Gathering {
         passes: AtomicU32::new(0),
         seen: AtomicU32::new(0),
     };
