@@ -69,8 +69,14 @@ readings_within due =
     let domains = map OfDomain due.domains in
     let places = map OfPlace due.places in
     let tasks = map OfTask due.tasks in
-    omega (arith, length-append cells (domains ++ (places ++ tasks)), length-append domains (places ++ tasks),
-    length-append places tasks, length-map due.places OfPlace, length-map due.tasks OfTask)
+    omega (
+      arith,
+      length-append cells (domains ++ (places ++ tasks)),
+      length-append domains (places ++ tasks),
+      length-append places tasks,
+      length-map due.places OfPlace,
+      length-map due.tasks OfTask,
+    )
 
 -- no entry is due
 pub record AreNoneDue (d : Noted) (now : Moment) : Type 0 where

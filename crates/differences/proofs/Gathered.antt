@@ -84,15 +84,15 @@ module _ (rows : Rows) where
   -- a place whose causes were put stands
   pub settled_here : (place : Key × Presence) (w : Option Causes) (m n : Entries) → PutsAt place w m n → option_map_or listed w [] ≡ causes_of rows (OfPlace place) → IsSettled rows n place
   settled_here place w m n puts now =
-      elim (place_renewed rows place w m n puts now place) as (λ _. IsSettled rows n place) [ | (inl e) ↦ e | (inr h) ↦ absurd (h.1 refl) ]
+      elim (place_renewed rows place w m n puts now place) as (λ _. IsSettled rows n place) [ (inl e) ↦ e | (inr h) ↦ absurd (h.1 refl) ]
 
   -- and what stood still does
   pub goes_on_past : (place : Key × Presence) (w : Option Causes) (m n : Entries) → PutsAt place w m n → option_map_or listed w [] ≡ causes_of rows (OfPlace place) → GoesOn rows m n
   goes_on_past place w m n puts now =
       let settled : (p : Key × Presence) → IsSettled rows m p → IsSettled rows n p =
-      λ p h. elim (place_renewed rows place w m n puts now p) as (λ _. IsSettled rows n p) [ | (inl e) ↦ e | (inr f) ↦ f.0 ∙ h ] in
+      λ p h. elim (place_renewed rows place w m n puts now p) as (λ _. IsSettled rows n p) [ (inl e) ↦ e | (inr f) ↦ f.0 ∙ h ] in
       let blank : (p : Key × Presence) → causes_at m p ≡ [] → IsBegun rows n p =
-      λ p h. elim (place_renewed rows place w m n puts now p) as (λ _. IsBegun rows n p) [ | (inl e) ↦ inl e | (inr f) ↦ inr (f.0 ∙ h) ] in
+      λ p h. elim (place_renewed rows place w m n puts now p) as (λ _. IsBegun rows n p) [ (inl e) ↦ inl e | (inr f) ↦ inr (f.0 ∙ h) ] in
       record { settled = settled; begun = λ p. ⊎_elim (λ h. inl (settled p h)) (blank p) }
 
   pub goes_on_same : (m : Entries) → GoesOn rows m m

@@ -33,7 +33,11 @@ fn forget<K: Copy + Eq + Hash, V: Copy>(map: &mut IndexMap<K, V>, key: &K)
 
 /// Makes this the value at the key, or takes the entry away if there is none. Below the capacity this takes
 /// no memory.
-pub(crate) fn renew<K: Copy + Eq + Hash, V: Copy>(map: &mut IndexMap<K, V>, key: K, value: Option<V>)
+pub(crate) fn renew<K: Copy + Eq + Hash, V: Copy>(
+    map: &mut IndexMap<K, V>,
+    key: K,
+    value: Option<V>,
+)
     requires { HasRoom (get K.eq map.old key) (spare map.old) }
     ensures updates { Updates K.eq map.old map.new key value }
     ensures spare { TakesRoom (get K.eq map.old key) (spare map.old) (spare map.new) }

@@ -55,12 +55,7 @@ fn causes_in<T: RowStore>(store: &T, wanted: bool, place: &(Key, Presence)) -> O
     if_any(place_causes(presence, wanted, &ordinary, &own))
 }
 
-fn renew_place<T: RowStore>(
-    places: &mut Places,
-    store: &T,
-    wanted: bool,
-    place: (Key, Presence),
-)
+fn renew_place<T: RowStore>(places: &mut Places, store: &T, wanted: bool, place: (Key, Presence))
     requires wanted { wanted ≡ wants (T.state store.now) place.0 }
     requires room { 1 ≤ spare places.old }
     ensures places { (p : AKey × APresence) → IsRenewed (causes_of (T.state store.now) (OfPlace p))
@@ -72,12 +67,7 @@ fn renew_place<T: RowStore>(
 }
 
 /// The same where an entry is known. Where none is, nothing is done.
-fn renew_aside<T: RowStore>(
-    places: &mut Places,
-    store: &T,
-    wanted: bool,
-    place: (Key, Presence),
-)
+fn renew_aside<T: RowStore>(places: &mut Places, store: &T, wanted: bool, place: (Key, Presence))
     requires { wanted ≡ wants (T.state store.now) place.0 }
     ensures places { (p : AKey × APresence) → IsRenewed (causes_of (T.state store.now) (OfPlace p))
         (causes_at places.old.entries p) (causes_at places.new.entries p)
@@ -175,7 +165,12 @@ fn renew_range<T: RowStore>(
     ensures spare { spare places.old + low ≤ spare places.new + high }
 {
     for index in low..high {
-        renew_index(places, store, is_below(count, index), &Key { process, index });
+        renew_index(
+            places,
+            store,
+            is_below(count, index),
+            &Key { process, index },
+        );
     }
 }
 
@@ -200,12 +195,7 @@ fn renew_changed<T: RowStore>(
 }
 
 /// A process whose row has come, changed or gone.
-fn take_desired<T: RowStore>(
-    places: &mut Places,
-    counts: &mut Counts,
-    store: &T,
-    process: &Name,
-)
+fn take_desired<T: RowStore>(places: &mut Places, counts: &mut Counts, store: &T, process: &Name)
     requires before { unwrap_or (named counts.old.entries process.now) 0 ≤ most_instances }
     requires after { unwrap_or (count_in (T.state store.now) process.now) 0 ≤ most_instances }
     requires room { most_instances ≤ spare places.old }
@@ -258,7 +248,11 @@ impl Kept {
                 take_named(&mut self.leases.cells, row.cell, lease_in(store, &row.cell));
             }
             Row::Domain(row) => {
-                take_named(&mut self.leases.domains, row.domain, end_in(store, &row.domain));
+                take_named(
+                    &mut self.leases.domains,
+                    row.domain,
+                    end_in(store, &row.domain),
+                );
             }
         }
     }

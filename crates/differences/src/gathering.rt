@@ -70,11 +70,7 @@ fn settle(places: &mut Places, rows: &Rows, place: (Key, Presence)) -> Result<()
 }
 
 /// The places of the instances that a process wants.
-fn settle_instances(
-    places: &mut Places,
-    rows: &Rows,
-    desired: &Desired,
-) -> Result<(), OutOfMemory>
+fn settle_instances(places: &mut Places, rows: &Rows, desired: &Desired) -> Result<(), OutOfMemory>
     requires { IsValid rows.now }
     ensures here { OnOk result (AreInstancesSettled rows.entry.now places.new.entries
         desired.entry.now.process desired.entry.now.instances) }

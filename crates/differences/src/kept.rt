@@ -4,10 +4,10 @@ ghost use Rattle.std.specs.Option.{option_copied};
 ghost use Rattle.work_causes.specs.Causes as told;
 ghost use Rattle.differences.specs.Noted.{ends_by, transitions_in};
 
+use crash_backoff::Moment;
 use diego_names::{Key, Name, OutOfMemory};
 use indexmap::IndexMap;
 use lrp_records::Presence;
-use crash_backoff::Moment;
 use std::marker::Model;
 use work_causes::{Cause, Causes, Lease, Term};
 
