@@ -1,0 +1,13 @@
+mod Keys
+mod Frames
+mod Renewing
+mod Standing
+mod DueLists
+mod DueWork
+mod Agreeing
+mod Touched
+mod Gathered
+mod Arms
+mod Transitions
+mod Rooms
+mod Emptiness
