@@ -42,7 +42,8 @@ asked_some true x e = refl
 asked_some false x e = absurd cc
 
 -- a row that goes, or is mended, where something is asked of it
-kept_some : (w g l : Bool) (x : Op) (y z : Option Op) → is_some (cond (not w && g) (Some x) (cond l y (cond w z None))) ≡ true
+kept_some : (w g l : Bool) (x : Op) (y z : Option Op) → is_some (cond (not w && g) (Some x) (cond l y (cond w z None)))
+    ≡ true
     → (m : Option Op) → (l ≡ true → y ≡ m) → (l ≡ false → w ≡ true → is_some z ≡ true → z ≡ m)
     → cond (not w && g) (Some x) (cond l y (cond w z None)) ≡ cond (not w && g) (Some x) m
 kept_some false true l x y z e m given again = refl
@@ -56,56 +57,75 @@ dropped_some true x e = refl
 dropped_some false x e = absurd cc
 
 module _ (rows : Rows) (now : Moment) where
-  cell_command : (q : List ℕ) → is_some (work_on rows now (OfCell q)) ≡ true → work_on rows now (OfCell q) ≡ Some (op.Vanish q)
+  cell_command : (q : List ℕ) → is_some (work_on rows now (OfCell q)) ≡ true
+      → work_on rows now (OfCell q) ≡ Some (op.Vanish q)
   cell_command q e =
-      elim (find_cell rows q) as (λ (s : Option CellRow). find_cell rows q ≡ s → is_some (option_and_then (λ (c : CellRow). told.cell_work c now) s) ≡ true
+      elim (find_cell rows q) as (λ (s : Option CellRow). find_cell rows q ≡ s
+      → is_some (option_and_then (λ (c : CellRow). told.cell_work c now) s) ≡ true
       → option_and_then (λ (c : CellRow). told.cell_work c now) s ≡ Some (op.Vanish q)) [
         | None ↦ λ is h. absurd cc
         | (Some c) ↦ λ is h. asked_some (nat_le c.until now.0) (op.Vanish c.cell) h
-            ∙ ap (λ (n : List ℕ). Some (op.Vanish n)) (key-find_row name_order cell_name_of IsKeyOrder-name_order q c rows.cells is)
+            ∙ ap (λ (n : List ℕ). Some (op.Vanish n)) (key-find_row name_order cell_name_of IsKeyOrder-name_order q c
+            rows.cells is)
       ] refl e
 
-  domain_row_command : (d : DomainRow) (u : Option ℕ) → is_some (option_and_then (λ (until : ℕ). told.asked_if (nat_le until now.0) (op.Forget d.domain)) u) ≡ true
-      → option_and_then (λ (until : ℕ). told.asked_if (nat_le until now.0) (op.Forget d.domain)) u ≡ Some (op.Forget d.domain)
+  domain_row_command : (d : DomainRow) (u : Option ℕ) → is_some
+      (option_and_then (λ (until : ℕ). told.asked_if (nat_le until now.0) (op.Forget d.domain)) u) ≡ true
+      → option_and_then (λ (until : ℕ). told.asked_if (nat_le until now.0) (op.Forget d.domain)) u
+      ≡ Some (op.Forget d.domain)
   domain_row_command d None e = absurd cc
   domain_row_command d (Some until) e = asked_some (nat_le until now.0) (op.Forget d.domain) e
 
-  domain_command : (q : List ℕ) → is_some (work_on rows now (OfDomain q)) ≡ true → work_on rows now (OfDomain q) ≡ Some (op.Forget q)
+  domain_command : (q : List ℕ) → is_some (work_on rows now (OfDomain q)) ≡ true
+      → work_on rows now (OfDomain q) ≡ Some (op.Forget q)
   domain_command q e =
-      elim (find_domain rows q) as (λ (s : Option DomainRow). find_domain rows q ≡ s → is_some (option_and_then (λ (d : DomainRow). told.domain_work d now) s) ≡ true
+      elim (find_domain rows q) as (λ (s : Option DomainRow). find_domain rows q ≡ s
+      → is_some (option_and_then (λ (d : DomainRow). told.domain_work d now) s) ≡ true
       → option_and_then (λ (d : DomainRow). told.domain_work d now) s ≡ Some (op.Forget q)) [
         | None ↦ λ is h. absurd cc
         | (Some d) ↦ λ is h. domain_row_command d d.until h
-            ∙ ap (λ (n : List ℕ). Some (op.Forget n)) (key-find_row name_order domain_name_of IsKeyOrder-name_order q d rows.domains is)
+            ∙ ap (λ (n : List ℕ). Some (op.Forget n)) (key-find_row name_order domain_name_of IsKeyOrder-name_order q d
+            rows.domains is)
       ] refl e
 
-  task_state_command : (t : Task) (s : TaskState) → is_some (told.asked_of_task rows now t s) ≡ true → told.asked_of_task rows now t s ≡ Some (state_command t.name s)
+  task_state_command : (t : Task) (s : TaskState) → is_some (told.asked_of_task rows now t s) ≡ true
+      → told.asked_of_task rows now t s ≡ Some (state_command t.name s)
   task_state_command t task.Pending e = asked_some (told.has_passed 1800 t.since now) (op.CancelTask t.name) e
-  task_state_command t (task.Running instance cell) e = asked_some (not (told.is_there rows now cell instance.epoch)) (op.CancelTask t.name) e
+  task_state_command t (task.Running instance cell) e = asked_some (not (told.is_there rows now cell instance.epoch))
+      (op.CancelTask t.name) e
   task_state_command t (task.Completed failed) e = asked_some (told.has_passed 120 t.since now) (op.ExpireTask t.name) e
   task_state_command t (task.Resolving failed) e = asked_some (told.has_passed 30 t.since now) (op.KickTask t.name) e
 
-  of_task_command : (q : List ℕ) → is_some (work_on rows now (OfTask q)) ≡ true → work_on rows now (OfTask q) ≡ command_of_task rows q
+  of_task_command : (q : List ℕ) → is_some (work_on rows now (OfTask q)) ≡ true
+      → work_on rows now (OfTask q) ≡ command_of_task rows q
   of_task_command q e =
-      elim (find_task rows q) as (λ (s : Option Task). find_task rows q ≡ s → is_some (option_and_then (told.task_work rows now) s) ≡ true
+      elim (find_task rows q) as (λ (s : Option Task). find_task rows q ≡ s
+      → is_some (option_and_then (told.task_work rows now) s) ≡ true
       → option_and_then (told.task_work rows now) s ≡ task_command q s) [
         | None ↦ λ is h. refl
         | (Some t) ↦ λ is h. task_state_command t t.state h
-            ∙ ap (λ (n : List ℕ). Some (state_command n t.state)) (key-find_row name_order task_name_of IsKeyOrder-name_order q t rows.tasks is)
+            ∙ ap (λ (n : List ℕ). Some (state_command n t.state))
+            (key-find_row name_order task_name_of IsKeyOrder-name_order q t rows.tasks is)
       ] refl e
 
   -- an ORDINARY row, by its state
   standing_command : (w : Bool) (key : Key) (a : Actual) (s : LrpState) (remove : Op)
-      → is_some (cond (not w && told.may_go rows now a) (Some remove) (cond (told.is_lost rows now s) (told.given_up w key s) (cond w (told.restart_if_due key a now s) None))) ≡ true
-      → cond (not w && told.may_go rows now a) (Some remove) (cond (told.is_lost rows now s) (told.given_up w key s) (cond w (told.restart_if_due key a now s) None))
+      → is_some (cond (not w && told.may_go rows now a) (Some remove)
+      (cond (told.is_lost rows now s) (told.given_up w key s) (cond w (told.restart_if_due key a now s) None)))
+      ≡ true
+      → cond (not w && told.may_go rows now a) (Some remove)
+      (cond (told.is_lost rows now s) (told.given_up w key s) (cond w (told.restart_if_due key a now s) None))
       ≡ cond (not w && told.may_go rows now a) (Some remove) (mended w key s)
   standing_command w key a lrp.Unclaimed remove e =
-      kept_some w (told.may_go rows now a) false remove None None e (mended w key lrp.Unclaimed) (λ l. absurd cc) (λ l t z. absurd cc)
+      kept_some w (told.may_go rows now a) false remove None None e (mended w key lrp.Unclaimed) (λ l. absurd cc)
+      (λ l t z. absurd cc)
   standing_command w key a (lrp.Claimed instance cell) remove e =
-      kept_some w (told.may_go rows now a) (not (told.is_there rows now cell instance.epoch)) remove (Some (op.Unclaim key instance)) None e
+      kept_some w (told.may_go rows now a) (not (told.is_there rows now cell instance.epoch)) remove
+      (Some (op.Unclaim key instance)) None e
       (mended w key (lrp.Claimed instance cell)) (λ l. refl) (λ l t z. absurd cc)
   standing_command w key a (lrp.Running instance cell) remove e =
-      kept_some w (told.may_go rows now a) (not (told.is_there rows now cell instance.epoch)) remove (Some (cond w (op.Suspect key instance) (op.Unclaim key instance))) None e
+      kept_some w (told.may_go rows now a) (not (told.is_there rows now cell instance.epoch)) remove
+      (Some (cond w (op.Suspect key instance) (op.Unclaim key instance))) None e
       (mended w key (lrp.Running instance cell)) (λ l. refl) (λ l t z. absurd cc)
   standing_command w key a lrp.Crashed remove e =
       kept_some w (told.may_go rows now a) false remove None (told.asked_if (told.is_due a now) (op.Restart key)) e
@@ -116,18 +136,24 @@ module _ (d : Noted) (rows : Rows) (now : Moment) (stands : StandsFor d rows) wh
   counted_wants key = ap (λ (n : Option ℕ). is_below n key.index) (stands.wanted key.process) ∙ wants_counted rows key
 
   -- what keeps a row lasts by what is kept as by the rows
-  goes_kept : (domain : Option (List ℕ)) → holds_by (ends_by d.cells d.domains) now (going domain) ≡ holds_by (ends_of rows) now (going domain)
-  goes_kept domain = λ i. holds_by (record { cells = λ q. stands.cells q i; domains = λ q. stands.domains q i }) now (going domain)
+  goes_kept : (domain : Option (List ℕ)) → holds_by (ends_by d.cells d.domains) now (going domain)
+      ≡ holds_by (ends_of rows) now (going domain)
+  goes_kept domain = λ i. holds_by (record { cells = λ q. stands.cells q i; domains = λ q. stands.domains q i }) now
+      (going domain)
 
-  goes_alike : (key : Key) (a : Actual) → goes_by (ends_by d.cells d.domains) now (is_counted d.wanted key) a ≡ told.is_retirable rows now key a
-  goes_alike key a = (λ i. not (counted_wants key i) && goes_kept a.domain i) ∙ ap (λ (b : Bool). not (told.wants rows key) && b) (goes rows now a.domain)
+  goes_alike : (key : Key) (a : Actual) → goes_by (ends_by d.cells d.domains) now (is_counted d.wanted key) a
+      ≡ told.is_retirable rows now key a
+  goes_alike key a = (λ i. not (counted_wants key i) && goes_kept a.domain i) ∙ ap
+      (λ (b : Bool). not (told.wants rows key) && b) (goes rows now a.domain)
 
   ordinary_agrees : (key : Key) (row : Option Actual) → is_some (told.ordinary_work rows now key row) ≡ true
-      → told.ordinary_work rows now key row ≡ ordinary_command (ends_by d.cells d.domains) now (is_counted d.wanted key) key row
+      → told.ordinary_work rows now key row ≡ ordinary_command (ends_by d.cells d.domains) now
+      (is_counted d.wanted key) key row
   ordinary_agrees key None e = asked_some (told.wants rows key) (op.Make key) e
   ordinary_agrees key (Some a) e =
       standing_command rows now (told.wants rows key) key a a.state (op.Remove key (holder_of a.state)) e
-      ∙ (λ i. cond (sym (goes_alike key a) i) (Some (op.Remove key (holder_of a.state))) (mended (sym (counted_wants key) i) key a.state))
+      ∙ (λ i. cond (sym (goes_alike key a) i) (Some (op.Remove key (holder_of a.state)))
+      (mended (sym (counted_wants key) i) key a.state))
 
   evacuating_agrees : (key : Key) (row : Option Actual) → is_some (told.evacuating_work rows now key row) ≡ true
       → told.evacuating_work rows now key row ≡ option_and_then (λ (a : Actual). told.drop_row_of key a.state) row
@@ -139,22 +165,26 @@ module _ (d : Noted) (rows : Rows) (now : Moment) (stands : StandsFor d rows) wh
   suspect_agrees key None e = absurd cc
   suspect_agrees key (Some a) e = dropped_some (told.is_past rows now key a) (told.drop_suspect_of key a.state) e
 
-  place_agrees : (p : Key × Presence) → is_some (work_on rows now (OfPlace p)) ≡ true → work_on rows now (OfPlace p) ≡ command_at_place d rows now p
+  place_agrees : (p : Key × Presence) → is_some (work_on rows now (OfPlace p)) ≡ true
+      → work_on rows now (OfPlace p) ≡ command_at_place d rows now p
   place_agrees (key, Ordinary) e = ordinary_agrees key (find_actual rows key Ordinary) e
   place_agrees (key, Evacuating) e = evacuating_agrees key (find_actual rows key Evacuating) e
   place_agrees (key, Suspect) e = suspect_agrees key (find_actual rows key Suspect) e
 
-module _ (d : Noted) (rows : Rows) (now : Moment) (v : IsValid rows) (stands : StandsFor d rows) (once : AreUnique d) where
+module _ (d : Noted) (rows : Rows) (now : Moment) (v : IsValid rows) (stands : StandsFor d rows)
+    (once : AreUnique d) where
   abbrev due : DueKeys
   due = due_in d now
 
   -- the commands of a kind of subject
-  part_read : {K : Type 0} (of : K → Subject) (command : K → Option Op) (ks : List K) → ((k : K) → Contains ks k → Contains (subjects_in due) (of k))
+  part_read : {K : Type 0} (of : K → Subject) (command : K → Option Op) (ks : List K)
+      → ((k : K) → Contains ks k → Contains (subjects_in due) (of k))
       → ((k : K) → is_some (work_on rows now (of k)) ≡ true → work_on rows now (of k) ≡ command k)
       → filter_map (work_on rows now) (map of ks) ≡ filter_map command ks
   part_read of command ks inside agree =
       filter_map-map (work_on rows now) of ks
-      ∙ filter_map-agree (λ k. work_on rows now (of k)) command ks (λ k h. agree k (due_is_asked d rows now v stands once (of k) (inside k h)))
+      ∙ filter_map-agree (λ k. work_on rows now (of k)) command ks
+      (λ k h. agree k (due_is_asked d rows now v stands once (of k) (inside k h)))
 
   ops_agree : filter_map (work_on rows now) (subjects_in due) ≡ ops_of d rows now due
   ops_agree =
@@ -168,8 +198,10 @@ module _ (d : Noted) (rows : Rows) (now : Moment) (v : IsValid rows) (stands : S
       ∙ ap (λ (xs : List Op). filter_map f domains ++ xs) (filter_map-append f places tasks))
       ∙ (λ i. part_read OfCell vanish due.cells (in_cells d rows now v stands once) (cell_command rows now) i
       ++ (part_read OfDomain forget due.domains (in_domains d rows now v stands once) (domain_command rows now) i
-      ++ (part_read OfPlace (command_at_place d rows now) due.places (in_places d rows now v stands once) (place_agrees d rows now stands) i
-      ++ part_read OfTask (command_of_task rows) due.tasks (in_tasks d rows now v stands once) (of_task_command rows now) i)))
+      ++ (part_read OfPlace (command_at_place d rows now) due.places (in_places d rows now v stands once)
+      (place_agrees d rows now stands) i
+      ++ part_read OfTask (command_of_task rows) due.tasks (in_tasks d rows now v stands once)
+      (of_task_command rows now) i)))
 
   -- the commands of what is due are what convergence asks
   pub commands_are_work : commands_of d rows now due ≡ told.work rows now

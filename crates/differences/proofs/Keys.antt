@@ -33,7 +33,8 @@ TellsApart-names = record {
 
 place-exact : (a b : Key × Presence) → is_place a b ≡ true → a ≡ b
 place-exact a b e =
-    let parts = both_of (pointwise nat_eq a.0.process b.0.process && nat_eq a.0.index b.0.index) (nat_eq (rank_of a.1) (rank_of b.1)) e in
+    let parts = both_of (pointwise nat_eq a.0.process b.0.process && nat_eq a.0.index b.0.index)
+    (nat_eq (rank_of a.1) (rank_of b.1)) e in
     let key = both_of (pointwise nat_eq a.0.process b.0.process) (nat_eq a.0.index b.0.index) parts.0 in
     let process = TellsApart-names.exact a.0.process b.0.process key.0 in
     let index = eqb-true a.0.index b.0.index key.1 in

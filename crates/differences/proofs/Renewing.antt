@@ -8,7 +8,8 @@ use Rattle.differences.specs.Noted.{Keeping, causes_at, is_counted}
 use Rattle.differences.specs.Renewal.{IsBlank, IsRenewed, Renews}
 
 -- something that is renewed twice: what is apart both times is apart
-pub renewed_twice : {A P Q R : Type 0} (fresh a b c : A) → IsRenewed fresh a b P → IsRenewed fresh b c Q → (b ≡ a → P → Q → R) → IsRenewed fresh a c R
+pub renewed_twice : {A P Q R : Type 0} (fresh a b c : A) → IsRenewed fresh a b P → IsRenewed fresh b c Q
+    → (b ≡ a → P → Q → R) → IsRenewed fresh a c R
 renewed_twice fresh a b c f (inl e) join = inl e
 renewed_twice fresh a b c (inl d) (inr (e, q)) join = inl (e ∙ d)
 renewed_twice fresh a b c (inr (d, p)) (inr (e, q)) join = inr (e ∙ d, join d p q)

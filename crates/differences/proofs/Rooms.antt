@@ -108,7 +108,8 @@ pub record HasParts (n : ℕ) (room : Room) : Type 0 where
 
 pub parts_of : (n : ℕ) (room : Room) → n ≤ transitions_in room → HasParts n room
 parts_of n room h =
-    let one = below_rest n (room.places / 2000) (min (room.tasks / 2) (min (room.wanted / 2) (min (room.cells / 2) (room.domains / 2)))) h in
+    let one = below_rest n (room.places / 2000) (min (room.tasks / 2)
+    (min (room.wanted / 2) (min (room.cells / 2) (room.domains / 2)))) h in
     let two = below_rest n (room.tasks / 2) (min (room.wanted / 2) (min (room.cells / 2) (room.domains / 2))) one in
     let three = below_rest n (room.wanted / 2) (min (room.cells / 2) (room.domains / 2)) two in
     record {

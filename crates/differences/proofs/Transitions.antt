@@ -21,16 +21,22 @@ module _ (k : Keeping) (d : Noted) (is : d ≡ noted_of k) where
   room_at h = room_of_two k.room (subst (λ (n : Noted). 0 < n.spare) is h)
 
   -- one event
-  pub follows_once : (first : Event) (second : Option Event) (new : Rows) → second ≡ None → Follows d first second new → (b : Keeping)
+  pub follows_once : (first : Event) (second : Option Event) (new : Rows) → second ≡ None → Follows d first second new
+      → (b : Keeping)
       → Renews new (first.row ∷ []) k b → StandsFor (noted_of b) new
   follows_once first second new none f b renews =
-      let tells : TellAll f.0 new (record { first = first; second = None }) = subst (λ (s : Option Event). TellAll f.0 new (record { first = first; second = s })) none f.4 in
-      stands_new f.0 new (record { first = first; second = None }) tells f.1 k b (subst (λ (n : Noted). StandsFor n f.0) is f.3) renews
+      let tells : TellAll f.0 new (record { first = first; second = None }) =
+      subst (λ (s : Option Event). TellAll f.0 new (record { first = first; second = s })) none f.4 in
+      stands_new f.0 new (record { first = first; second = None }) tells f.1 k b
+      (subst (λ (n : Noted). StandsFor n f.0) is f.3) renews
 
   -- two events
-  pub follows_twice : (first other : Event) (second : Option Event) (new : Rows) → second ≡ Some other → Follows d first second new → (b e : Keeping)
+  pub follows_twice : (first other : Event) (second : Option Event) (new : Rows) → second ≡ Some other
+      → Follows d first second new → (b e : Keeping)
       → Renews new (first.row ∷ []) k b → Renews new (other.row ∷ []) b e → StandsFor (noted_of e) new
   follows_twice first other second new some f b e one two =
-      let tells : TellAll f.0 new (record { first = first; second = Some other }) = subst (λ (s : Option Event). TellAll f.0 new (record { first = first; second = s })) some f.4 in
-      stands_new f.0 new (record { first = first; second = Some other }) tells f.1 k e (subst (λ (n : Noted). StandsFor n f.0) is f.3)
+      let tells : TellAll f.0 new (record { first = first; second = Some other }) =
+      subst (λ (s : Option Event). TellAll f.0 new (record { first = first; second = s })) some f.4 in
+      stands_new f.0 new (record { first = first; second = Some other }) tells f.1 k e
+      (subst (λ (n : Noted). StandsFor n f.0) is f.3)
       (renews_twice new first.row other.row k b e one two)

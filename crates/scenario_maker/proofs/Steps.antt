@@ -46,13 +46,16 @@ text_behind n text old now more before adds =
     ∙ ap (λ (k : ℕ). old ++ each_below k text) (sym (add-one n))
 
 -- three texts, each put behind the one before it
-pub three_more : (old a b c one two three : List ℕ) → one ≡ old ++ a → two ≡ one ++ b → three ≡ two ++ c → three ≡ old ++ (a ++ (b ++ c))
+pub three_more : (old a b c one two three : List ℕ) → one ≡ old ++ a → two ≡ one ++ b → three ≡ two ++ c
+    → three ≡ old ++ (a ++ (b ++ c))
 three_more old a b c one two three first second third =
     third ∙ ap (λ (l : List ℕ). l ++ c) (second ∙ ap (λ (l : List ℕ). l ++ b) first)
     ∙ append_assoc (old ++ a) b c ∙ append_assoc old a (b ++ c)
 
 -- four texts, each put behind the one before it
-pub four_more : (old a b c d one two three four : List ℕ) → one ≡ old ++ a → two ≡ one ++ b → three ≡ two ++ c → four ≡ three ++ d
+pub four_more : (old a b c d one two three four : List ℕ) → one ≡ old ++ a → two ≡ one ++ b → three ≡ two ++ c
+    → four ≡ three ++ d
     → four ≡ old ++ (a ++ (b ++ (c ++ d)))
 four_more old a b c d one two three four first second third fourth =
-    three_more old a b (c ++ d) one two four first second (fourth ∙ ap (λ (l : List ℕ). l ++ d) third ∙ append_assoc two c d)
+    three_more old a b (c ++ d) one two four first second
+    (fourth ∙ ap (λ (l : List ℕ). l ++ d) third ∙ append_assoc two c d)

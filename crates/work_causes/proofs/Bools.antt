@@ -23,13 +23,15 @@ some_if false x = refl
 
 module _ {A : Type 0} where
   -- a row that no container has, and that isn't tried again
-  pub kept_bare : (w g : Bool) (x : A) (y : Option A) → is_some (cond (not w && g) (Some x) (cond false y (cond w None None))) ≡ ((not w && g) || (false || false))
+  pub kept_bare : (w g : Bool) (x : A) (y : Option A) → is_some
+      (cond (not w && g) (Some x) (cond false y (cond w None None))) ≡ ((not w && g) || (false || false))
   kept_bare true g x y = refl
   kept_bare false true x y = refl
   kept_bare false false x y = refl
 
   -- a row of a container, which is lost where its cell isn't there
-  pub kept_held : (w g t : Bool) (x y : A) → is_some (cond (not w && g) (Some x) (cond (not t) (Some y) (cond w None None))) ≡ ((not w && g) || (not t || false))
+  pub kept_held : (w g t : Bool) (x y : A) → is_some (cond (not w && g) (Some x)
+      (cond (not t) (Some y) (cond w None None))) ≡ ((not w && g) || (not t || false))
   kept_held true g true x y = refl
   kept_held true g false x y = refl
   kept_held false true t x y = refl
@@ -37,7 +39,9 @@ module _ {A : Type 0} where
   kept_held false false false x y = refl
 
   -- a row that crashed, and is tried again where it is wanted and due
-  pub kept_crashed : (w g d : Bool) (x z : A) (y : Option A) → is_some (cond (not w && g) (Some x) (cond false y (cond w (cond d (Some z) None) None))) ≡ ((not w && g) || (false || (w && d)))
+  pub kept_crashed : (w g d : Bool) (x z : A) (y : Option A)
+      → is_some (cond (not w && g) (Some x) (cond false y (cond w (cond d (Some z) None) None)))
+      ≡ ((not w && g) || (false || (w && d)))
   kept_crashed true g true x z y = refl
   kept_crashed true g false x z y = refl
   kept_crashed false true d x z y = refl

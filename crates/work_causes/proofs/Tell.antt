@@ -46,10 +46,13 @@ each_found R key P q x (y ∷ ys) h e =
     ] e
 
 -- a row that is found suits its presence
-pub suits_found : (rows : Rows) → IsValid rows → (key : Key) (presence : Presence) (a : Actual) → find_actual rows key presence ≡ Some a → SuitsPresence presence a
+pub suits_found : (rows : Rows) → IsValid rows → (key : Key) (presence : Presence) (a : Actual)
+    → find_actual rows key presence ≡ Some a → SuitsPresence presence a
 suits_found rows v key presence a e =
-    let row : IsActualRow rows.next a = each_found place_order place_of (IsActualRow rows.next) (key, presence) a rows.actual v.actual.each e in
-    subst (λ (p : Presence). SuitsPresence p a) (ap (λ (p : Key × Presence). p.1) (key-find_row place_order place_of IsKeyOrder-place_order (key, presence) a rows.actual e)) row.suits
+    let row : IsActualRow rows.next a = each_found place_order place_of (IsActualRow rows.next)
+    (key, presence) a rows.actual v.actual.each e in
+    subst (λ (p : Presence). SuitsPresence p a) (ap (λ (p : Key × Presence). p.1)
+    (key-find_row place_order place_of IsKeyOrder-place_order (key, presence) a rows.actual e)) row.suits
 
 module _ (rows : Rows) (now : Moment) where
   -- one of the causes of a list holds
@@ -60,36 +63,47 @@ module _ (rows : Rows) (now : Moment) where
   ors : {a b c x y z : Bool} → a ≡ x → b ≡ y → c ≡ z → (a || (b || c)) ≡ (x || (y || z))
   ors p q r = λ i. p i || (q i || r i)
 
-  of_going : (w : Bool) (a : Actual) → any (option_to_list (cond (not w) (Some (going a.domain)) None)) ≡ (not w && told.may_go rows now a)
-  of_going w a = any_if (ends_of rows) now (not w) (going a.domain) ∙ ap (λ (b : Bool). not w && b) (goes rows now a.domain)
+  of_going : (w : Bool) (a : Actual) → any (option_to_list (cond (not w) (Some (going a.domain)) None))
+      ≡ (not w && told.may_go rows now a)
+  of_going w a = any_if (ends_of rows) now (not w) (going a.domain) ∙ ap (λ (b : Bool). not w && b)
+      (goes rows now a.domain)
 
   bare : (w : Bool) → any (option_to_list (cond w None None)) ≡ false
   bare true = refl
   bare false = refl
 
-  crashed : (w : Bool) (a : Actual) → any (option_to_list (cond w (tried a lrp.Crashed) None)) ≡ (w && told.is_due a now)
+  crashed : (w : Bool) (a : Actual) → any (option_to_list (cond w (tried a lrp.Crashed) None))
+      ≡ (w && told.is_due a now)
   crashed true a = due_by rows now a
   crashed false a = refl
 
   -- an ORDINARY row, by its state
   standing : (w : Bool) (key : Key) (a : Actual) (remove : Op) (s : LrpState)
-      → is_some (cond (not w && told.may_go rows now a) (Some remove) (cond (told.is_lost rows now s) (told.given_up w key s) (cond w (told.restart_if_due key a now s) None)))
-      ≡ ((not w && told.may_go rows now a) || (told.is_lost rows now s || any (option_to_list (cond w (tried a s) None))))
+      → is_some (cond (not w && told.may_go rows now a) (Some remove)
+      (cond (told.is_lost rows now s) (told.given_up w key s) (cond w (told.restart_if_due key a now s) None)))
+      ≡ ((not w && told.may_go rows now a) || (told.is_lost rows now s || any
+      (option_to_list (cond w (tried a s) None))))
   standing w key a remove lrp.Unclaimed =
-      kept_bare w (told.may_go rows now a) remove None ∙ ap (λ (b : Bool). (not w && told.may_go rows now a) || (false || b)) (sym (bare w))
+      kept_bare w (told.may_go rows now a) remove None ∙ ap
+      (λ (b : Bool). (not w && told.may_go rows now a) || (false || b)) (sym (bare w))
   standing w key a remove (lrp.Claimed instance cell) =
       kept_held w (told.may_go rows now a) (told.is_there rows now cell instance.epoch) remove (op.Unclaim key instance)
-      ∙ ap (λ (b : Bool). (not w && told.may_go rows now a) || (not (told.is_there rows now cell instance.epoch) || b)) (sym (bare w))
+      ∙ ap (λ (b : Bool). (not w && told.may_go rows now a) || (not (told.is_there rows now cell instance.epoch) || b))
+      (sym (bare w))
   standing w key a remove (lrp.Running instance cell) =
-      kept_held w (told.may_go rows now a) (told.is_there rows now cell instance.epoch) remove (cond w (op.Suspect key instance) (op.Unclaim key instance))
-      ∙ ap (λ (b : Bool). (not w && told.may_go rows now a) || (not (told.is_there rows now cell instance.epoch) || b)) (sym (bare w))
+      kept_held w (told.may_go rows now a) (told.is_there rows now cell instance.epoch) remove
+      (cond w (op.Suspect key instance) (op.Unclaim key instance))
+      ∙ ap (λ (b : Bool). (not w && told.may_go rows now a) || (not (told.is_there rows now cell instance.epoch) || b))
+      (sym (bare w))
   standing w key a remove lrp.Crashed =
       kept_crashed w (told.may_go rows now a) (told.is_due a now) remove (op.Restart key) None
       ∙ ap (λ (b : Bool). (not w && told.may_go rows now a) || (false || b)) (sym (crashed w a))
 
-  of_ordinary : (key : Key) (row : Option Actual) → is_some (told.ordinary_work rows now key row) ≡ any (ordinary_causes (told.wants rows key) row)
+  of_ordinary : (key : Key) (row : Option Actual) → is_some (told.ordinary_work rows now key row)
+      ≡ any (ordinary_causes (told.wants rows key) row)
   of_ordinary key None =
-      elim (told.wants rows key) as (λ (w : Bool). is_some (cond w (Some (op.Make key)) None) ≡ any (ordinary_causes w None)) [ true ↦ refl | false ↦ refl ]
+      elim (told.wants rows key) as (λ (w : Bool). is_some (cond w (Some (op.Make key)) None)
+      ≡ any (ordinary_causes w None)) [ true ↦ refl | false ↦ refl ]
   of_ordinary key (Some a) =
       let w = told.wants rows key in
       standing w key a (op.Remove key (holder_of a.state)) a.state
@@ -103,7 +117,8 @@ module _ (rows : Rows) (now : Moment) where
   dropped_row b key (lrp.Running instance cell) r = some_if b (op.DropEvacuating key instance)
   dropped_row b key lrp.Crashed r = absurd r
 
-  dropped_suspect : (b : Bool) (key : Key) (s : LrpState) → IsRunning s → is_some (cond b (told.drop_suspect_of key s) None) ≡ b
+  dropped_suspect : (b : Bool) (key : Key) (s : LrpState) → IsRunning s
+      → is_some (cond b (told.drop_suspect_of key s) None) ≡ b
   dropped_suspect b key lrp.Unclaimed r = absurd r
   dropped_suspect b key (lrp.Claimed instance cell) r = absurd r
   dropped_suspect b key (lrp.Running instance cell) r = some_if b (op.DropSuspect key instance)
@@ -114,13 +129,15 @@ module _ (rows : Rows) (now : Moment) where
   or_assoc false b c = refl
 
   of_evacuating : (key : Key) (a : Actual) → IsRunning a.state
-      → is_some (told.evacuating_work rows now key (Some a)) ≡ any (evacuating_causes (told.wants rows key) (find_actual rows key Ordinary) (Some a))
+      → is_some (told.evacuating_work rows now key (Some a))
+      ≡ any (evacuating_causes (told.wants rows key) (find_actual rows key Ordinary) (Some a))
   of_evacuating key a running =
       let w = told.wants rows key in
       let ordinary = find_actual rows key Ordinary in
       dropped_row (told.is_spent rows now key a) key a.state running
       ∙ or_assoc (told.is_retirable rows now key a) (told.is_lost rows now a.state) (told.runs_there rows now ordinary)
-      ∙ sym (any_of_three (ends_of rows) now (cond (not w) (Some (going a.domain)) None) (lost a.state) (replaced ordinary)
+      ∙ sym (any_of_three (ends_of rows) now (cond (not w) (Some (going a.domain)) None) (lost a.state)
+      (replaced ordinary)
       ∙ ors (of_going w a) (is_lost_by rows now a.state) (replaced_by rows now ordinary))
 
   -- the SUSPECT row of a wanted instance, by the state of the ORDINARY row
@@ -130,7 +147,8 @@ module _ (rows : Rows) (now : Moment) where
   beside_state (lrp.Claimed instance cell) s = joined_by rows now s ∙ sym (and_true (told.has_joined_anew rows s))
   beside_state (lrp.Running instance cell) s =
       runs_by rows now (lrp.Running instance cell)
-      ∙ sym (ap (λ (b : Bool). told.is_there rows now cell instance.epoch || b) (and_false (told.has_joined_anew rows s)) ∙ or_false (told.is_there rows now cell instance.epoch))
+      ∙ sym (ap (λ (b : Bool). told.is_there rows now cell instance.epoch || b)
+      (and_false (told.has_joined_anew rows s)) ∙ or_false (told.is_there rows now cell instance.epoch))
   beside_state lrp.Crashed s = joined_by rows now s ∙ sym (and_true (told.has_joined_anew rows s))
 
   beside : (row : Option Actual) (s : LrpState) → any (option_to_list (first_of_two (replaced row) (joined s)))
@@ -139,36 +157,44 @@ module _ (rows : Rows) (now : Moment) where
   beside (Some a) s = beside_state a.state s
 
   past : (w : Bool) (ordinary : Option Actual) (a : Actual)
-      → ((not w || told.runs_there rows now ordinary) || (told.has_joined_anew rows a.state && not (told.runs ordinary))) ≡ any (suspect_causes w ordinary (Some a))
+      → ((not w || told.runs_there rows now ordinary) || (told.has_joined_anew rows a.state && not
+      (told.runs ordinary))) ≡ any (suspect_causes w ordinary (Some a))
   past true ordinary a =
       sym (any_of_three (ends_of rows) now None (first_of_two (replaced ordinary) (joined a.state)) None
       ∙ or_false (any (option_to_list (first_of_two (replaced ordinary) (joined a.state)))) ∙ beside ordinary a.state)
   past false ordinary a = refl
 
   of_suspect : (key : Key) (a : Actual) → IsRunning a.state
-      → is_some (told.suspect_work rows now key (Some a)) ≡ any (suspect_causes (told.wants rows key) (find_actual rows key Ordinary) (Some a))
+      → is_some (told.suspect_work rows now key (Some a)) ≡ any
+      (suspect_causes (told.wants rows key) (find_actual rows key Ordinary) (Some a))
   of_suspect key a running =
-      dropped_suspect (told.is_past rows now key a) key a.state running ∙ past (told.wants rows key) (find_actual rows key Ordinary) a
+      dropped_suspect (told.is_past rows now key a) key a.state running ∙ past (told.wants rows key)
+      (find_actual rows key Ordinary) a
 
-  of_place : IsValid rows → (place : Key × Presence) → is_some (told.place_work rows now place) ≡ any (causes_of rows (OfPlace place))
+  of_place : IsValid rows → (place : Key × Presence) → is_some (told.place_work rows now place)
+      ≡ any (causes_of rows (OfPlace place))
   of_place v (key, Ordinary) = of_ordinary key (find_actual rows key Ordinary)
   of_place v (key, Evacuating) =
-      elim (find_actual rows key Evacuating) as (λ (s : Option Actual). find_actual rows key Evacuating ≡ s → is_some (told.evacuating_work rows now key s)
+      elim (find_actual rows key Evacuating) as (λ (s : Option Actual). find_actual rows key Evacuating ≡ s
+      → is_some (told.evacuating_work rows now key s)
       ≡ any (evacuating_causes (told.wants rows key) (find_actual rows key Ordinary) s)) [
         | None ↦ λ is. refl
         | (Some a) ↦ λ is. of_evacuating key a (suits_found rows v key Evacuating a is).0
       ] refl
   of_place v (key, Suspect) =
-      elim (find_actual rows key Suspect) as (λ (s : Option Actual). find_actual rows key Suspect ≡ s → is_some (told.suspect_work rows now key s)
+      elim (find_actual rows key Suspect) as (λ (s : Option Actual). find_actual rows key Suspect ≡ s
+      → is_some (told.suspect_work rows now key s)
       ≡ any (suspect_causes (told.wants rows key) (find_actual rows key Ordinary) s)) [
         | None ↦ λ is. refl
         | (Some a) ↦ λ is. of_suspect key a (suits_found rows v key Suspect a is).0
       ] refl
 
-  from_second : (second : ℕ) (x : Op) → is_some (cond (nat_le second now.0) (Some x) None) ≡ (nat_le second now.0 || false)
+  from_second : (second : ℕ) (x : Op) → is_some (cond (nat_le second now.0) (Some x) None)
+      ≡ (nat_le second now.0 || false)
   from_second second x = some_if (nat_le second now.0) x ∙ sym (or_false (nat_le second now.0))
 
-  of_task_state : (t : Task) (s : TaskState) → is_some (told.asked_of_task rows now t s) ≡ any (option_to_list (Some (state_cause t.since s)))
+  of_task_state : (t : Task) (s : TaskState) → is_some (told.asked_of_task rows now t s)
+      ≡ any (option_to_list (Some (state_cause t.since s)))
   of_task_state t task.Pending = from_second (t.since.0 + 1800) (op.CancelTask t.name)
   of_task_state t (task.Running instance cell) =
       some_if (not (told.is_there rows now cell instance.epoch)) (op.CancelTask t.name)
@@ -176,19 +202,23 @@ module _ (rows : Rows) (now : Moment) where
   of_task_state t (task.Completed failed) = from_second (t.since.0 + 120) (op.ExpireTask t.name)
   of_task_state t (task.Resolving failed) = from_second (t.since.0 + 30) (op.KickTask t.name)
 
-  of_task : (row : Option Task) → is_some (option_and_then (told.task_work rows now) row) ≡ any (option_to_list (option_map task_cause row))
+  of_task : (row : Option Task) → is_some (option_and_then (told.task_work rows now) row)
+      ≡ any (option_to_list (option_map task_cause row))
   of_task None = refl
   of_task (Some t) = of_task_state t t.state
 
-  of_cell : (row : Option CellRow) → is_some (option_and_then (λ (c : CellRow). told.cell_work c now) row) ≡ any (lease_causes (option_map lease_of row))
+  of_cell : (row : Option CellRow) → is_some (option_and_then (λ (c : CellRow). told.cell_work c now) row)
+      ≡ any (lease_causes (option_map lease_of row))
   of_cell None = refl
   of_cell (Some c) = from_second c.until (op.Vanish c.cell)
 
-  of_end : (d : DomainRow) (until : Option ℕ) → is_some (option_and_then (λ (second : ℕ). told.asked_if (nat_le second now.0) (op.Forget d.domain)) until) ≡ any (end_causes (Some until))
+  of_end : (d : DomainRow) (until : Option ℕ) → is_some (option_and_then
+      (λ (second : ℕ). told.asked_if (nat_le second now.0) (op.Forget d.domain)) until) ≡ any (end_causes (Some until))
   of_end d None = refl
   of_end d (Some second) = from_second second (op.Forget d.domain)
 
-  of_domain : (row : Option DomainRow) → is_some (option_and_then (λ (d : DomainRow). told.domain_work d now) row) ≡ any (end_causes (option_map (λ (d : DomainRow). d.until) row))
+  of_domain : (row : Option DomainRow) → is_some (option_and_then (λ (d : DomainRow). told.domain_work d now) row)
+      ≡ any (end_causes (option_map (λ (d : DomainRow). d.until) row))
   of_domain None = refl
   of_domain (Some d) = of_end d d.until
 

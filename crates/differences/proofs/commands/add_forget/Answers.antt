@@ -11,5 +11,6 @@ loop-domain-preserved c =
     c.in_ok-add.ensures
     ∙ ap (λ (o : Option Command). c.loop-domain.list ++ option_to_list o)
     (c.command_at.ensures ∙ ap (option_map (at c.args.now)) c.forget.ensures)
-    ∙ asked_more forget (at c.args.now) c.args.domains.now c.loop-domain.domain-index c.domain-item.result c.args.list.now
+    ∙ asked_more forget (at c.args.now) c.args.domains.now c.loop-domain.domain-index c.domain-item.result
+    c.args.list.now
     c.loop-domain.list c.loop-domain-test.true c.domain-item.is c.loop-domain.invariant

@@ -20,7 +20,8 @@ loop-name-preserved g c =
           (c.command_at.ensures ∙ ap (option_map (at c.args.now)) asked)
           ∙ asked_more (command_of_task first) (at c.args.now) c.args.names.now c.loop-name.name-index name
           c.args.list.now c.loop-name.list c.loop-name-test.true c.name-item.is c.loop-name.invariant.list;
-      keeps = g.met.C.CountedRows.goes_on c.args.rows.now c.loop-name.rows c.task-row.new.self c.loop-name.invariant.keeps
+      keeps = g.met.C.CountedRows.goes_on c.args.rows.now c.loop-name.rows c.task-row.new.self
+          c.loop-name.invariant.keeps
           c.task-row.ensures.keeps;
       rows = c.task-row.ensures.same ∙ c.loop-name.invariant.rows;
       steps = omega (arith, c.task-row.ensures.step, c.loop-name.invariant.steps);

@@ -5,4 +5,5 @@ use Rattle.differences.proofs.due.due_entries.Given as goal
 
 abbrev pub invariant-loop-number : goal.invariant-loop-number
 invariant-loop-number g l = l.found.items
-    ≡ keys_due g.V.Timed.causes (ends_by l.leases.cells.entries l.leases.domains.entries) l.now (take l.number l.map.entries)
+    ≡ keys_due g.V.Timed.causes (ends_by l.leases.cells.entries l.leases.domains.entries) l.now
+    (take l.number l.map.entries)

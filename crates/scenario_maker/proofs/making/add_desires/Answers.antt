@@ -17,11 +17,14 @@ loop-process-preserved c =
     let first : c.draw-instances.new.self.last ≡ behind (2 * n + 1) x =
     c.draw-instances.ensures.last ∙ ap next_number before ∙ sym (behind_more (2 * n) x) in
     let second : c.draw.new.self.last ≡ behind (2 * n + 2) x =
-    c.draw.ensures.last ∙ ap next_number (c.draw-instances.ensures.last ∙ ap next_number before) ∙ sym (behind_both (2 * n) x) in
+    c.draw.ensures.last ∙ ap next_number (c.draw-instances.ensures.last ∙ ap next_number before) ∙ sym
+    (behind_both (2 * n) x) in
     let instances : c.draw-instances.result ≡ drawn (2 * n + 1) 4 x =
     c.draw-instances.ensures.value ∙ ap (λ (k : ℕ). (k / 65536) % 4) first in
-    let memory : c.draw.result ≡ drawn (2 * n + 2) 8 x = c.draw.ensures.value ∙ ap (λ (k : ℕ). (k / 65536) % 8) second in
-    let line : c.extend_from_slice.new.self.items ≡ c.loop-process.text.items ++ desire_line n (1 + c.draw-instances.result) (32 * (1 + c.draw.result)) =
+    let memory : c.draw.result ≡ drawn (2 * n + 2) 8 x = c.draw.ensures.value ∙ ap
+    (λ (k : ℕ). (k / 65536) % 8) second in
+    let line : c.extend_from_slice.new.self.items ≡ c.loop-process.text.items
+    ++ desire_line n (1 + c.draw-instances.result) (32 * (1 + c.draw.result)) =
     search rules in (
       text_behind n (desire_of x) _ _ _ c.loop-process.invariant.0
           (line ∙ rw (instances, memory) refl),

@@ -11,5 +11,7 @@ pub loop-cell-preserved : goal.loop-cell-preserved
 loop-cell-preserved c =
     let n = c.loop-cell.cell in
     let at : c.extend_from_slice.new.self.items ≡ c.loop-cell.text.items ++ at_line 0 = search rules in
-    let join : c.extend_from_slice-in-loop-cell.new.self.items ≡ c.extend_from_slice.new.self.items ++ join_line n (n % 2) = search rules in
-    text_behind n join_phase _ _ _ c.loop-cell.invariant (join ∙ rw at (append_assoc c.loop-cell.text.items (at_line 0) (join_line n (n % 2))))
+    let join : c.extend_from_slice-in-loop-cell.new.self.items ≡ c.extend_from_slice.new.self.items
+    ++ join_line n (n % 2) = search rules in
+    text_behind n join_phase _ _ _ c.loop-cell.invariant (join ∙ rw at
+    (append_assoc c.loop-cell.text.items (at_line 0) (join_line n (n % 2))))

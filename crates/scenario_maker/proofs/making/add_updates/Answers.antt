@@ -17,11 +17,14 @@ loop-before-preserved c =
     let first : c.draw-process.new.self.last ≡ behind (2 * n + 1) x =
     c.draw-process.ensures.last ∙ ap next_number before ∙ sym (behind_more (2 * n) x) in
     let second : c.draw-instances.new.self.last ≡ behind (2 * n + 2) x =
-    c.draw-instances.ensures.last ∙ ap next_number (c.draw-process.ensures.last ∙ ap next_number before) ∙ sym (behind_both (2 * n) x) in
+    c.draw-instances.ensures.last ∙ ap next_number (c.draw-process.ensures.last ∙ ap next_number before) ∙ sym
+    (behind_both (2 * n) x) in
     let process : c.draw-process.result ≡ drawn (2 * n + 1) 50 x =
     c.draw-process.ensures.value ∙ ap (λ (k : ℕ). (k / 65536) % 50) first in
-    let instances : c.draw-instances.result ≡ drawn (2 * n + 2) 6 x = c.draw-instances.ensures.value ∙ ap (λ (k : ℕ). (k / 65536) % 6) second in
-    let line : c.extend_from_slice.new.self.items ≡ c.loop-before.text.items ++ update_line c.draw-process.result c.draw-instances.result =
+    let instances : c.draw-instances.result ≡ drawn (2 * n + 2) 6 x =
+    c.draw-instances.ensures.value ∙ ap (λ (k : ℕ). (k / 65536) % 6) second in
+    let line : c.extend_from_slice.new.self.items ≡ c.loop-before.text.items
+    ++ update_line c.draw-process.result c.draw-instances.result =
     search rules in (
       text_behind n (update_of x) _ _ _ c.loop-before.invariant.0
           (line ∙ rw (process, instances) refl),

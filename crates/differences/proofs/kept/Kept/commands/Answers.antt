@@ -4,22 +4,26 @@ use Rattle.differences.proofs.kept.Kept.commands.Goals as goal
 
 pub returns-in_err-add_vanish-clause-free : goal.returns-in_err-add_vanish-clause-free
 returns-in_err-add_vanish-clause-free g c none =
-    let never : false ≡ true = c.in_err-add_vanish.ensures.free (c.cells.ensures ∙ (none_due c.args.due.now none).cells) in
+    let never : false ≡ true = c.in_err-add_vanish.ensures.free
+    (c.cells.ensures ∙ (none_due c.args.due.now none).cells) in
     absurd cc
 
 pub returns-in_err-add_forget-clause-free : goal.returns-in_err-add_forget-clause-free
 returns-in_err-add_forget-clause-free g c none =
-    let never : false ≡ true = c.in_err-add_forget.ensures.free (c.domains.ensures ∙ (none_due c.args.due.now none).domains) in
+    let never : false ≡ true = c.in_err-add_forget.ensures.free
+    (c.domains.ensures ∙ (none_due c.args.due.now none).domains) in
     absurd cc
 
 pub returns-in_err-add_places-clause-free : goal.returns-in_err-add_places-clause-free
 returns-in_err-add_places-clause-free g c none =
-    let never : false ≡ true = c.in_err-add_places.ensures.free (c.places.ensures ∙ (none_due c.args.due.now none).places) in
+    let never : false ≡ true = c.in_err-add_places.ensures.free
+    (c.places.ensures ∙ (none_due c.args.due.now none).places) in
     absurd cc
 
 pub returns-in_err-add_tasks-clause-free : goal.returns-in_err-add_tasks-clause-free
 returns-in_err-add_tasks-clause-free g c none =
-    let never : false ≡ true = c.in_err-add_tasks.ensures.free (c.tasks.ensures ∙ (none_due c.args.due.now none).tasks) in
+    let never : false ≡ true = c.in_err-add_tasks.ensures.free
+    (c.tasks.ensures ∙ (none_due c.args.due.now none).tasks) in
     absurd cc
 
 pub returns-clause-steps : goal.returns-clause-steps

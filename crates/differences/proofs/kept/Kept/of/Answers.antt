@@ -16,4 +16,5 @@ returns c =
     ∙ ap (λ (xs : List Task). option_map task_cause (find_row name_order task_name_of q xs)) c.items.ensures)
     c.in_ok-leases_of.ensures.cells c.in_ok-leases_of.ensures.domains
     (λ q. c.in_ok-told_of_all-2.ensures q
-    ∙ ap (λ (xs : List Desired). option_map (λ (x : Desired). x.instances) (find_row name_order process_of q xs)) c.items-2.ensures)
+    ∙ ap (λ (xs : List Desired). option_map (λ (x : Desired). x.instances) (find_row name_order process_of q xs))
+    c.items-2.ensures)
