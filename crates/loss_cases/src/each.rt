@@ -54,9 +54,9 @@ fn each_from(of: Each, verdicts: &[Verdict], told: Vec<Case>) -> EachLost
 /// What happens where each zone, each cell or each pair of cells goes alone, by name. Of pairs that is
 /// each cell that told its state, and then each two of one tag of which either can go alone.
 ///
-/// A loss costs a plan, which counts each container of an open cell, and a look at each wanted
-/// instance. Zones and cells are a loss each. Of `n` cells that can each go, pairs are
-/// `n (n - 1) / 2` losses more.
+/// What stands and waits is looked up once for all losses. A loss then costs what its cells hold, an
+/// auction of what waits, a look at each container of an open cell, and one at each process. Zones and
+/// cells are a loss each. Of `n` cells that can each go, pairs are `n (n - 1) / 2` losses more.
 pub fn lose_each(alloc: Global, site: &Site, of: Each) -> Result<EachLost, OutOfMemory>
     requires { IsSite site.now }
     ensures { IfOk result (λ done. done ≡ each_lost site.now of) }

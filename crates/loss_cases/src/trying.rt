@@ -1,5 +1,5 @@
 //! The losses that are asked for, each tried alone.
-ghost use Rattle.std.specs.Prelude.{◌≡◌, [], ◌++◌, filter, map, IfOk, OnOk};
+ghost use Rattle.std.specs.Prelude.{◌≡◌, ◌++◌, filter, map, IfOk, OnOk};
 ghost use Rattle.loss_cases.specs.Cases.{
   alone_case,
   case_of,
@@ -9,33 +9,31 @@ ghost use Rattle.loss_cases.specs.Cases.{
   goes_alone,
   losses_of,
 };
-ghost use Rattle.what_if.specs.Holders.{IsHolders};
+ghost use Rattle.loss_cases.specs.Questions.{IsQuestion};
 ghost use Rattle.what_if.specs.Sites.{IsSite};
-ghost use Rattle.what_if.specs.Stays.{stays};
 
-use crate::cases::case_of;
+use crate::cases::{Question, case_of, question_about};
 use crate::cells::{TaggedCell, by_name, tagged_cells};
 use crate::losses::{Loss, cell_loss, each_cell, each_zone, pairs_in};
 use diego_names::OutOfMemory;
 use dump_lines::Each;
 use forecast_records::Case;
 use std::alloc::Global;
-use what_if::{Holders, Site, holders_of};
+use what_if::Site;
 
 // Tries each of the losses.
 fn try_each(
     alloc: Global,
-    site: &Site,
-    before: &Holders,
+    question: &Question,
     losses: &[Loss],
     cases: &mut Vec<Case>,
 ) -> Result<(), OutOfMemory>
-    requires site { IsSite site.now }
-    requires before { IsHolders (stays site.now []) before.now }
-    ensures { OnOk result (cases.new.items ≡ cases.old.items ++ map (case_of site.now) losses.now) }
+    requires { IsQuestion question.now }
+    ensures { OnOk result (cases.new.items
+        ≡ cases.old.items ++ map (case_of question.now.base.site.now) losses.now) }
 {
     for loss in losses {
-        let case = case_of(alloc, site, before, loss)?;
+        let case = case_of(alloc, question, loss)?;
         cases.push(case)?;
     }
     Ok(())
@@ -44,21 +42,20 @@ fn try_each(
 // Tries each of the cells alone, and tells which of them can go.
 fn try_alone(
     alloc: Global,
-    site: &Site,
-    before: &Holders,
+    question: &Question,
     cells: &[TaggedCell],
     cases: &mut Vec<Case>,
 ) -> Result<Vec<TaggedCell>, OutOfMemory>
-    requires site { IsSite site.now }
-    requires before { IsHolders (stays site.now []) before.now }
-    ensures able { IfOk result (λ able. able.items ≡ filter (goes_alone site.now) cells.now) }
+    requires { IsQuestion question.now }
+    ensures able { IfOk result (λ able. able.items
+        ≡ filter (goes_alone question.now.base.site.now) cells.now) }
     ensures cases { OnOk result (cases.new.items
-        ≡ cases.old.items ++ map (alone_case site.now) cells.now) }
+        ≡ cases.old.items ++ map (alone_case question.now.base.site.now) cells.now) }
 {
     let mut able = Vec::new(alloc);
     for cell in cells {
         let loss = cell_loss(alloc, cell.cell)?;
-        let case = case_of(alloc, site, before, &loss)?;
+        let case = case_of(alloc, question, &loss)?;
         let can_go = case.unplaced == 0;
         cases.push(case)?;
         if can_go {
@@ -69,57 +66,60 @@ fn try_alone(
 }
 
 // Tries each cell that told its state alone, then each two of one tag of which either can go alone.
-fn try_pairs(
-    alloc: Global,
-    site: &Site,
-    before: &Holders,
-    cases: &mut Vec<Case>,
-) -> Result<(), OutOfMemory>
-    requires site { IsSite site.now }
-    requires before { IsHolders (stays site.now []) before.now }
+fn try_pairs(alloc: Global, question: &Question, cases: &mut Vec<Case>) -> Result<(), OutOfMemory>
+    requires { IsQuestion question.now }
     ensures { OnOk result (cases.new.items
-        ≡ cases.old.items ++ map (case_of site.now) (each_pair site.now)) }
+        ≡ cases.old.items
+        ++ map (case_of question.now.base.site.now) (each_pair question.now.base.site.now)) }
 {
-    let told = tagged_cells(alloc, site)?;
+    let told = tagged_cells(alloc, question.base.site)?;
     let cells = by_name(told);
-    let able = try_alone(alloc, site, before, cells.as_slice(), cases)?;
+    let able = try_alone(alloc, question, cells.as_slice(), cases)?;
     let pairs = pairs_in(alloc, able.as_slice())?;
-    try_each(alloc, site, before, pairs.as_slice(), cases)?;
+    try_each(alloc, question, pairs.as_slice(), cases)?;
     Ok(())
 }
 
 // Tries each zone.
-fn try_zones(
-    alloc: Global,
-    site: &Site,
-    before: &Holders,
-    cases: &mut Vec<Case>,
-) -> Result<(), OutOfMemory>
-    requires site { IsSite site.now }
-    requires before { IsHolders (stays site.now []) before.now }
+fn try_zones(alloc: Global, question: &Question, cases: &mut Vec<Case>) -> Result<(), OutOfMemory>
+    requires { IsQuestion question.now }
     ensures { OnOk result (cases.new.items
-        ≡ cases.old.items ++ map (case_of site.now) (each_zone site.now)) }
+        ≡ cases.old.items
+        ++ map (case_of question.now.base.site.now) (each_zone question.now.base.site.now)) }
 {
-    let losses = each_zone(alloc, site)?;
-    try_each(alloc, site, before, losses.as_slice(), cases)?;
+    let losses = each_zone(alloc, question.base.site)?;
+    try_each(alloc, question, losses.as_slice(), cases)?;
     Ok(())
 }
 
 // Tries each cell.
-fn try_cells(
+fn try_cells(alloc: Global, question: &Question, cases: &mut Vec<Case>) -> Result<(), OutOfMemory>
+    requires { IsQuestion question.now }
+    ensures { OnOk result (cases.new.items
+        ≡ cases.old.items
+        ++ map (case_of question.now.base.site.now) (each_cell question.now.base.site.now)) }
+{
+    let losses = each_cell(alloc, question.base.site)?;
+    try_each(alloc, question, losses.as_slice(), cases)?;
+    Ok(())
+}
+
+// Tries those that are asked for.
+fn try_asked(
     alloc: Global,
-    site: &Site,
-    before: &Holders,
+    question: &Question,
+    of: Each,
     cases: &mut Vec<Case>,
 ) -> Result<(), OutOfMemory>
-    requires site { IsSite site.now }
-    requires before { IsHolders (stays site.now []) before.now }
-    ensures { OnOk result (cases.new.items
-        ≡ cases.old.items ++ map (case_of site.now) (each_cell site.now)) }
+    requires { IsQuestion question.now }
+    ensures { OnOk result (cases.new.items ≡ cases.old.items
+        ++ map (case_of question.now.base.site.now) (losses_of question.now.base.site.now of)) }
 {
-    let losses = each_cell(alloc, site)?;
-    try_each(alloc, site, before, losses.as_slice(), cases)?;
-    Ok(())
+    match of {
+        Each::Zone => try_zones(alloc, question, cases),
+        Each::Cell => try_cells(alloc, question, cases),
+        Each::Pair => try_pairs(alloc, question, cases),
+    }
 }
 
 // Tries all that are asked for.
@@ -133,10 +133,7 @@ pub(crate) fn try_losses(
     ensures { OnOk result (cases.new.items
         ≡ cases.old.items ++ map (case_of site.now) (losses_of site.now of)) }
 {
-    let before = holders_of(alloc, site, &[])?;
-    match of {
-        Each::Zone => try_zones(alloc, site, &before, cases),
-        Each::Cell => try_cells(alloc, site, &before, cases),
-        Each::Pair => try_pairs(alloc, site, &before, cases),
-    }
+    let question = question_about(alloc, site)?;
+    try_asked(alloc, &question, of, cases)?;
+    Ok(())
 }

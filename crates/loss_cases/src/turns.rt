@@ -1,10 +1,9 @@
 //! How many cells of each tag can go one after another.
-ghost use Rattle.std.specs.Prelude.{◌≡◌, [], not, IfOk, map};
+ghost use Rattle.std.specs.Prelude.{◌≡◌, not, IfOk, map};
 ghost use Rattle.std.specs.List.{find};
-ghost use Rattle.what_if.specs.Holders.{IsHolders};
+ghost use Rattle.what_if.specs.Baselines.{IsBaseline};
 ghost use Rattle.what_if.specs.Plans.{planned};
 ghost use Rattle.what_if.specs.Sites.{IsSite};
-ghost use Rattle.what_if.specs.Stays.{stays};
 ghost use Rattle.loss_cases.specs.Turns.{
   all_went,
   in_turn,
@@ -27,7 +26,7 @@ use diego_names::{List, Name, OutOfMemory};
 use dump_lines::TurnOrder;
 use forecast_records::{Turn, TurnWord, TurnsTaken, Unplaced, Verdict};
 use std::alloc::Global;
-use what_if::{Holders, Scene, Site, holders_of, plan_in};
+use what_if::{Baseline, Plan, Site, baseline_of, plan_with, taken_by};
 
 fn word_of(order: &TurnOrder) -> TurnWord
     ensures { result ≡ word_of order.now }
@@ -88,31 +87,25 @@ pub(crate) struct Leaves {
     verdict: Verdict,
 }
 
-// It is known which cells hold what while nothing is lost.
-fn left_by(
-    alloc: Global,
-    site: &Site,
-    before: &Holders,
-    lost: &[Name],
-) -> Result<Leaves, OutOfMemory>
-    requires site { IsSite site.now }
-    requires before { IsHolders (stays site.now []) before.now }
-    ensures { IfOk result (λ left. left ≡ left_by (planned site.now lost.now)) }
+fn leaves_of(plan: &Plan) -> Leaves
+    ensures { result ≡ left_by plan.now }
 {
-    let after = holders_of(alloc, site, lost)?;
-    let scene = Scene {
-        site,
-        lost,
-        before,
-        after: &after,
-    };
-    let plan = plan_in(alloc, &scene)?;
     let without = plan.without_room.items();
-    Ok(Leaves {
+    Leaves {
         unplaced: displaced_left_in(without),
         first: first_displaced(without),
         verdict: plan.verdict,
-    })
+    }
+}
+
+fn left_by(alloc: Global, base: &Baseline, lost: &[Name]) -> Result<Leaves, OutOfMemory>
+    requires { IsBaseline base.now }
+    ensures { IfOk result (λ left. left ≡ left_by (planned base.now.site.now lost.now)) }
+{
+    let taken = taken_by(alloc, base, lost)?;
+    let plan = plan_with(alloc, base, lost, &taken)?;
+    let left = leaves_of(&plan);
+    Ok(left)
 }
 
 // The last of the cells that went was too much.
@@ -139,21 +132,19 @@ fn one_too_many(
 // How many cells of the tag can go, in this order.
 fn turn_of(
     alloc: Global,
-    site: &Site,
-    before: &Holders,
+    base: &Baseline,
     tag: Option<Name>,
     cells: &[TaggedCell],
 ) -> Result<Turn, OutOfMemory>
-    requires site { IsSite site.now }
-    requires before { IsHolders (stays site.now []) before.now }
-    ensures { IfOk result (λ turn. turn ≡ turn_of site.now tag cells.now) }
+    requires { IsBaseline base.now }
+    ensures { IfOk result (λ turn. turn ≡ turn_of base.now.site.now tag cells.now) }
 {
     let count = cells.len() as u64;
     let mut gone = List::new(alloc);
     for cell in cells {
         let survived = gone.len() as u64;
         gone.push(cell.cell)?;
-        let left = left_by(alloc, site, before, gone.items())?;
+        let left = left_by(alloc, base, gone.items())?;
         if left.unplaced > 0 {
             return Ok(one_too_many(tag, count, survived, gone, left));
         }
@@ -162,22 +153,26 @@ fn turn_of(
 }
 
 // How many cells of each tag can go, by tag.
-fn turns_in(
-    alloc: Global,
-    site: &Site,
-    before: &Holders,
-    cells: &[TaggedCell],
-) -> Result<List<Turn>, OutOfMemory>
-    requires site { IsSite site.now }
-    requires before { IsHolders (stays site.now []) before.now }
-    ensures { IfOk result (λ turns. turns ≡ turns_in site.now cells.now) }
+fn turns_in(alloc: Global, base: &Baseline, cells: &[TaggedCell]) -> Result<List<Turn>, OutOfMemory>
+    requires { IsBaseline base.now }
+    ensures { IfOk result (λ turns. turns ≡ turns_in base.now.site.now cells.now) }
 {
     let tags = tags_of(alloc, cells)?;
     let mut turns = List::new(alloc);
     for tag in &tags {
         let own = with_tag(alloc, *tag, cells)?;
-        turns.push(turn_of(alloc, site, before, *tag, own.as_slice())?)?;
+        turns.push(turn_of(alloc, base, *tag, own.as_slice())?)?;
     }
+    Ok(turns)
+}
+
+// The same, where nothing is looked up yet.
+fn all_turns(alloc: Global, site: &Site, cells: &[TaggedCell]) -> Result<List<Turn>, OutOfMemory>
+    requires { IsSite site.now }
+    ensures { IfOk result (λ turns. turns ≡ turns_in site.now cells.now) }
+{
+    let base = baseline_of(alloc, site)?;
+    let turns = turns_in(alloc, &base, cells)?;
     Ok(turns)
 }
 
@@ -237,8 +232,7 @@ pub fn lose_in_turn(
     ensures { IfOk result (λ taken. taken ≡ turns site.now order.now at_least) }
 {
     let cells = in_turn(alloc, site, order)?;
-    let before = holders_of(alloc, site, &[])?;
-    let turns = turns_in(alloc, site, &before, cells.as_slice())?;
+    let turns = all_turns(alloc, site, cells.as_slice())?;
     let survived = least_survived(turns.items());
     let verdict = verdict_of(at_least, turns.items());
     Ok(TurnsTaken {

@@ -8,7 +8,7 @@ use Rattle.loss_cases.proofs.trying.try_alone.Goals.{then-can_go+in_ok-push-2, e
 
 pub loop-cell-preserved : goal.loop-cell-preserved
 loop-cell-preserved c =
-    let site = c.args.site.now in
+    let site = c.args.question.now.base.site.now in
     let cell = c.cell-item.result in
     let case = c.in_ok-case.case in
     let is : case ≡ alone_case site cell = c.in_ok-case.ensures ∙ ap (case_of site) c.in_ok-loss.ensures in

@@ -4,6 +4,6 @@ use Rattle.loss_cases.proofs.trying.try_alone.Given as goal
 
 abbrev pub invariant-loop-cell : goal.invariant-loop-cell
 invariant-loop-cell l = record {
-  cases : l.cases.items ≡ l.fn.cases.items ++ map (alone_case l.site) (take l.cell-index l.cells);
-  able : l.able.items ≡ filter (goes_alone l.site) (take l.cell-index l.cells);
+  cases : l.cases.items ≡ l.fn.cases.items ++ map (alone_case l.question.base.site.now) (take l.cell-index l.cells);
+  able : l.able.items ≡ filter (goes_alone l.question.base.site.now) (take l.cell-index l.cells);
 }

@@ -9,7 +9,7 @@ use Rattle.loss_cases.proofs.trying.try_pairs.Goals as goal
 
 pub returns : goal.returns
 returns c =
-    let site = c.args.site.now in
+    let site = c.args.question.now.base.site.now in
     let cases = c.args.cases.now.items in
     let named : c.as_slice.result.now ≡ by_name (tagged_cells site) =
     c.as_slice.ensures.value ∙ c.by_name-cells.ensures ∙ ap by_name c.in_ok-told.ensures.value in

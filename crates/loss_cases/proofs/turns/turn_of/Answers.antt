@@ -8,7 +8,7 @@ use Rattle.loss_cases.proofs.turns.turn_of.Goals as goal
 
 pub loop-cell-preserved : goal.loop-cell-preserved
 loop-cell-preserved c =
-    let site = c.args.site.now in
+    let site = c.args.base.now.site.now in
     let cells = c.args.cells.now in
     let i = c.loop-cell.cell-index in
     let cell = c.cell-item.result in
@@ -24,7 +24,7 @@ loop-cell-preserved c =
 
 pub returns-then-left-gt0 : goal.returns-then-left-gt0
 returns-then-left-gt0 c =
-    let site = c.args.site.now in
+    let site = c.args.base.now.site.now in
     let cells = c.args.cells.now in
     let n = length cells in
     let cell = c.cell-item.result in
