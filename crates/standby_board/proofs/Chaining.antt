@@ -23,7 +23,8 @@ use Rattle.standby_board.proofs.Composing.{answered, same_gain, same_stored, sam
 
 module _ {D : Type 0} where
   -- nothing was done
-  pub grows_nothing : (moment : ℕ) (v w : View D) → w ≡ record v { spare = w.spare } → v.spare ≤ w.spare → Grows false [] moment v w
+  pub grows_nothing : (moment : ℕ) (v w : View D) → w ≡ record v { spare = w.spare } → v.spare ≤ w.spare
+      → Grows false [] moment v w
   grows_nothing moment v w same more = record {
     base = ap (λ (b : View D). b.base) same;
     since = ap (λ (b : View D). b.since) same;
@@ -36,7 +37,8 @@ module _ {D : Type 0} where
   }
 
   -- with more room before
-  pub grows_roomier : (done : Bool) (items : List Item) (moment n : ℕ) (v w : View D) → v.spare ≤ n → Grows done items moment (record v { spare = n }) w
+  pub grows_roomier : (done : Bool) (items : List Item) (moment n : ℕ) (v w : View D) → v.spare ≤ n
+      → Grows done items moment (record v { spare = n }) w
       → Grows done items moment v w
   grows_roomier done items moment n v w more grows =
       let room = grows.room in
@@ -62,7 +64,8 @@ module _ {E : Type 0} (moment : E → ℕ) where
     acknowledged = λ done. absurd (cc (done));
   }
 
-  pub copies_roomier : (done : Bool) (stored : List Item) (n : ℕ) (v w : View E) → Copies moment done stored (record v { spare = n }) w → Copies moment done stored v w
+  pub copies_roomier : (done : Bool) (stored : List Item) (n : ℕ) (v w : View E)
+      → Copies moment done stored (record v { spare = n }) w → Copies moment done stored v w
   copies_roomier done stored n v w copies = record {
     log = copies.log;
     idle = copies.idle;
@@ -73,15 +76,19 @@ module _ {E : Type 0} (moment : E → ℕ) where
   }
 
 -- the marks of a call: those of what was missing, and then those of the command
-level_copies : {E : Type 0} (moment fault_count : E → ℕ) (ok : Bool) (end : Result Reply CallFault) (by : ℕ) (c : Command) (after : Option (ℕ × Command))
-    (v w : View E) → (caught : CatchesUp moment fault_count ok (lacked_after end by c) after v w) → Copies moment (is_acknowledged (told_by ok end)) caught.tried v w
+level_copies : {E : Type 0} (moment fault_count : E → ℕ) (ok : Bool) (end : Result Reply CallFault) (by : ℕ)
+    (c : Command) (after : Option (ℕ × Command))
+    (v w : View E) → (caught : CatchesUp moment fault_count ok (lacked_after end by c) after v w)
+    → Copies moment (is_acknowledged (told_by ok end)) caught.tried v w
 level_copies {E = E} moment fault_count ok end by c after v w caught = record {
   log = caught.log;
   idle = λ none. subst (λ (x : View E). x ≡ record v { spare = x.spare }) (sym (caught.idle none)) refl;
   earlier = [];
   later = map (λ item. moment w.disk) caught.tried;
-  marks = caught.marks ∙ ap (λ (xs : List ℕ). xs ++ map (λ item. moment w.disk) caught.tried) (sym (append-nil v.marks));
-  acknowledged = λ done. ap (map (λ item. moment w.disk)) (acknowledges ok end by c after caught.tried caught.turns done);
+  marks = caught.marks ∙ ap (λ (xs : List ℕ). xs ++ map (λ item. moment w.disk) caught.tried)
+      (sym (append-nil v.marks));
+  acknowledged = λ done. ap (map (λ item. moment w.disk))
+      (acknowledges ok end by c after caught.tried caught.turns done);
 }
 
 both_empty : {X : Type 0} (xs ys : List X) → xs ++ ys ≡ [] → (xs ≡ []) × (ys ≡ [])
@@ -89,8 +96,10 @@ both_empty [] ys is = (refl, is)
 both_empty (x ∷ xs) ys is = absurd (cc (is))
 
 -- what was missing first, and then the command
-copies_further : {E : Type 0} (moment fault_count : E → ℕ) (ok done : Bool) (before after : Option (ℕ × Command)) (stored : List Item) (u v w : View E)
-    → (caught : CatchesUp moment fault_count ok before after u v) → Copies moment done stored v w → Copies moment done (caught.tried ++ stored) u w
+copies_further : {E : Type 0} (moment fault_count : E → ℕ) (ok done : Bool) (before after : Option (ℕ × Command))
+    (stored : List Item) (u v w : View E)
+    → (caught : CatchesUp moment fault_count ok before after u v) → Copies moment done stored v w
+    → Copies moment done (caught.tried ++ stored) u w
 copies_further {E = E} moment fault_count ok done before after stored u v w caught copies =
     let marks : List ℕ = map (λ item. moment v.disk) caught.tried in
     record {
@@ -106,14 +115,16 @@ copies_further {E = E} moment fault_count ok done before after stored u v w caug
     }
 
 -- a fault of a disk that hadn't failed before
-cause_same : (failed : Bool) (before between now : ℕ) → between ≡ before → HasCause failed between now → HasCause failed before now
+cause_same : (failed : Bool) (before between now : ℕ) → between ≡ before → HasCause failed between now
+    → HasCause failed before now
 cause_same failed before between now same = subst (λ (n : ℕ). HasCause failed n now) same
 
 pub cause_none : (n : ℕ) → HasCause false n n
 cause_none n = record { later = omega arith; stood = λ no. refl; rose = λ yes. absurd (cc (yes)) }
 
 -- nothing was missing
-pub caught_none : {E : Type 0} (moment fault_count : E → ℕ) (missing : Option (ℕ × Command)) (v : View E) → missing ≡ None
+pub caught_none : {E : Type 0} (moment fault_count : E → ℕ) (missing : Option (ℕ × Command)) (v : View E)
+    → missing ≡ None
     → CatchesUp moment fault_count true missing missing v v
 caught_none moment fault_count missing v none = record {
   tried = [];
@@ -126,13 +137,17 @@ caught_none moment fault_count missing v none = record {
 
 module _ {D E : Type 0} (moment fault_count : D → ℕ) (moment' fault_count' : E → ℕ) (number by : ℕ) (c : Command) where
   -- a call of the primary where nothing is missing, and of the standby for what it has stored
-  module _ (ok : Bool) (end : Result Reply CallFault) (old mid new : PairView D E) (missing : mid.missing ≡ lacked_after end by c) (standby : mid.standby ≡ old.standby)
-      (caught : CatchesUp moment' fault_count' ok mid.missing new.missing mid.standby new.standby) (primary : new.primary ≡ mid.primary)
+  module _ (ok : Bool) (end : Result Reply CallFault) (old mid new : PairView D E)
+      (missing : mid.missing ≡ lacked_after end by c) (standby : mid.standby ≡ old.standby)
+      (caught : CatchesUp moment' fault_count' ok mid.missing new.missing mid.standby new.standby)
+      (primary : new.primary ≡ mid.primary)
       (fence : new.fence ≡ mid.fence) where
     caught_here : CatchesUp moment' fault_count' ok (lacked_after end by c) new.missing old.standby new.standby
     caught_here =
-        subst (λ (v : View E). CatchesUp moment' fault_count' ok (lacked_after end by c) new.missing v new.standby) standby
-        (subst (λ (m : Option (ℕ × Command)). CatchesUp moment' fault_count' ok m new.missing mid.standby new.standby) missing caught)
+        subst (λ (v : View E). CatchesUp moment' fault_count' ok (lacked_after end by c) new.missing v new.standby)
+        standby
+        (subst (λ (m : Option (ℕ × Command)). CatchesUp moment' fault_count' ok m new.missing mid.standby new.standby)
+        missing caught)
 
     pub called_level : Ends (verdict_of (rows_of old.primary) c) (length old.primary.log) (rows_of old.primary).next end
         → Grows (is_done end) (added end by c) (moment mid.primary.disk) old.primary mid.primary
@@ -141,16 +156,21 @@ module _ {D E : Type 0} (moment fault_count : D → ℕ) (moment' fault_count' :
     called_level ends grows numbers level =
         let gain = same_gain ok end by c in
         record {
-          answers = answered ok (verdict_of (rows_of old.primary) c) (length old.primary.log) (rows_of old.primary).next end ends;
+          answers = answered ok (verdict_of (rows_of old.primary) c) (length old.primary.log)
+              (rows_of old.primary).next end ends;
           primary =
-              subst (λ (v : View D). Grows (is_stored (told_by ok end)) (gained (told_by ok end) by c) (moment v.disk) old.primary v) (sym primary)
-              (subst (λ (xs : List Item). Grows (is_stored (told_by ok end)) xs (moment mid.primary.disk) old.primary mid.primary) (sym gain)
-              (subst (λ (b : Bool). Grows b (added end by c) (moment mid.primary.disk) old.primary mid.primary) (sym (same_stored ok end)) grows));
+              subst (λ (v : View D). Grows (is_stored (told_by ok end)) (gained (told_by ok end) by c)
+              (moment v.disk) old.primary v) (sym primary)
+              (subst (λ (xs : List Item). Grows (is_stored (told_by ok end)) xs
+              (moment mid.primary.disk) old.primary mid.primary) (sym gain)
+              (subst (λ (b : Bool). Grows b (added end by c) (moment mid.primary.disk) old.primary mid.primary)
+              (sym (same_stored ok end)) grows));
           numbers = ap (λ (f : FenceView). f.numbers) fence ∙ numbers
               ∙ ap (λ (xs : List Item). old.fence.numbers ++ map (λ item. number) xs) (sym gain);
           stored = caught_here.tried;
           standby = level_copies moment' fault_count' ok end by c new.missing old.standby new.standby caught_here;
-          follows = subst (λ (m : Option (ℕ × Command)). Follows (told_by ok end) by c m new.missing caught_here.tried) (sym level)
+          follows = subst (λ (m : Option (ℕ × Command)). Follows (told_by ok end) by c m new.missing caught_here.tried)
+              (sym level)
               (follows_level ok end by c new.missing caught_here.tried caught_here.turns);
         }
 
@@ -158,8 +178,10 @@ module _ {D E : Type 0} (moment fault_count : D → ℕ) (moment' fault_count' :
         → HasCauses fault_count fault_count' (told_by ok end) old new
     causes_level cause = record {
       primary =
-          subst (λ (v : View D). HasCause (is_primary_fault (told_by ok end)) (fault_count old.primary.disk) (fault_count v.disk)) (sym primary)
-          (subst (λ (b : Bool). HasCause b (fault_count old.primary.disk) (fault_count mid.primary.disk)) (sym (same_primary ok end)) cause);
+          subst (λ (v : View D). HasCause (is_primary_fault (told_by ok end)) (fault_count old.primary.disk)
+          (fault_count v.disk)) (sym primary)
+          (subst (λ (b : Bool). HasCause b (fault_count old.primary.disk) (fault_count mid.primary.disk))
+          (sym (same_primary ok end)) cause);
       standby =
           subst (λ (b : Bool). HasCause b (fault_count' old.standby.disk) (fault_count' new.standby.disk))
           (sym (same_standby ok end by c new.missing caught_here.tried caught_here.turns)) caught_here.cause;
@@ -167,47 +189,69 @@ module _ {D E : Type 0} (moment fault_count : D → ℕ) (moment' fault_count' :
 
   module _ (end : End) (old mid new : PairView D E) where
     -- where there was only more room before
-    pub call_roomier : KeepsAll old mid → IsPairCall moment moment' number by c mid new end → IsPairCall moment moment' number by c old new end
+    pub call_roomier : KeepsAll old mid → IsPairCall moment moment' number by c mid new end
+        → IsPairCall moment moment' number by c old new end
     call_roomier keeps is =
-        let grows : Grows (is_stored end) (gained end by c) (moment new.primary.disk) (record old.primary { spare = mid.primary.spare }) new.primary =
-        subst (λ (v : View D). Grows (is_stored end) (gained end by c) (moment new.primary.disk) v new.primary) keeps.primary is.primary in
-        let copies : Copies moment' (is_acknowledged end) is.stored (record old.standby { spare = mid.standby.spare }) new.standby =
+        let grows : Grows (is_stored end) (gained end by c) (moment new.primary.disk)
+        (record old.primary { spare = mid.primary.spare }) new.primary =
+        subst (λ (v : View D). Grows (is_stored end) (gained end by c) (moment new.primary.disk) v new.primary)
+        keeps.primary is.primary in
+        let copies : Copies moment' (is_acknowledged end) is.stored
+        (record old.standby { spare = mid.standby.spare }) new.standby =
         subst (λ (v : View E). Copies moment' (is_acknowledged end) is.stored v new.standby) keeps.standby is.standby in
         record {
-          answers = subst (λ (v : View D). Answers (verdict_of (rows_of v) c) (length v.log) (rows_of v).next end) keeps.primary is.answers;
-          primary = grows_roomier (is_stored end) (gained end by c) (moment new.primary.disk) mid.primary.spare old.primary new.primary keeps.more_primary grows;
-          numbers = is.numbers ∙ ap (λ (f : FenceView). f.numbers ++ map (λ item. number) (gained end by c)) keeps.fence;
+          answers = subst (λ (v : View D). Answers (verdict_of (rows_of v) c) (length v.log) (rows_of v).next end)
+              keeps.primary is.answers;
+          primary = grows_roomier (is_stored end) (gained end by c)
+              (moment new.primary.disk) mid.primary.spare old.primary new.primary keeps.more_primary grows;
+          numbers = is.numbers ∙ ap (λ (f : FenceView). f.numbers ++ map (λ item. number) (gained end by c))
+              keeps.fence;
           stored = is.stored;
-          standby = copies_roomier moment' (is_acknowledged end) is.stored mid.standby.spare old.standby new.standby copies;
-          follows = subst (λ (m : Option (ℕ × Command)). Follows end by c m new.missing is.stored) keeps.missing is.follows;
+          standby = copies_roomier moment' (is_acknowledged end) is.stored mid.standby.spare old.standby new.standby
+              copies;
+          follows = subst (λ (m : Option (ℕ × Command)). Follows end by c m new.missing is.stored) keeps.missing
+              is.follows;
         }
 
-    pub causes_roomier : KeepsAll old mid → HasCauses fault_count fault_count' end mid new → HasCauses fault_count fault_count' end old new
+    pub causes_roomier : KeepsAll old mid → HasCauses fault_count fault_count' end mid new
+        → HasCauses fault_count fault_count' end old new
     causes_roomier keeps is = record {
-      primary = subst (λ (v : View D). HasCause (is_primary_fault end) (fault_count v.disk) (fault_count new.primary.disk)) keeps.primary is.primary;
-      standby = subst (λ (v : View E). HasCause (is_standby_fault end) (fault_count' v.disk) (fault_count' new.standby.disk)) keeps.standby is.standby;
+      primary = subst (λ (v : View D). HasCause (is_primary_fault end) (fault_count v.disk)
+          (fault_count new.primary.disk)) keeps.primary is.primary;
+      standby = subst (λ (v : View E). HasCause (is_standby_fault end) (fault_count' v.disk)
+          (fault_count' new.standby.disk)) keeps.standby is.standby;
     }
 
     -- where the standby stored what it lacked before
-    module _ (caught : CatchesUp moment' fault_count' true old.missing mid.missing old.standby mid.standby) (primary : mid.primary ≡ old.primary)
+    module _ (caught : CatchesUp moment' fault_count' true old.missing mid.missing old.standby mid.standby)
+        (primary : mid.primary ≡ old.primary)
         (fence : mid.fence ≡ old.fence) where
-      pub call_caught : IsPairCall moment moment' number by c mid new end → IsPairCall moment moment' number by c old new end
+      pub call_caught : IsPairCall moment moment' number by c mid new end
+          → IsPairCall moment moment' number by c old new end
       call_caught is =
           let turned = turned_out old.missing mid.missing caught.tried caught.turns in
           record {
-            answers = subst (λ (v : View D). Answers (verdict_of (rows_of v) c) (length v.log) (rows_of v).next end) primary is.answers;
-            primary = subst (λ (v : View D). Grows (is_stored end) (gained end by c) (moment new.primary.disk) v new.primary) primary is.primary;
+            answers = subst (λ (v : View D). Answers (verdict_of (rows_of v) c) (length v.log) (rows_of v).next end)
+                primary is.answers;
+            primary = subst (λ (v : View D). Grows (is_stored end) (gained end by c)
+                (moment new.primary.disk) v new.primary) primary is.primary;
             numbers = is.numbers ∙ ap (λ (f : FenceView). f.numbers ++ map (λ item. number) (gained end by c)) fence;
             stored = caught.tried ++ is.stored;
-            standby = copies_further moment' fault_count' true (is_acknowledged end) old.missing mid.missing is.stored old.standby mid.standby new.standby caught is.standby;
-            follows = follows_caught (verdict_of (rows_of mid.primary) c) (length mid.primary.log) (rows_of mid.primary).next end by c old.missing mid.missing
+            standby = copies_further moment' fault_count' true
+                (is_acknowledged end) old.missing mid.missing is.stored old.standby mid.standby new.standby caught
+                is.standby;
+            follows = follows_caught (verdict_of (rows_of mid.primary) c) (length mid.primary.log)
+                (rows_of mid.primary).next end by c old.missing mid.missing
                 new.missing caught.tried is.stored is.answers turned.0 turned.1 is.follows;
           }
 
-      pub causes_caught : HasCauses fault_count fault_count' end mid new → HasCauses fault_count fault_count' end old new
+      pub causes_caught : HasCauses fault_count fault_count' end mid new
+          → HasCauses fault_count fault_count' end old new
       causes_caught is = record {
-        primary = subst (λ (v : View D). HasCause (is_primary_fault end) (fault_count v.disk) (fault_count new.primary.disk)) primary is.primary;
-        standby = cause_same (is_standby_fault end) (fault_count' old.standby.disk) (fault_count' mid.standby.disk) (fault_count' new.standby.disk)
+        primary = subst (λ (v : View D). HasCause (is_primary_fault end) (fault_count v.disk)
+            (fault_count new.primary.disk)) primary is.primary;
+        standby = cause_same (is_standby_fault end) (fault_count' old.standby.disk) (fault_count' mid.standby.disk)
+            (fault_count' new.standby.disk)
             (caught.cause.stood refl) is.standby;
       }
 
@@ -225,13 +269,16 @@ module _ {D E : Type 0} (moment fault_count : D → ℕ) (moment' fault_count' :
 
     pub causes_starved : KeepsAll old new → HasCauses fault_count fault_count' (Err fault.OutOfMemory) old new
     causes_starved keeps = record {
-      primary = subst (λ (v : View D). HasCause false (fault_count old.primary.disk) (fault_count v.disk)) (sym keeps.primary) (cause_none (fault_count old.primary.disk));
-      standby = subst (λ (v : View E). HasCause false (fault_count' old.standby.disk) (fault_count' v.disk)) (sym keeps.standby)
+      primary = subst (λ (v : View D). HasCause false (fault_count old.primary.disk) (fault_count v.disk))
+          (sym keeps.primary) (cause_none (fault_count old.primary.disk));
+      standby = subst (λ (v : View E). HasCause false (fault_count' old.standby.disk) (fault_count' v.disk))
+          (sym keeps.standby)
           (cause_none (fault_count' old.standby.disk));
     }
 
     -- the standby's disk failed while it stored what it lacked
-    module _ (caught : CatchesUp moment' fault_count' false old.missing new.missing old.standby new.standby) (primary : new.primary ≡ old.primary) where
+    module _ (caught : CatchesUp moment' fault_count' false old.missing new.missing old.standby new.standby)
+        (primary : new.primary ≡ old.primary) where
       pub call_behind : (place : ℕ) → place ≡ length old.primary.log → new.fence ≡ old.fence
           → IsPairCall moment moment' number by c old new (Err (fault.StandbyDisk place))
       call_behind place at fence = record {
@@ -242,10 +289,12 @@ module _ {D E : Type 0} (moment fault_count : D → ℕ) (moment' fault_count' :
         stored = caught.tried;
         standby = record {
           log = caught.log;
-          idle = λ none. subst (λ (x : View E). x ≡ record old.standby { spare = x.spare }) (sym (caught.idle none)) refl;
+          idle = λ none. subst (λ (x : View E). x ≡ record old.standby { spare = x.spare })
+              (sym (caught.idle none)) refl;
           earlier = [];
           later = map (λ item. moment' new.standby.disk) caught.tried;
-          marks = caught.marks ∙ ap (λ (xs : List ℕ). xs ++ map (λ item. moment' new.standby.disk) caught.tried) (sym (append-nil old.standby.marks));
+          marks = caught.marks ∙ ap (λ (xs : List ℕ). xs ++ map (λ item. moment' new.standby.disk) caught.tried)
+              (sym (append-nil old.standby.marks));
           acknowledged = λ done. absurd (cc (done));
         };
         follows = fails_again old.missing new.missing caught.tried caught.turns;
@@ -253,46 +302,57 @@ module _ {D E : Type 0} (moment fault_count : D → ℕ) (moment' fault_count' :
 
       pub causes_behind : (place : ℕ) → HasCauses fault_count fault_count' (Err (fault.StandbyDisk place)) old new
       causes_behind place = record {
-        primary = subst (λ (v : View D). HasCause false (fault_count old.primary.disk) (fault_count v.disk)) (sym primary) (cause_none (fault_count old.primary.disk));
+        primary = subst (λ (v : View D). HasCause false (fault_count old.primary.disk) (fault_count v.disk))
+            (sym primary) (cause_none (fault_count old.primary.disk));
         standby = caught.cause;
       }
 
 -- a number was shown first
-module _ {D E : Type 0} (old mid : PairView D E) (number : ℕ) (shown : mid ≡ record old { fence = after_showing number old.fence }) where
+module _ {D E : Type 0} (old mid : PairView D E) (number : ℕ)
+    (shown : mid ≡ record old { fence = after_showing number old.fence }) where
   pub same_stale : number < old.fence.greatest → mid ≡ old
   same_stale lower =
       let top : max old.fence.greatest number ≡ old.fence.greatest = omega (arith, lower) in
       shown ∙ ap (λ (n : ℕ). record old { fence = record old.fence { greatest = n } }) top
 
-  pub shows_stale : number < old.fence.greatest → (end : End) → end ≡ Ok (pair.StaleFence mid.fence.greatest) → ShowsFence number end old.fence.greatest mid.fence.greatest
+  pub shows_stale : number < old.fence.greatest → (end : End) → end ≡ Ok (pair.StaleFence mid.fence.greatest)
+      → ShowsFence number end old.fence.greatest mid.fence.greatest
   shows_stale lower end is =
-      let same : mid.fence.greatest ≡ old.fence.greatest = ap (λ (v : PairView D E). v.fence.greatest) (same_stale lower) in
+      let same : mid.fence.greatest ≡ old.fence.greatest =
+      ap (λ (v : PairView D E). v.fence.greatest) (same_stale lower) in
       record {
         greatest = ap (λ (v : PairView D E). v.fence.greatest) shown;
         stale = (λ no. lower, λ no. is ∙ ap (λ (n : ℕ). Ok (pair.StaleFence n)) same);
       }
 
-  module _ (taken : old.fence.greatest ≤ number) (new : PairView D E) (end : End) (moment fault_count : D → ℕ) (moment' fault_count' : E → ℕ) (by : ℕ) (c : Command) where
+  module _ (taken : old.fence.greatest ≤ number) (new : PairView D E) (end : End) (moment fault_count : D → ℕ)
+      (moment' fault_count' : E → ℕ) (by : ℕ) (c : Command) where
     top_is : mid.fence.greatest ≡ number
     top_is =
         let top : max old.fence.greatest number ≡ number = omega (arith, taken) in
         ap (λ (v : PairView D E). v.fence.greatest) shown ∙ top
 
-    pub shows_taken : IsPairCall moment moment' mid.fence.greatest by c mid new end → new.fence.greatest ≡ mid.fence.greatest
+    pub shows_taken : IsPairCall moment moment' mid.fence.greatest by c mid new end
+        → new.fence.greatest ≡ mid.fence.greatest
         → ShowsFence number end old.fence.greatest new.fence.greatest
     shows_taken is same = record {
       greatest = same ∙ ap (λ (v : PairView D E). v.fence.greatest) shown;
       stale = (
-        λ stale. absurd (not_stale (verdict_of (rows_of mid.primary) c) (length mid.primary.log) (rows_of mid.primary).next old.fence.greatest
-            (subst (λ (e : End). Answers (verdict_of (rows_of mid.primary) c) (length mid.primary.log) (rows_of mid.primary).next e) stale is.answers)),
+        λ stale. absurd (not_stale (verdict_of (rows_of mid.primary) c) (length mid.primary.log)
+            (rows_of mid.primary).next old.fence.greatest
+            (subst (λ (e : End). Answers (verdict_of (rows_of mid.primary) c) (length mid.primary.log)
+            (rows_of mid.primary).next e) stale is.answers)),
         λ lower. absurd (omega (arith, lower, taken)),
       );
     }
 
-    pub call_shown : IsPairCall moment moment' mid.fence.greatest by c mid new end → IsPairCall moment moment' number by c old new end
+    pub call_shown : IsPairCall moment moment' mid.fence.greatest by c mid new end
+        → IsPairCall moment moment' number by c old new end
     call_shown is =
-        let numbered : IsPairCall moment moment' number by c mid new end = subst (λ (n : ℕ). IsPairCall moment moment' n by c mid new end) top_is is in
-        let there : IsPairCall moment moment' number by c (record old { fence = after_showing number old.fence }) new end =
+        let numbered : IsPairCall moment moment' number by c mid new end =
+        subst (λ (n : ℕ). IsPairCall moment moment' n by c mid new end) top_is is in
+        let there : IsPairCall moment moment' number by c (record old { fence = after_showing number old.fence }) new
+        end =
         subst (λ (v : PairView D E). IsPairCall moment moment' number by c v new end) shown numbered in
         record {
           answers = there.answers;
@@ -310,9 +370,12 @@ module _ {D E : Type 0} (old mid : PairView D E) (number : ℕ) (shown : mid ≡
         record { primary = there.primary; standby = there.standby }
 
 -- no disk was called
-pub causes_idle : {D E : Type 0} (fault_count : D → ℕ) (fault_count' : E → ℕ) (greatest : ℕ) (v w : PairView D E) → w ≡ v
+pub causes_idle : {D E : Type 0} (fault_count : D → ℕ) (fault_count' : E → ℕ) (greatest : ℕ) (v w : PairView D E)
+    → w ≡ v
     → HasCauses fault_count fault_count' (Ok (pair.StaleFence greatest)) v w
 causes_idle {D = D} {E = E} fault_count fault_count' greatest v w same = record {
-  primary = subst (λ (x : PairView D E). HasCause false (fault_count v.primary.disk) (fault_count x.primary.disk)) (sym same) (cause_none (fault_count v.primary.disk));
-  standby = subst (λ (x : PairView D E). HasCause false (fault_count' v.standby.disk) (fault_count' x.standby.disk)) (sym same) (cause_none (fault_count' v.standby.disk));
+  primary = subst (λ (x : PairView D E). HasCause false (fault_count v.primary.disk) (fault_count x.primary.disk))
+      (sym same) (cause_none (fault_count v.primary.disk));
+  standby = subst (λ (x : PairView D E). HasCause false (fault_count' v.standby.disk) (fault_count' x.standby.disk))
+      (sym same) (cause_none (fault_count' v.standby.disk));
 }

@@ -28,7 +28,8 @@ on_ok (Ok x) P is holds = holds
 on_ok (Err e) P is holds = absurd (cc (is))
 
 -- what the answer of the primary's step comes to
-pub answered : (ok : Bool) (v : Verdict) (place stamp : ℕ) (end : Result Reply CallFault) → Ends v place stamp end → Answers v place stamp (told_by ok end)
+pub answered : (ok : Bool) (v : Verdict) (place stamp : ℕ) (end : Result Reply CallFault) → Ends v place stamp end
+    → Answers v place stamp (told_by ok end)
 answered true verdict.Ok place stamp end ends = elim ends as (λ _. Answers verdict.Ok place stamp (told_by true end)) [
   | inl is ↦ inl (inl (ap (told_by true) is))
   | inr ends ↦ elim ends as (λ _. Answers verdict.Ok place stamp (told_by true end)) [
@@ -36,20 +37,22 @@ answered true verdict.Ok place stamp end ends = elim ends as (λ _. Answers verd
     | inr is ↦ inr (inr (ap (told_by true) is))
   ]
 ]
-answered false verdict.Ok place stamp end ends = elim ends as (λ _. Answers verdict.Ok place stamp (told_by false end)) [
-  | inl is ↦ inl (inr (inr (ap (told_by false) is)))
-  | inr ends ↦ elim ends as (λ _. Answers verdict.Ok place stamp (told_by false end)) [
-    | inl is ↦ inl (inr (inl (ap (told_by false) is)))
-    | inr is ↦ inr (inr (ap (told_by false) is))
-  ]
-]
+answered false verdict.Ok place stamp end ends = elim ends as
+    (λ _. Answers verdict.Ok place stamp (told_by false end)) [
+      | inl is ↦ inl (inr (inr (ap (told_by false) is)))
+      | inr ends ↦ elim ends as (λ _. Answers verdict.Ok place stamp (told_by false end)) [
+        | inl is ↦ inl (inr (inl (ap (told_by false) is)))
+        | inr is ↦ inr (inr (ap (told_by false) is))
+      ]
+    ]
 answered true verdict.Same place stamp end ends = inl (ap (told_by true) ends)
 answered false verdict.Same place stamp end ends = inl (ap (told_by false) ends)
 answered true (verdict.Refused why) place stamp end ends = inl (ap (told_by true) ends)
 answered false (verdict.Refused why) place stamp end ends = inl (ap (told_by false) ends)
 
 -- what is stored for it is what the primary's log gained
-pub same_gain : (ok : Bool) (end : Result Reply CallFault) (by : ℕ) (c : Command) → gained (told_by ok end) by c ≡ added end by c
+pub same_gain : (ok : Bool) (end : Result Reply CallFault) (by : ℕ) (c : Command)
+    → gained (told_by ok end) by c ≡ added end by c
 same_gain true (Ok (reply.Ok place stamp)) by c = refl
 same_gain false (Ok (reply.Ok place stamp)) by c = refl
 same_gain true (Ok (reply.Same place)) by c = refl
@@ -86,7 +89,8 @@ same_primary true (Err board_fault.OutOfMemory) = refl
 same_primary false (Err board_fault.OutOfMemory) = refl
 
 -- the standby's disk failed exactly where it hasn't stored what it lacked
-pub same_standby : (ok : Bool) (end : Result Reply CallFault) (by : ℕ) (c : Command) (after : Option (ℕ × Command)) (tried : List Item)
+pub same_standby : (ok : Bool) (end : Result Reply CallFault) (by : ℕ) (c : Command) (after : Option (ℕ × Command))
+    (tried : List Item)
     → TurnsOut ok (lacked_after end by c) after tried → is_standby_fault (told_by ok end) ≡ not ok
 same_standby true (Ok (reply.Ok place stamp)) by c after tried turns = refl
 same_standby false (Ok (reply.Ok place stamp)) by c after tried turns = refl
@@ -100,7 +104,8 @@ same_standby true (Err board_fault.OutOfMemory) by c after tried turns = refl
 same_standby false (Err board_fault.OutOfMemory) by c after tried turns = absurd (cc (turns.0))
 
 -- the standby follows a call before which nothing was missing
-pub follows_level : (ok : Bool) (end : Result Reply CallFault) (by : ℕ) (c : Command) (after : Option (ℕ × Command)) (tried : List Item)
+pub follows_level : (ok : Bool) (end : Result Reply CallFault) (by : ℕ) (c : Command) (after : Option (ℕ × Command))
+    (tried : List Item)
     → TurnsOut ok (lacked_after end by c) after tried → Follows (told_by ok end) by c None after tried
 follows_level true (Ok (reply.Ok place stamp)) by c after tried turns = (turns.0, turns.1)
 follows_level false (Ok (reply.Ok place stamp)) by c after tried turns = (turns.0, turns.1)
@@ -114,14 +119,22 @@ follows_level true (Err board_fault.OutOfMemory) by c after tried turns = inl (t
 follows_level false (Err board_fault.OutOfMemory) by c after tried turns = inl (turns.1, turns.2)
 
 -- where the standby has stored what it lacked, nothing is missing
-pub turned_out : (before after : Option (ℕ × Command)) (tried : List Item) → TurnsOut true before after tried → (after ≡ None) × (tried ≡ owed before)
+pub turned_out : (before after : Option (ℕ × Command)) (tried : List Item) → TurnsOut true before after tried
+    → (after ≡ None) × (tried ≡ owed before)
 turned_out None after tried turns = (turns.1, turns.2)
 turned_out (Some m) after tried turns = (turns.0, turns.1)
 
 -- where it hasn't, that is missing still
-pub fails_again : (before after : Option (ℕ × Command)) (tried : List Item) → TurnsOut false before after tried → FailsAgain before after tried
+pub fails_again : (before after : Option (ℕ × Command)) (tried : List Item) → TurnsOut false before after tried
+    → FailsAgain before after tried
 fails_again None after tried turns = absurd (cc (turns.0))
-fails_again (Some m) after tried turns = record { lacked = m; before_is = refl; after_is = turns.0; stored_is = turns.1 }
+fails_again (Some m) after tried turns = record {
+  lacked = m;
+  before_is = refl;
+  after_is = turns.0;
+  stored_is =
+      turns.1;
+}
 
 -- a call with a number that isn't stale doesn't say that it is
 pub not_stale : (v : Verdict) (place stamp greatest : ℕ) → Answers v place stamp (Ok (pair.StaleFence greatest)) → ⊥
@@ -139,22 +152,26 @@ not_stale (verdict.Refused why) place stamp greatest answers = elim answers as (
 ]
 
 -- the standby follows a call before which it has stored what it lacked
-pub follows_caught : (v : Verdict) (place stamp : ℕ) (end : End) (by : ℕ) (c : Command) (before after final : Option (ℕ × Command))
-    (tried stored : List Item) → Answers v place stamp end → after ≡ None → tried ≡ owed before → Follows end by c after final stored
+pub follows_caught : (v : Verdict) (place stamp : ℕ) (end : End) (by : ℕ) (c : Command)
+    (before after final : Option (ℕ × Command))
+    (tried stored : List Item) → Answers v place stamp end → after ≡ None → tried ≡ owed before
+    → Follows end by c after final stored
     → Follows end by c before final (tried ++ stored)
 follows_caught v place stamp (Ok (pair.Reply r)) by c before after final tried stored answers level caught follows = (
   follows.0,
   ap (λ (xs : List Item). xs ++ stored) caught ∙ ap (λ (xs : List Item). owed before ++ xs)
       (follows.1 ∙ ap (λ (m : Option (ℕ × Command)). owed m ++ added (Ok r) by c) level),
 )
-follows_caught v place stamp (Ok (pair.StaleFence greatest)) by c before after final tried stored answers level caught follows =
+follows_caught v place stamp (Ok (pair.StaleFence greatest)) by c before after final tried stored answers level caught
+    follows =
     absurd (not_stale v place stamp greatest answers)
 follows_caught v place stamp (Err (fault.Disk at)) by c before after final tried stored answers level caught follows =
     (follows.0, ap (λ (xs : List Item). tried ++ xs) (follows.1 ∙ ap owed level) ∙ append-nil tried ∙ caught)
-follows_caught v place stamp (Err (fault.StandbyDisk at)) by c before after final tried stored answers level caught follows =
+follows_caught v place stamp (Err (fault.StandbyDisk at)) by c before after final tried stored answers level caught
+    follows =
     let lacks = follows.before_is in
     absurd (cc (lacks, level))
-follows_caught v place stamp (Err (fault.Behind at)) by c before after final tried stored answers level caught follows = (
+follows_caught v place stamp (Err (fault.Behind at)) by c before after final tried stored _ level caught follows = (
   follows.0,
   ap (λ (xs : List Item). xs ++ stored) caught ∙ ap (λ (xs : List Item). owed before ++ xs)
       (follows.1 ∙ ap (λ (m : Option (ℕ × Command)). owed m ++ Doubt by c ∷ []) level),
@@ -166,7 +183,8 @@ follows_caught v place stamp (Err fault.OutOfMemory) by c before after final tri
     ]
 
 -- the last mark of a call that is acknowledged is that of its command, and no other call is
-pub acknowledges : (ok : Bool) (end : Result Reply CallFault) (by : ℕ) (c : Command) (after : Option (ℕ × Command)) (tried : List Item)
+pub acknowledges : (ok : Bool) (end : Result Reply CallFault) (by : ℕ) (c : Command) (after : Option (ℕ × Command))
+    (tried : List Item)
     → TurnsOut ok (lacked_after end by c) after tried → is_acknowledged (told_by ok end) ≡ true → tried ≡ Done by c ∷ []
 acknowledges true (Ok (reply.Ok place stamp)) by c after tried turns is = turns.1
 acknowledges false (Ok (reply.Ok place stamp)) by c after tried turns is = absurd (cc (is))

@@ -35,27 +35,34 @@ tries-longer (Doubt by c ∷ xs) behind tries =
     (first-longer (dones xs) behind (Done by c) tries.0, tries-longer xs behind tries.1)
 
 -- one list behind the other
-pub tries-append : (xs ys behind : List Item) → TriesNext xs (dones ys ++ behind) → TriesNext ys behind → TriesNext (xs ++ ys) behind
+pub tries-append : (xs ys behind : List Item) → TriesNext xs (dones ys ++ behind) → TriesNext ys behind
+    → TriesNext (xs ++ ys) behind
 tries-append [] ys behind first second = second
 tries-append (Done by c ∷ xs) ys behind first second = tries-append xs ys behind first second
 tries-append (Doubt by c ∷ xs) ys behind first second =
     let same : dones xs ++ (dones ys ++ behind) ≡ dones (xs ++ ys) ++ behind =
-    sym (append_assoc (dones xs) (dones ys) behind) ∙ ap (λ (is : List Item). is ++ behind) (sym (dones-append xs ys)) in
-    (subst (λ (is : List Item). slice_get is 0 ≡ Some (Done by c)) same first.0, tries-append xs ys behind first.1 second)
+    sym (append_assoc (dones xs) (dones ys) behind) ∙ ap (λ (is : List Item). is ++ behind)
+    (sym (dones-append xs ys)) in (
+      subst (λ (is : List Item). slice_get is 0 ≡ Some (Done by c)) same first.0,
+      tries-append xs ys behind first.1 second,
+    )
 
 -- what was done up to a place is a beginning of what was done
 pub dones-parts : (xs : List Item) (place : ℕ) → dones xs ≡ dones (take place xs) ++ dones (drop place xs)
 dones-parts xs place = ap dones (sym (take-append-drop place xs)) ∙ dones-append (take place xs) (drop place xs)
 
 -- and up to a later place there is no less
-pub dones-further : (xs : List Item) (place more : ℕ) → length (dones (take place xs)) ≤ length (dones (take (place + more) xs))
+pub dones-further : (xs : List Item) (place more : ℕ) → length (dones (take place xs))
+    ≤ length (dones (take (place + more) xs))
 dones-further [] place more = simp take-nil (omega arith)
 dones-further (x ∷ xs) zero more = omega arith
-dones-further (Done by c ∷ xs) (suc place) more = rw suc-add (let rest = dones-further xs place more in omega (arith, rest))
+dones-further (Done by c ∷ xs) (suc place) more = rw suc-add
+    (let rest = dones-further xs place more in omega (arith, rest))
 dones-further (Doubt by c ∷ xs) (suc place) more = rw suc-add (dones-further xs place more)
 
 -- what a doubt was of was done next
-pub tries-at : (xs behind : List Item) (place by : ℕ) (c : Command) → TriesNext xs behind → slice_get xs place ≡ Some (Doubt by c)
+pub tries-at : (xs behind : List Item) (place by : ℕ) (c : Command) → TriesNext xs behind
+    → slice_get xs place ≡ Some (Doubt by c)
     → slice_get (dones (drop place xs) ++ behind) 0 ≡ Some (Done by c)
 tries-at [] behind place by c tries is = absurd (cc)
 tries-at (Done by' c' ∷ xs) behind zero by c tries is = absurd (cc)
@@ -88,15 +95,30 @@ last-behind (Done by c) xs last = record {
   is = last.is;
   all = ap (λ (is : List Item). Done by c ∷ is) last.all;
 }
-last-behind (Doubt by c) xs last = record { place = suc last.place; by = last.by; command = last.command; is = last.is; all = last.all }
+last-behind (Doubt by c) xs last = record {
+  place = suc last.place;
+  by = last.by;
+  command = last.command;
+  is =
+      last.is;
+  all = last.all;
+}
 
 pub last-done : (xs : List Item) → (dones xs ≡ []) ⊎ LastDone xs
 last-done [] = inl refl
 last-done (Done by c ∷ xs) = elim (last-done xs) as (λ _. (dones (Done by c ∷ xs) ≡ []) ⊎ LastDone (Done by c ∷ xs)) [
-  | inl none ↦ inr (record { place = 0; by = by; command = c; is = refl; all = ap (λ (is : List Item). Done by c ∷ is) (sym none) })
+  | inl none ↦ inr (record {
+    place = 0;
+    by = by;
+    command = c;
+    is = refl;
+    all =
+        ap (λ (is : List Item). Done by c ∷ is) (sym none);
+  })
   | inr last ↦ inr (last-behind (Done by c) xs last)
 ]
-last-done (Doubt by c ∷ xs) = elim (last-done xs) as (λ _. (dones (Doubt by c ∷ xs) ≡ []) ⊎ LastDone (Doubt by c ∷ xs)) [
-  | inl none ↦ inl none
-  | inr last ↦ inr (last-behind (Doubt by c) xs last)
-]
+last-done (Doubt by c ∷ xs) = elim (last-done xs) as
+    (λ _. (dones (Doubt by c ∷ xs) ≡ []) ⊎ LastDone (Doubt by c ∷ xs)) [
+      | inl none ↦ inl none
+      | inr last ↦ inr (last-behind (Doubt by c) xs last)
+    ]

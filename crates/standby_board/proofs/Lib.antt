@@ -7,3 +7,4 @@ mod Reaching
 mod Composing
 mod Chaining
 pub mod Alike
+mod SameParts

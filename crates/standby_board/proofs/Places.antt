@@ -18,7 +18,8 @@ pub record Marked (low : ℕ) (marks : List ℕ) (high place : ℕ) : Type 0 whe
   pub above : low ≤ mark
   pub below : mark ≤ high
 
-pub marked_at : (low : ℕ) (marks : List ℕ) (high place : ℕ) → RiseBetween low marks high → place < length marks → Marked low marks high place
+pub marked_at : (low : ℕ) (marks : List ℕ) (high place : ℕ) → RiseBetween low marks high → place < length marks
+    → Marked low marks high place
 marked_at low [] high place rising within = absurd (omega (arith, within))
 marked_at low (mark ∷ marks) high zero rising within =
     record { mark = mark; at = refl; above = rising.0; below = low_high mark marks high rising.1 }
@@ -29,12 +30,14 @@ marked_at low (mark ∷ marks) high (suc place) rising within =
     record { mark = rest.mark; at = rest.at; above = omega (arith, first, more); below = rest.below }
 
 -- what stands in the first of two lists, and in the second
-pub get_left : {X : Type 0} (xs ys : List X) (place : ℕ) (x : X) → slice_get xs place ≡ Some x → slice_get (xs ++ ys) place ≡ Some x
+pub get_left : {X : Type 0} (xs ys : List X) (place : ℕ) (x : X) → slice_get xs place ≡ Some x
+    → slice_get (xs ++ ys) place ≡ Some x
 get_left [] ys place x is = absurd (cc)
 get_left (y ∷ xs) ys zero x is = is
 get_left (y ∷ xs) ys (suc place) x is = get_left xs ys place x is
 
-pub get_right : {X : Type 0} (xs ys : List X) (place : ℕ) → slice_get (xs ++ ys) (length xs + place) ≡ slice_get ys place
+pub get_right : {X : Type 0} (xs ys : List X) (place : ℕ)
+    → slice_get (xs ++ ys) (length xs + place) ≡ slice_get ys place
 get_right [] ys place = rw zero-add refl
 get_right (x ∷ xs) ys place = rw suc-add (get_right xs ys place)
 

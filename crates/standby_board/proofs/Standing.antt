@@ -29,7 +29,15 @@ module _ {D : Type 0} (told : D → Option Past) (start : View D) where
       let g = gone.goes in
       record {
         fresh = gone.fresh;
-        goes = record { base = g.base; since = g.since; faults = g.faults; grows = g.grows; disk = g.disk; writes = g.writes };
+        goes = record {
+          base = g.base;
+          since = g.since;
+          faults = g.faults;
+          grows = g.grows;
+          disk = g.disk;
+          writes =
+              g.writes;
+        };
       }
 
   -- at its start it has not gone on yet
@@ -38,7 +46,8 @@ module _ {D : Type 0} (told : D → Option Past) (start : View D) where
 
   -- a call goes on from there
   pub gone_further : (v w : View D) (c : Command) (end : Result Reply CallFault) (by moment : ℕ)
-      → Ends (verdict_of (rows_of v) c) (length v.log) (rows_of v).next end → Grows (is_done end) (added end by c) moment v w
+      → Ends (verdict_of (rows_of v) c) (length v.log) (rows_of v).next end
+      → Grows (is_done end) (added end by c) moment v w
       → Goes (told v.disk) (told w.disk) (Passes v.waits (verdict_of (rows_of v) c) (is_done end) (rows_of v) c)
       → WentOn told start v → WentOn told start w
   gone_further v w c end by moment ends grows does gone =
@@ -49,18 +58,26 @@ module _ {D : Type 0} (told : D → Option Past) (start : View D) where
       }
 
 -- what a log gained since its start, and then these items
-pub gained_more : {D : Type 0} (start v w : View D) (fresh items : List Item) → v.log ≡ start.log ++ fresh → w.log ≡ v.log ++ items
+pub gained_more : {D : Type 0} (start v w : View D) (fresh items : List Item) → v.log ≡ start.log ++ fresh
+    → w.log ≡ v.log ++ items
     → gained_since start w ≡ gained_since start v ++ items
 gained_more start v w fresh items grown more =
     let before : gained_since start v ≡ fresh = ap (drop (length start.log)) grown ∙ drop-append_seam start.log fresh in
     let all : w.log ≡ start.log ++ (fresh ++ items) =
     more ∙ ap (λ (is : List Item). is ++ items) grown ∙ append_assoc start.log fresh items in
-    ap (drop (length start.log)) all ∙ drop-append_seam start.log (fresh ++ items) ∙ ap (λ (is : List Item). is ++ items) (sym before)
+    ap (drop (length start.log)) all ∙ drop-append_seam start.log (fresh ++ items) ∙ ap
+    (λ (is : List Item). is ++ items) (sym before)
 
 -- more room is no part of how a pair stands
-module _ {D E : Type 0} (told : D → Option Past) (told' : E → Option Past) (v : PairView D E) (stands : StandsPaired told told' v) where
+module _ {D E : Type 0} (told : D → Option Past) (told' : E → Option Past) (v : PairView D E)
+    (stands : StandsPaired told told' v) where
   roomier : (n m : ℕ) (f : FenceView) → f.numbers ≡ v.fence.numbers
-      → StandsPaired told told' (record v { primary = record v.primary { spare = n }; standby = record v.standby { spare = m }; fence = f })
+      → StandsPaired told told' (record v {
+        primary = record v.primary { spare = n };
+        standby =
+            record v.standby { spare = m };
+        fence = f;
+      })
   roomier n m f numbers =
       let is = stands.paired in
       record {
@@ -80,33 +97,41 @@ module _ {D E : Type 0} (told : D → Option Past) (told' : E → Option Past) (
         };
       }
 
-  pub stands_roomier : (p : View D) (s : View E) (f : FenceView) → p ≡ record v.primary { spare = p.spare } → s ≡ record v.standby { spare = s.spare }
+  pub stands_roomier : (p : View D) (s : View E) (f : FenceView) → p ≡ record v.primary { spare = p.spare }
+      → s ≡ record v.standby { spare = s.spare }
       → f.numbers ≡ v.fence.numbers → StandsPaired told told' (record v { primary = p; standby = s; fence = f })
   stands_roomier p s f primary standby numbers =
       subst (λ (x : View D). StandsPaired told told' (record v { primary = x; standby = s; fence = f })) (sym primary)
-      (subst (λ (x : View E). StandsPaired told told' (record v { primary = record v.primary { spare = p.spare }; standby = x; fence = f })) (sym standby)
+      (subst (λ (x : View E). StandsPaired told told' (record v
+      { primary = record v.primary { spare = p.spare }; standby = x; fence = f })) (sym standby)
       (roomier p.spare s.spare f numbers))
 
 module _ {D E : Type 0} (v : PairView D E) (is : IsPaired v) where
   -- the standby has done some of what it lacked, and lacks the rest
-  pub paired_standby : (s : View E) (fresh items : List Item) (lacks : Option (ℕ × Command)) → v.standby.log ≡ v.standby_start.log ++ fresh
-      → s.base ≡ v.standby.base → s.log ≡ v.standby.log ++ items → owed v.missing ≡ dones items ++ owed lacks → TriesNext items (owed lacks)
+  pub paired_standby : (s : View E) (fresh items : List Item) (lacks : Option (ℕ × Command))
+      → v.standby.log ≡ v.standby_start.log ++ fresh
+      → s.base ≡ v.standby.base → s.log ≡ v.standby.log ++ items → owed v.missing ≡ dones items ++ owed lacks
+      → TriesNext items (owed lacks)
       → IsPaired (record v { standby = s; missing = lacks })
   paired_standby s fresh items lacks grown base log parts tries =
       let gained : List Item = gained_since v.standby_start v.standby in
       let more = gained_more v.standby_start v.standby s fresh items grown log in
-      let done : dones (gained_since v.standby_start s) ≡ dones gained ++ dones items = ap dones more ∙ dones-append gained items in
+      let done : dones (gained_since v.standby_start s) ≡ dones gained ++ dones items =
+      ap dones more ∙ dones-append gained items in
       let rows : rows_of s ≡ replay_log (rows_of v.standby) (dones items) =
       rows_then v.standby s items base log ∙ sym (replay-dones (rows_of v.standby) items) in
-      let lawful : IsLawful (rows_of v.standby) (dones items ++ owed lacks) = subst (IsLawful (rows_of v.standby)) parts is.ready in
+      let lawful : IsLawful (rows_of v.standby) (dones items ++ owed lacks) =
+      subst (IsLawful (rows_of v.standby)) parts is.ready in
       record {
         equal = is.equal;
         calm = is.calm;
-        mirrors = is.mirrors ∙ ap (λ (xs : List Item). dones gained ++ xs) parts ∙ sym (append_assoc (dones gained) (dones items) (owed lacks))
+        mirrors = is.mirrors ∙ ap (λ (xs : List Item). dones gained ++ xs) parts ∙ sym
+            (append_assoc (dones gained) (dones items) (owed lacks))
             ∙ ap (λ (xs : List Item). xs ++ owed lacks) (sym done);
         tries = subst (λ (xs : List Item). TriesNext xs (owed lacks)) (sym more)
             (tries-append gained items (owed lacks) (subst (TriesNext gained) parts is.tries) tries);
-        level = is.level ∙ ap (replay_log (rows_of v.standby)) parts ∙ replay_log-append (rows_of v.standby) (dones items) (owed lacks)
+        level = is.level ∙ ap (replay_log (rows_of v.standby)) parts ∙ replay_log-append (rows_of v.standby)
+            (dones items) (owed lacks)
             ∙ ap (λ (r : Rows). replay_log r (owed lacks)) (sym rows);
         ready = subst (λ (r : Rows). IsLawful r (owed lacks)) (sym rows)
             (IsLawful-parts (rows_of v.standby) (dones items) (owed lacks) lawful).1;
@@ -114,8 +139,10 @@ module _ {D E : Type 0} (v : PairView D E) (is : IsPaired v) where
       }
 
   -- the primary has gone on where nothing was missing, and the standby lacks what was done
-  pub paired_primary : (p : View D) (f : FenceView) (fresh items : List Item) (lacks : Option (ℕ × Command)) → v.missing ≡ None
-      → v.primary.log ≡ v.primary_start.log ++ fresh → p.base ≡ v.primary.base → p.log ≡ v.primary.log ++ items → dones items ≡ owed lacks
+  pub paired_primary : (p : View D) (f : FenceView) (fresh items : List Item) (lacks : Option (ℕ × Command))
+      → v.missing ≡ None
+      → v.primary.log ≡ v.primary_start.log ++ fresh → p.base ≡ v.primary.base → p.log ≡ v.primary.log ++ items
+      → dones items ≡ owed lacks
       → IsLawful (rows_of v.primary) (owed lacks) → length f.numbers ≡ length v.fence.numbers + length items
       → IsPaired (record v { primary = p; fence = f; missing = lacks })
   paired_primary p f fresh items lacks missing grown base log owes lawful counted =
@@ -125,7 +152,8 @@ module _ {D E : Type 0} (v : PairView D E) (is : IsPaired v) where
       let same : dones gained ≡ done_on_standby v =
       is.mirrors ∙ ap (λ (xs : List Item). done_on_standby v ++ xs) nothing ∙ append-nil (done_on_standby v) in
       let more = gained_more v.primary_start v.primary p fresh items grown log in
-      let lengths : length p.log ≡ length v.primary.log + length items = ap length log ∙ length-append v.primary.log items in
+      let lengths : length p.log ≡ length v.primary.log + length items =
+      ap length log ∙ length-append v.primary.log items in
       let before = is.counted in
       record {
         equal = is.equal;

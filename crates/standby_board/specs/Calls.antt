@@ -89,7 +89,8 @@ pub record FailsAgain (before after : Option (ℕ × Command)) (stored : List It
   pub after_is : after ≡ before
   pub stored_is : stored ≡ Doubt lacked.0 lacked.1 ∷ []
 
--- the items that a call adds to the standby's log, and what is missing there before and after it: what was missing comes
+-- the items that a call adds to the standby's log, and what is missing there before and after it: what was missing
+-- comes
 -- first, and then the command, where the primary has stored it
 abbrev pub Follows : End → ℕ → Command → Option (ℕ × Command) → Option (ℕ × Command) → List Item → Type 0
 Follows (Ok (pair.Reply r)) by c before after stored = (after ≡ None) × (stored ≡ owed before ++ added (Ok r) by c)
@@ -116,7 +117,8 @@ module _ {D E : Type 0} where
   -- with this number, and the standby follows
   pub record IsPairCall (moment : D → ℕ) (moment' : E → ℕ) (number by : ℕ) (command : Command)
       (old new : PairView D E) (end : End) : Type 0 where
-    pub answers : Answers (verdict_of (rows_of old.primary) command) (length old.primary.log) (rows_of old.primary).next end
+    pub answers : Answers (verdict_of (rows_of old.primary) command) (length old.primary.log)
+        (rows_of old.primary).next end
     pub primary : Grows (is_stored end) (gained end by command) (moment new.primary.disk) old.primary new.primary
     pub numbers : new.fence.numbers ≡ old.fence.numbers ++ map (λ item. number) (gained end by command)
     pub stored : List Item

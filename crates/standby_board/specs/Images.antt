@@ -21,7 +21,8 @@ module _ {D E : Type 0} where
   -- done, if it was left since the mark of that, and what is left now has them all
   pub record StandbyShows (since : ℕ) (v : PairView D E) (p : Past) : Type 0 where
     pub found : (image : Image) → ImagesSince p since image → IsBeginning v 0 image
-    pub acknowledged : (place mark by : ℕ) (c : Command) → slice_get (gained_since v.standby_start v.standby) place ≡ Some (Done by c)
+    pub acknowledged : (place mark by : ℕ) (c : Command) → slice_get (gained_since v.standby_start v.standby) place
+        ≡ Some (Done by c)
         → slice_get v.standby.marks (length v.standby_start.log + place) ≡ Some mark
         → (image : Image) → ImagesSince p mark image
         → IsBeginning v (length (dones (take (place + 1) (gained_since v.standby_start v.standby)))) image

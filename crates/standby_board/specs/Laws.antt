@@ -9,7 +9,8 @@ use Rattle.standby_board.specs.Pairs.{dones}
 -- the numbers of a pair and then those of the board that took over never fall, all together
 abbrev pub NumbersRiseOverTakeOvers : Type 0
 NumbersRiseOverTakeOvers =
-    (floor next greatest : ℕ) (numbers later : List ℕ) → RiseBetween floor numbers next → RiseBetween next later greatest
+    (floor next greatest : ℕ) (numbers later : List ℕ) → RiseBetween floor numbers next
+    → RiseBetween next later greatest
     → RiseBetween floor (numbers ++ later) greatest
 
 -- a beginning of what was done is what a log reaches: from this place on, where it has all that was done before it

@@ -20,7 +20,8 @@ pub returns-clause-shows : goal.returns-clause-shows
 returns-clause-shows g c =
     subst (λ (v : PairView g.row.D.Denot g.row.E.Denot). ForSome (g.E.Disk.told v.standby.disk)
     (StandbyShows (g.E.Disk.moment v.standby_start.disk) v)) c.self.view_is
-    (standby_shows g.D.Disk.told g.E.Disk.told g.E.Disk.moment g.met.E.Disk.timed _ c.self.invariant c.holds-2.ensures.kept)
+    (standby_shows g.D.Disk.told g.E.Disk.told g.E.Disk.moment g.met.E.Disk.timed _ c.self.invariant
+    c.holds-2.ensures.kept)
 
 pub returns-clause-primary : goal.returns-clause-primary
 returns-clause-primary g c =

@@ -8,7 +8,8 @@ use Rattle.standby_board.proofs.pair.Pair.make_room.Goals as goal
 
 pub invariant_of-self : goal.invariant_of-self
 invariant_of-self g c =
-    stands_roomier g.D.Disk.told g.E.Disk.told _ c.self.invariant c.reserve.new.self _ _ c.reserve.ensures.stays refl refl
+    stands_roomier g.D.Disk.told g.E.Disk.told _ c.self.invariant c.reserve.new.self _ _ c.reserve.ensures.stays refl
+    refl
 
 pub invariant_of-self-in_err-reserve-2 : goal.invariant_of-self-in_err-reserve-2
 invariant_of-self-in_err-reserve-2 g c =

@@ -7,7 +7,8 @@ use Rattle.standby_board.proofs.pair.Pair.make_room_again.Goals as goal
 
 pub invariant_of-self : goal.invariant_of-self
 invariant_of-self g c =
-    stands_roomier g.D.Disk.told g.E.Disk.told _ c.self.invariant _ c.reserve.new.self _ refl c.reserve.ensures.stays refl
+    stands_roomier g.D.Disk.told g.E.Disk.told _ c.self.invariant _ c.reserve.new.self _ refl c.reserve.ensures.stays
+    refl
 
 pub returns-clause-keeps : goal.returns-clause-keeps
 returns-clause-keeps g c =

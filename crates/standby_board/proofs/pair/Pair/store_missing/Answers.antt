@@ -16,7 +16,8 @@ invariant_of-self g c =
     let room = c.requires.room in
     let fed : is_starved e.result ≡ false = e.ensures.fed (omega (arith, spare, room)) in
     let failed : is_done e.result ≡ false = search rules in
-    stands_failed g.D.Disk.told g.E.Disk.told _ c.self.invariant e.new.self c.args.by c.args.command e.result _ missing e.ensures.ends
+    stands_failed g.D.Disk.told g.E.Disk.told _ c.self.invariant e.new.self c.args.by c.args.command e.result _ missing
+    e.ensures.ends
     e.ensures.grows e.ensures.does fed failed
 
 pub invariant_of-self-2 : goal.invariant_of-self-2
@@ -25,7 +26,8 @@ invariant_of-self-2 g c =
     let missing : c.self.inside.missing ≡ Some (c.args.by, c.args.command) =
     ap (λ (v : PairView g.row.D.Denot g.row.E.Denot). v.missing) c.self.view_is ∙ c.requires.missing in
     let done : is_done e.result ≡ true = search rules in
-    stands_stored g.D.Disk.told g.E.Disk.told _ c.self.invariant e.new.self c.args.by c.args.command e.result _ missing e.ensures.ends
+    stands_stored g.D.Disk.told g.E.Disk.told _ c.self.invariant e.new.self c.args.by c.args.command e.result _ missing
+    e.ensures.ends
     e.ensures.grows e.ensures.does done
 
 pub returns-then-not-is_done-clause-catches : goal.returns-then-not-is_done-clause-catches
@@ -40,7 +42,8 @@ returns-then-not-is_done-clause-catches g c =
     let failed : is_done e.result ≡ false = search rules in
     subst (λ (v : PairView g.row.D.Denot g.row.E.Denot). CatchesUp g.E.Disk.moment g.E.Disk.fault_count false v.missing
     b.missing v.standby e.new.self) c.self.view_is
-    (not_caught_up g.D.Disk.told g.E.Disk.told _ c.self.invariant e.new.self c.args.by c.args.command e.result _ missing e.ensures.ends
+    (not_caught_up g.D.Disk.told g.E.Disk.told _ c.self.invariant e.new.self c.args.by c.args.command e.result _ missing
+    e.ensures.ends
     e.ensures.grows e.ensures.does g.E.Disk.moment g.E.Disk.fault_count refl e.ensures.uses.faults.cause fed failed)
 
 pub returns-clause-catches : goal.returns-clause-catches
@@ -51,5 +54,6 @@ returns-clause-catches g c =
     let done : is_done e.result ≡ true = search rules in
     subst (λ (v : PairView g.row.D.Denot g.row.E.Denot). CatchesUp g.E.Disk.moment g.E.Disk.fault_count true v.missing
     None v.standby e.new.self) c.self.view_is
-    (caught_up g.D.Disk.told g.E.Disk.told _ c.self.invariant e.new.self c.args.by c.args.command e.result _ missing e.ensures.ends
+    (caught_up g.D.Disk.told g.E.Disk.told _ c.self.invariant e.new.self c.args.by c.args.command e.result _ missing
+    e.ensures.ends
     e.ensures.grows e.ensures.does g.E.Disk.moment g.E.Disk.fault_count refl e.ensures.uses.faults.cause done)

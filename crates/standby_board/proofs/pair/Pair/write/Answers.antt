@@ -15,7 +15,8 @@ returns-then-is_err-clause-calls g c =
 
 pub returns-then-is_err-clause-causes : goal.returns-then-is_err-clause-causes
 returns-then-is_err-clause-causes g c =
-    causes_starved g.D.Disk.moment g.D.Disk.fault_count g.E.Disk.moment g.E.Disk.fault_count 0 c.args.by c.args.command _ _
+    causes_starved g.D.Disk.moment g.D.Disk.fault_count g.E.Disk.moment g.E.Disk.fault_count 0 c.args.by c.args.command
+    _ _
     c.make_room.ensures.keeps
 
 pub returns-then-is_err-clause-same : goal.returns-then-is_err-clause-same
@@ -37,9 +38,11 @@ returns-then-is_err-2-clause-calls g c =
     let primary = ap (λ (v : PairView g.row.D.Denot g.row.E.Denot). v.primary) u.ensures.stays in
     let place = c.place.ensures ∙ ap (λ (v : PairView g.row.D.Denot g.row.E.Denot). length v.primary.log) c.self.view_is
     ∙ ap (λ (v : PairView g.row.D.Denot g.row.E.Denot). length v.primary.log) u.ensures.stays in
-    call_roomier g.D.Disk.moment g.D.Disk.fault_count g.E.Disk.moment g.E.Disk.fault_count c.args.self.now.fence.greatest
+    call_roomier g.D.Disk.moment g.D.Disk.fault_count g.E.Disk.moment g.E.Disk.fault_count
+    c.args.self.now.fence.greatest
     c.args.by c.args.command _ _ mid u.new.self k
-    (call_behind g.D.Disk.moment g.D.Disk.fault_count g.E.Disk.moment g.E.Disk.fault_count c.args.self.now.fence.greatest
+    (call_behind g.D.Disk.moment g.D.Disk.fault_count g.E.Disk.moment g.E.Disk.fault_count
+    c.args.self.now.fence.greatest
     c.args.by c.args.command mid u.new.self caught primary c.place.result place
     (ap (λ (v : PairView g.row.D.Denot g.row.E.Denot). v.fence) u.ensures.stays))
 
@@ -64,7 +67,8 @@ returns-then-is_err-2-clause-same g c =
     record {
       primary = ap (λ (v : PairView g.row.D.Denot g.row.E.Denot). v.primary_start) u ∙ k.primary_start;
       standby = ap (λ (v : PairView g.row.D.Denot g.row.E.Denot). v.standby_start) u ∙ k.standby_start;
-      floor = ap (λ (v : PairView g.row.D.Denot g.row.E.Denot). v.fence.floor) u ∙ ap (λ (f : FenceView). f.floor) k.fence;
+      floor = ap (λ (v : PairView g.row.D.Denot g.row.E.Denot). v.fence.floor) u ∙ ap
+          (λ (f : FenceView). f.floor) k.fence;
     }
 
 pub returns-then-is_err-2-clause-greatest : goal.returns-then-is_err-2-clause-greatest

@@ -16,7 +16,8 @@ returns-then-is_err-clause-calls g c =
 
 pub returns-then-is_err-clause-causes : goal.returns-then-is_err-clause-causes
 returns-then-is_err-clause-causes g c =
-    causes_starved g.D.Disk.moment g.D.Disk.fault_count g.E.Disk.moment g.E.Disk.fault_count 0 c.args.by c.args.command _ _
+    causes_starved g.D.Disk.moment g.D.Disk.fault_count g.E.Disk.moment g.E.Disk.fault_count 0 c.args.by c.args.command
+    _ _
     c.make_room_again.ensures.keeps
 
 pub returns-then-is_err-clause-same : goal.returns-then-is_err-clause-same
@@ -51,7 +52,8 @@ returns-clause-calls g c =
     let numbered = subst (λ (n : ℕ). IsPairCall g.D.Disk.moment g.E.Disk.moment n c.args.by c.args.command mid last
     (told_by (is_ok u.result) p.result))
     (ap (λ (f : FenceView). f.greatest) k.fence) called in
-    subst (λ (r : End). IsPairCall g.D.Disk.moment g.E.Disk.moment old.fence.greatest c.args.by c.args.command old last r)
+    subst (λ (r : End). IsPairCall g.D.Disk.moment g.E.Disk.moment old.fence.greatest c.args.by c.args.command old last
+    r)
     (sym c.answer.ensures)
     (call_roomier g.D.Disk.moment g.D.Disk.fault_count g.E.Disk.moment g.E.Disk.fault_count old.fence.greatest c.args.by
     c.args.command (told_by (is_ok u.result) p.result) old mid last k numbered)
@@ -84,7 +86,8 @@ returns-clause-same g c =
       standby = ap (λ (v : PairView g.row.D.Denot g.row.E.Denot). v.standby_start) u
           ∙ ap (λ (v : PairView g.row.D.Denot g.row.E.Denot). v.standby_start) p ∙ k.standby_start;
       floor = ap (λ (v : PairView g.row.D.Denot g.row.E.Denot). v.fence.floor) u
-          ∙ ap (λ (v : PairView g.row.D.Denot g.row.E.Denot). v.fence.floor) p ∙ ap (λ (f : FenceView). f.floor) k.fence;
+          ∙ ap (λ (v : PairView g.row.D.Denot g.row.E.Denot). v.fence.floor) p ∙ ap
+          (λ (f : FenceView). f.floor) k.fence;
     }
 
 pub returns-clause-greatest : goal.returns-clause-greatest
