@@ -1,0 +1,6 @@
+pub mod Pairs
+pub mod Images
+pub mod Calls
+pub mod Steps
+pub mod Ends
+pub mod Laws
