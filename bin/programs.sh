@@ -1,6 +1,6 @@
 # shellcheck shell=bash
-# What bin/diego and bin/headroom read, which run a program: how it is run, and what is said of its end. `name` is what the
-# script calls itself.
+# What bin/diego, bin/pair and bin/headroom read, which run a program: how it is run, and what is said of its end. `name` is what
+# the script calls itself.
 
 # One line, whatever stands in it.
 say() {

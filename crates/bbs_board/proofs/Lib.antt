@@ -1,6 +1,7 @@
 pub mod Settling
 pub mod Frames
 pub mod Loaded
+pub mod LongHeads
 pub mod Logs
 pub mod Mending
 pub mod Public
@@ -24,3 +25,4 @@ pub mod Drafting
 pub mod Again
 pub mod Completing
 mod Outcomes
+mod Tracking

@@ -17,23 +17,23 @@ use crate::draft::Draft;
 use crate::history::History;
 use crate::room::{make_room, prepare_call};
 use crate::storage::{store, wants_checkpoint};
+use crate::tracked_index::TrackedIndex;
 use bbs_codec::write_command;
-use bbs_index::Index;
 use bbs_journal::Journal;
 use bbs_model::{CallFault, Command, Item, Reply, RowStore, Verdict};
-use bbs_transitions::{apply, decide};
+use bbs_transitions::decide;
 use diego_names::OutOfMemory;
 use disk_trait::Disk;
 use std::marker::Model;
 use std::snapshot::Snapshot;
 
-/// The rows of a board under their index, and the journal that keeps them.
+/// The rows of a board under their index, with what convergence waits for, and the journal that keeps them.
 #[derive(Drop)]
 pub struct Board<D: Disk> {
     pub(crate) journal: Journal<D>,
-    pub(crate) index: Index,
+    pub(crate) index: TrackedIndex,
     // The rows that the disk held when it was loaded, for clauses alone: it has no bytes.
-    pub(crate) base: Snapshot<Index>,
+    pub(crate) base: Snapshot<TrackedIndex>,
     pub(crate) history: History,
     // The disk's clock and its count of faults at the end of the load.
     pub(crate) since: u64,
@@ -95,7 +95,7 @@ impl<D: Disk> Board<D> {
             self.old self.new }
     {
         let place = self.history.place();
-        let stamp = self.index.next();
+        let stamp = self.index.store().next();
         let mut payload = [0u8; 512];
         let len = write_command(&mut payload, command);
         let due = wants_checkpoint(&self.journal);
@@ -108,7 +108,7 @@ impl<D: Disk> Board<D> {
             self.history.add(by, command, mark, &None);
             return Err(CallFault::Disk { place });
         }
-        let events = apply(&mut self.index, command);
+        let events = self.index.apply(command);
         self.history.add(by, command, mark, &Some(events));
         Ok(Reply::Ok { place, stamp })
     }
@@ -132,7 +132,7 @@ impl<D: Disk> Board<D> {
             self.old self.new }
     {
         let place = self.history.place();
-        match decide(&self.index, &command) {
+        match decide(self.index.store(), &command) {
             Verdict::Ok => self.transition(by, &command),
             Verdict::Same => Ok(Reply::Same { place }),
             Verdict::Refused(why) => Ok(Reply::Refused { why, place }),

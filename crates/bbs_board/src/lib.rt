@@ -10,6 +10,7 @@ mod history;
 mod kept_in;
 mod laws;
 mod loading;
+mod long_head;
 mod memory_loading;
 mod orders;
 mod putting;
@@ -17,6 +18,7 @@ mod reading;
 mod redoing;
 mod room;
 mod storage;
+mod tracked_index;
 
 pub use bbs_journal::{LoadFault, PrepareFault, prepare};
 pub use board::{Board, Closed};

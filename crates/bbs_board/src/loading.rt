@@ -1,4 +1,5 @@
-//! Loading a board: the journal, then the rows of its head, then its commands one after another.
+//! Loading a board: the journal, then the rows of its head, then its commands one after another, and then what
+//! convergence waits for in the rows that they leave.
 ghost use Rattle.std.specs.Prelude.{◌≡◌, ◌⊎◌, ◌+◌, ◌<◌, ◌^◌, length, IfOk, IfErr};
 ghost use Rattle.byte_ports.specs.Cause.{HasCause};
 ghost use Rattle.disk_trait.specs.Past.{Image};
@@ -15,9 +16,11 @@ use crate::draft::Draft;
 use crate::following::follow;
 use crate::head::{HEAD, rows_in};
 use crate::history::History;
-use bbs_index::Index;
+use crate::long_head::fault_of;
+use crate::tracked_index::TrackedIndex;
 use bbs_journal::{LoadFault, Loaded};
 use disk_trait::{Area, Disk};
+use head_codec::LONGEST_HEAD;
 use std::alloc::Global;
 use std::snapshot::Snapshot;
 
@@ -29,7 +32,7 @@ fn board_of(
     head: &[u8],
     frames: &[Vec<u8>],
     broken: Option<u64>,
-) -> Result<Index, LoadFault>
+) -> Result<TrackedIndex, LoadFault>
     requires read { (version ≡ 1) ⊎ (version ≡ 2) }
     requires within { 23 + length head.now + bytes_of (payloads_of frames.now) < 2 ^ 64 }
     ensures gives { Gives result (board_of version area head.now (payloads_of frames.now) broken) }
@@ -38,7 +41,10 @@ fn board_of(
     let mut index = rows_in(alloc, version, area, head)?;
     let start = HEAD + head.len() as u64;
     follow(&mut index, version, area, start, frames, broken)?;
-    Ok(index)
+    match TrackedIndex::of(alloc, index) {
+        Ok(tracked) => Ok(tracked),
+        Err(_) => Err(LoadFault::OutOfMemory),
+    }
 }
 
 /// Loads the board that a disk holds, and syncs both areas. It writes nothing.
@@ -59,9 +65,9 @@ pub fn load<D: Disk>(alloc: Global, disk: D) -> Result<Board<D>, (D, LoadFault)>
         frames,
         broken,
         version,
-    } = match bbs_journal::load(alloc, disk) {
+    } = match bbs_journal::load(alloc, disk, LONGEST_HEAD) {
         Ok(loaded) => loaded,
-        Err(refused) => return Err(refused),
+        Err((disk, why)) => return Err((disk, fault_of(alloc, why))),
     };
     match board_of(alloc, version, journal.area(), &head, &frames, broken) {
         Ok(index) => Ok(Board {

@@ -1,5 +1,5 @@
 //! What a board tells of itself, without a device call.
-ghost use Rattle.std.specs.Prelude.{◌≡◌, ◌<◌, ◌≤◌, ◌^◌, length, IfOk};
+ghost use Rattle.std.specs.Prelude.{◌≡◌, ◌+◌, ◌*◌, ◌<◌, ◌≤◌, ◌^◌, [], length, IfOk, IsOk};
 ghost use Rattle.std.specs.Option.{ForSome};
 ghost use Rattle.bbs_model.specs.Replay.{IsLawful};
 ghost use Rattle.bbs_model.specs.Step.{verdict_of};
@@ -13,18 +13,19 @@ ghost use Rattle.bbs_board.specs.View.{rows_of};
 use crate::Board;
 use bbs_model::{Command, Heard, Item, RowStore, Rows, Verdict, hear};
 use bbs_transitions::decide;
-use convergence::work_of;
+use convergence::Steps;
 use crash_backoff::Moment;
 use diego_names::{List, OutOfMemory};
 use disk_trait::Disk;
 use std::alloc::Global;
+use std::sync::ledger::Ledger;
 
 impl<D: Disk> Board<D> {
     /// What the step of a command comes to, by a constant number of look-ups. It takes no memory.
     pub fn verdict(&self, command: &Command) -> Verdict
         ensures { result ≡ verdict_of (rows_of self.now) command.entry.now }
     {
-        decide(&self.index, command)
+        decide(self.index.store(), command)
     }
 
     /// The rows. They are copied, in the time and the memory of all of them.
@@ -32,17 +33,22 @@ impl<D: Disk> Board<D> {
         ensures rows { IfOk result (λ rows. rows ≡ rows_of self.now) }
         ensures valid { IsValid (rows_of self.now) }
     {
-        self.index.rows(alloc)
+        self.index.store().rows(alloc)
     }
 
-    /// What convergence asks at a moment. It takes the time and the memory of a copy of the rows.
-    pub fn work(&self, alloc: Global, now: Moment) -> Result<List<Command>, OutOfMemory>
-        ensures { IfOk result (λ list. list ≡ asked.work (rows_of self.now) now) }
+    /// What convergence asks at a moment. It reads one row for each command at most, and takes no memory if
+    /// nothing is asked.
+    pub fn work<L: Ledger>(
+        &self,
+        alloc: Global,
+        now: Moment,
+        steps: &mut Steps<L>,
+    ) -> Result<List<Command>, OutOfMemory>
+        ensures work { IfOk result (λ list. list ≡ asked.work (rows_of self.now) now) }
+        ensures steps { steps.new ≤ steps.old + 3 * length (asked.work (rows_of self.now) now) + 3 }
+        ensures free { asked.work (rows_of self.now) now ≡ [] → IsOk result }
     {
-        match self.index.rows(alloc) {
-            Err(why) => Err(why),
-            Ok(rows) => work_of(alloc, &rows, now),
-        }
+        self.index.work(alloc, now, steps)
     }
 
     /// The changes of rows that the items from the place `from` on made, of `max` items at most, in
@@ -80,7 +86,7 @@ impl<D: Disk> Board<D> {
         ensures value { result ≡ (rows_of self.now).next }
         ensures most { result ≤ 1099511627776 }
     {
-        self.index.next()
+        self.index.store().next()
     }
 
     /// The number of device calls so far.

@@ -1,9 +1,11 @@
 -- What the steps of a reader come to together.
-use Rattle.std.proofs.Common.{◌≡◌, ℕ, ◌+◌, List, length, take, drop, sym, ap, ◌∙◌, subst, Result, Ok}
+use Rattle.std.proofs.Common.{◌≡◌, ℕ, ◌+◌, ◌<◌, ◌≤◌, List, ◌++◌, length, take, drop, sym, ap, ◌∙◌, subst, arith, length-drop, take-append-drop, Result, Ok}
+use Rattle.std.proofs.lemmas.List.{length-take-le, take-take}
 use Rattle.disk_trait.specs.Past.{Image, other}
 use Rattle.disk_trait.specs.declared.area.Area.{Area}
 use Rattle.disk_trait.specs.declared.area.Area.TheVariants.{A, B}
 use Rattle.bbs_journal.specs.Header.{front, header_of, gate_of}
+use Rattle.bbs_journal.specs.NotLoaded.{HasLongHead}
 use Rattle.bbs_journal.specs.Opening.{active_of, size_of, AreFrames}
 use Rattle.bbs_journal.specs.Reading.{payloads_of}
 use Rattle.bbs_journal.specs.Found.{IsChosen, IsSized, IsFoundIn}
@@ -12,6 +14,7 @@ use Rattle.bbs_journal.specs.declared.find.Chosen.{Chosen}
 use Rattle.bbs_journal.specs.declared.find.Found.{Found}
 use Rattle.bbs_journal.specs.declared.header.Header.{Header}
 use Rattle.bbs_journal.specs.declared.load_fault.LoadFault.{LoadFault}
+use Rattle.bbs_journal.specs.declared.not_loaded.LongHead.{LongHead}
 use Rattle.bbs_journal.proofs.Opening.{headed_ok}
 
 pub active_is : (c : Image) (a b : Header) (r : Result Active LoadFault) → a ≡ header_of (front (c A))
@@ -56,3 +59,24 @@ found_is c chosen found len size is sized area_is version_is generation_is gate_
   };
   gate = gate_is ∙ is.gate ∙ ap (λ (x : Area). gate_of (header_of (front (c (other x))))) (sym area_is);
 }
+
+-- the first bytes of a head that has more
+pub long_is : (c : Image) (chosen : Chosen) (long : LongHead) (len size most : ℕ) → IsChosen c chosen
+    → IsSized c chosen.active len size → 23 + size ≤ len → most < size → long.area ≡ chosen.active.area
+    → long.version ≡ chosen.active.version
+    → long.begin.items ≡ take most (drop 23 (c chosen.active.area)) → HasLongHead long c
+long_is c chosen long len size most is sized fits longer area_is version_is begin_is =
+    let behind : List ℕ = drop 23 (c chosen.active.area) in
+    let rest : List ℕ = drop most (take size behind) in
+    let there : length (take size behind) ≡ size = length-take-le size behind
+    (omega (arith, fits, sized.len_is, length-drop 23 (c chosen.active.area))) in
+    let front : take most (take size behind) ≡ take most behind = take-take most size behind (omega (arith, longer)) in
+    let whole : take size behind ≡ long.begin.items ++ rest =
+    sym (take-append-drop most (take size behind)) ∙ ap (λ (l : List ℕ). l ++ rest) (front ∙ sym begin_is) in
+    record {
+      generation = chosen.active.generation;
+      rest = rest;
+      longer = omega (arith, longer, there, length-drop most (take size behind));
+      head_is = headed_ok c chosen.active size is.active sized.size_is
+          ∙ cc (sym area_is, sym version_is, whole);
+    }

@@ -8,6 +8,7 @@ pub mod Calls
 pub mod Switching
 pub mod Opening
 pub mod LoadFaults
+pub mod NotLoaded
 pub mod Reading
 pub mod Found
 pub mod Pieces

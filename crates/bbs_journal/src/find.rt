@@ -1,11 +1,12 @@
 //! Looking for a journal on a disk that stays as it is.
-ghost use Rattle.std.specs.Prelude.{◌≡◌, ◌+◌, ◌≤◌, IfOk, IfErr, length, take, drop};
+ghost use Rattle.std.specs.Prelude.{◌≡◌, ◌+◌, ◌<◌, ◌≤◌, IfOk, IfErr, length, take, drop};
 ghost use Rattle.byte_ports.specs.Cause.{HasCause};
 ghost use Rattle.disk_trait.specs.Past.{Image};
 ghost use Rattle.disk_trait.specs.Steps.{Goes};
 ghost use Rattle.bbs_journal.specs.Header.{IsVersion};
 ghost use Rattle.bbs_journal.specs.Opening.{headed};
 ghost use Rattle.bbs_journal.specs.LoadFaults.{is_load_disk_fault, IsFree, Fails, failed};
+ghost use Rattle.bbs_journal.specs.NotLoaded.{IsWhy, IsCutAt, is_disk_why};
 ghost use Rattle.disk_trait.specs.Shows.{Shows, Peeks};
 ghost use Rattle.bbs_journal.specs.Found.{IsChosen, IsSized, IsFoundIn, IsCounted};
 
@@ -15,7 +16,7 @@ use crate::head::check_head;
 use crate::header::read_header;
 use crate::look::{Front, fill, look, measure};
 use crate::place::Place;
-use crate::{LoadFault, OtherGate};
+use crate::{LoadFault, LongHead, NotLoaded, OtherGate};
 use disk_trait::{Area, Disk};
 use std::alloc::Global;
 
@@ -98,6 +99,7 @@ fn read_sized<D: Disk>(
     ensures shows { IfOk result (λ f. (c : Image) → Shows (D.told disk.new) c →
         IsChosen c chosen → IsSized c chosen.active len size → IsFoundIn c f) }
     ensures counts { IfOk result IsCounted }
+    ensures head { IfOk result (λ f. length f.head.items ≡ size) }
     ensures free { IfErr result IsFree }
     ensures does { Goes (D.told disk.old) (D.told disk.new) Peeks }
     ensures cause { HasCause (failed is_load_disk_fault result)
@@ -123,34 +125,76 @@ fn read_sized<D: Disk>(
     })
 }
 
-fn read_area<D: Disk>(alloc: Global, disk: &mut D, chosen: Chosen) -> Result<Found, LoadFault>
+/// The first `most` bytes of a head, which has `size` and is longer. Its area has `len` bytes.
+fn cut_head<D: Disk>(
+    alloc: Global,
+    disk: &mut D,
+    chosen: Chosen,
+    len: u64,
+    size: u32,
+    most: u32,
+) -> NotLoaded
+    requires fits { 23 + size ≤ len }
+    requires longer { most < size }
+    requires read { IsVersion chosen.active.version }
+    ensures why { (c : Image) → Shows (D.told disk.new) c →
+        IsChosen c chosen → IsSized c chosen.active len size → IsWhy result c }
+    ensures cut { IsCutAt most result }
+    ensures does { Goes (D.told disk.old) (D.told disk.new) Peeks }
+    ensures cause { HasCause (is_disk_why result) (D.fault_count disk.old) (D.fault_count disk.new) }
+{
+    match read_head(alloc, disk, chosen.active.area, most) {
+        Ok(begin) => NotLoaded::LongHead(LongHead {
+            area: chosen.active.area,
+            version: chosen.active.version,
+            begin,
+        }),
+        Err(fault) => NotLoaded::Fault(fault),
+    }
+}
+
+fn read_area<D: Disk>(
+    alloc: Global,
+    disk: &mut D,
+    chosen: Chosen,
+    most: u32,
+) -> Result<Found, NotLoaded>
     requires { IsVersion chosen.active.version }
     ensures shows { IfOk result (λ f. (c : Image) → Shows (D.told disk.new) c →
         IsChosen c chosen → IsFoundIn c f) }
     ensures counts { IfOk result IsCounted }
-    ensures fault { IfErr result (λ e. (c : Image) → Shows (D.told disk.new) c →
-        IsChosen c chosen → Fails e (headed c)) }
+    ensures short { IfOk result (λ f. length f.head.items ≤ most) }
+    ensures why { IfErr result (λ e. (c : Image) → Shows (D.told disk.new) c →
+        IsChosen c chosen → IsWhy e c) }
+    ensures cut { IfErr result (IsCutAt most) }
     ensures does { Goes (D.told disk.old) (D.told disk.new) Peeks }
-    ensures cause { HasCause (failed is_load_disk_fault result)
+    ensures cause { HasCause (failed is_disk_why result)
         (D.fault_count disk.old) (D.fault_count disk.new) }
 {
     let len = measure(disk, chosen.active.area)?;
     match check_head(chosen.active, chosen.front.bytes(), len) {
-        Err(fault) => Err(fault),
-        Ok(size) => read_sized(alloc, disk, chosen, len, size),
+        Err(fault) => Err(NotLoaded::Fault(fault)),
+        Ok(size) => {
+            if most < size {
+                return Err(cut_head(alloc, disk, chosen, len, size, most));
+            }
+            Ok(read_sized(alloc, disk, chosen, len, size)?)
+        }
     }
 }
 
-/// Both areas' first bytes tell which of them is read; then come its head and all its frames.
-pub(crate) fn find<D: Disk>(alloc: Global, disk: &mut D) -> Result<Found, LoadFault>
+/// Both areas' first bytes tell which of them is read; then come its head, where it has `most` bytes at
+/// the most, and all its frames.
+pub(crate) fn find<D: Disk>(alloc: Global, disk: &mut D, most: u32) -> Result<Found, NotLoaded>
     ensures shows { IfOk result (λ f. (c : Image) → Shows (D.told disk.new) c → IsFoundIn c f) }
     ensures counts { IfOk result IsCounted }
-    ensures fault { IfErr result (λ e. (c : Image) → Shows (D.told disk.new) c →
-        Fails e (headed c)) }
+    ensures short { IfOk result (λ f. length f.head.items ≤ most) }
+    ensures why { IfErr result (λ e. (c : Image) → Shows (D.told disk.new) c → IsWhy e c) }
+    ensures cut { IfErr result (IsCutAt most) }
     ensures does { Goes (D.told disk.old) (D.told disk.new) Peeks }
-    ensures cause { HasCause (failed is_load_disk_fault result)
+    ensures cause { HasCause (failed is_disk_why result)
         (D.fault_count disk.old) (D.fault_count disk.new) }
 {
     let chosen = choose_area(disk)?;
-    read_area(alloc, disk, chosen)
+    read_area(alloc, disk, chosen, most)
 }

@@ -16,6 +16,7 @@ mod load_fault;
 mod loading;
 mod look;
 mod memory_loading;
+mod not_loaded;
 mod other_gate;
 mod piece;
 mod place;
@@ -35,6 +36,7 @@ pub use laws::{
 pub use load_fault::LoadFault;
 pub use loading::{Loaded, load};
 pub use memory_loading::load_from_memory;
+pub use not_loaded::{LongHead, NotLoaded};
 pub use other_gate::OtherGate;
 pub use preparing::{PrepareFault, prepare, what_is_prepared_is_opened};
 pub use waiting::Waiting;

@@ -6,8 +6,8 @@ use denote.Param.Send.{IsSend, IsSync, recorded_sync, sendable, struct_sync}
 use Rattle.std.proofs.Crossing.{crosses}
 use Rattle.disk_trait.specs.declared.disk.Disk.{Ghosts}
 use Rattle.bbs_board.proofs.history.History.TheSendSync as history
+use Rattle.bbs_board.proofs.tracked_index.TrackedIndex.TheSendSync as index
 use Rattle.bbs_board.specs.contracts.board.Board as board
-use Rattle.bbs_index.proofs.index.Index.TheSendSync as index
 use Rattle.bbs_journal.proofs.journal.Journal.TheSendSync as journal
 use Rattle.ticket_desk.proofs.desk.Desk.TheSendSync as desk
 use Rattle.bbs_model.specs.contracts.item.Item as item

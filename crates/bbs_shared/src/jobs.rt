@@ -10,6 +10,7 @@ ghost use Rattle.bbs_shared.specs.Boards.{origin_of, IsRead};
 
 use crate::at_desk::AtDesk;
 use bbs_model::{CallFault, Command, Heard, Reply, Rows};
+use board_port::uncounted_work;
 use crash_backoff::Moment;
 use diego_names::{List, OutOfMemory};
 use disk_trait::Disk;
@@ -49,7 +50,7 @@ pub(crate) fn read_work<D: Disk>(
     ensures work { IfOk result (λ list. list ≡ asked.work (rows_of at.old.board) now) }
 {
     at.board.holds();
-    at.board.work(alloc, now)
+    uncounted_work(&at.board, alloc, now)
 }
 
 pub(crate) fn read_events<D: Disk>(

@@ -34,7 +34,7 @@ impl<D: Disk> SharedBoard<D> {
             .turn(rt, pass, |at: &mut AtDesk<D>| read_rows(at, alloc))
     }
 
-    /// What convergence asks at a moment, in the time and the memory of a copy of the rows.
+    /// What convergence asks at a moment, as the board lists it.
     pub fn work<R: Wait>(
         &self,
         rt: &R,

@@ -2,5 +2,7 @@
 #![tactic(auto)]
 
 mod port;
+mod uncounted;
 
 pub use port::SolePort;
+pub use uncounted::uncounted_work;

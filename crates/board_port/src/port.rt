@@ -1,4 +1,5 @@
 //! A board behind a port, with nobody between the calls.
+use crate::uncounted::uncounted_work;
 use bbs_board::Board;
 use bbs_model::{CallFault, Command, Heard, Port, Reply, Rows};
 use crash_backoff::Moment;
@@ -43,7 +44,7 @@ impl<'a, D: Disk> Port for SolePort<'a, D> {
 
     fn work(&mut self, alloc: Global, now: Moment) -> Result<List<Command>, OutOfMemory> {
         self.board.holds();
-        self.board.work(alloc, now)
+        uncounted_work(self.board, alloc, now)
     }
 
     fn events(&mut self, alloc: Global, from: u64, max: u32) -> Result<Heard, OutOfMemory> {

@@ -1,50 +1,29 @@
 -- Names that differ: of cells that answered, and of jobs that wait.
-use Rattle.std.proofs.Common.{◌≡◌, ◌≢◌, ℕ, zero, suc, ◌+◌, ◌<◌, ◌≤◌, Bool, true, false, cond, List, [], ◌∷◌, ◌++◌, length, map, get_or, Option, Some, None, refl, sym, ap, subst, ◌∙◌, append_assoc, arith, inl, inr, ◌⊎◌, ⊎_elim}
-use Rattle.std.specs.Prelude.{nat_lt}
+use Rattle.std.proofs.Common.{◌≡◌, ◌≢◌, ℕ, suc, ◌≤◌, Bool, true, false, cond, List, [], ◌∷◌, ◌++◌, length, map, get_or, Option, Some, None, refl, sym, ap, subst, ◌∙◌, append_assoc, arith, ⊎_elim}
 use Rattle.std.specs.Cmp.{tied_itself}
 use Rattle.std.specs.List.{All, AllPairs, Contains, filter_map, cons_option}
-use Rattle.std.specs.Option.{option_map_or, option_and_then, option_to_list}
-use Rattle.std.specs.declared.cmp.Ordering.{Ordering}
+use Rattle.std.specs.Option.{option_to_list}
 use Rattle.std.specs.declared.cmp.Ordering.TheVariants.{Less, Equal}
-use Rattle.std.proofs.lemmas.List.{get_or-map, length-map, append-nil}
+use Rattle.std.proofs.lemmas.List.{length-map, append-nil}
 use Rattle.std.proofs.lemmas.List.Elements.{Contains-get_or, All-cons, All-nil, All-head, All-tail}
 use Rattle.std.proofs.lemmas.List.Kept.{AllPairs-cons}
-use Rattle.row_tables.specs.Table.{IsKeyOrder, IsRising}
+use Rattle.row_tables.specs.Table.{IsRising}
 use Rattle.row_tables.proofs.Public.{All-above, IsRising-tail, below_rest}
 use Rattle.diego_names.specs.Order.{name_order}
-use Rattle.diego_names.specs.declared.key.Key.{Key}
 use Rattle.diego_names.proofs.Public.{IsKeyOrder-name_order}
-use Rattle.lrp_records.specs.Place.{place_of, place_order}
-use Rattle.lrp_records.specs.declared.actual.Actual.{Actual}
-use Rattle.lrp_records.specs.declared.desired.Desired.{Desired}
-use Rattle.lrp_records.specs.declared.presence.Presence.{Presence}
-use Rattle.lrp_records.specs.declared.presence.Presence.TheVariants.{Ordinary, Evacuating}
-use Rattle.lrp_records.specs.declared.state.LrpState.{LrpState}
-use Rattle.lrp_records.specs.declared.state.LrpState.TheVariants as lrp
-use Rattle.lrp_records.proofs.Public.{IsKeyOrder-place_order}
-use Rattle.task_records.specs.declared.state.TaskState.{TaskState}
-use Rattle.task_records.specs.declared.state.TaskState.TheVariants as task
-use Rattle.task_records.specs.declared.task.Task.{Task}
 use Rattle.cell_records.specs.Presence.{is_present}
 use Rattle.cell_records.specs.declared.answer.Answer.{Answer}
 use Rattle.cell_records.specs.declared.cell_row.CellRow.{CellRow}
-use Rattle.cell_records.specs.declared.job.Job.{Job}
-use Rattle.cell_records.specs.declared.job_name.JobName.{JobName}
-use Rattle.cell_records.specs.declared.job_name.JobName.TheVariants as name
-use Rattle.cell_rep.specs.Laws.{IsAnswerOf}
 use Rattle.cell_rep.specs.declared.rep.CellRep.{CellRep}
 use Rattle.crash_backoff.specs.declared.moment.Moment.{Moment}
-use Rattle.auctioneer.specs.Asked.{AreJobs, AreAnswers, IsSoundAnswer}
-use Rattle.bbs_model.specs.Tables.{find_desired}
+use Rattle.auctioneer.specs.Asked.{AreAnswers, IsSoundAnswer}
 use Rattle.bbs_model.specs.Valid.{IsValid}
 use Rattle.bbs_model.specs.declared.rows.Rows.{Rows}
-use Rattle.converge_round.specs.Askings.{present_at, present, IsHeardFrom, Hears, HearsIf, Asking, AsksOne, questions}
+use Rattle.converge_round.specs.Askings.{present_at, present, Hears, HearsIf, Asking, AsksOne}
 use Rattle.converge_round.specs.Each.{Each}
-use Rattle.converge_round.specs.Jobs.{job_of_place, instance_job, waiting_job, row_job, pending_job, task_job, jobs}
 use Rattle.converge_round.specs.Phases.{AreFewApart}
 use Rattle.converge_round.specs.Places.{is_being_emptied, OpensIf, OpensOne}
-use Rattle.converge_round.specs.Reps.{StandsFor}
-use Rattle.converge_round.proofs.Lists.{first_or_rest, from_kept}
+use Rattle.converge_round.proofs.Lists.{first_or_rest}
 
 -- some of these names, each at most once where these differ
 record AreOfNames (names kept : List (List ℕ)) : Type 0 where

@@ -1,13 +1,12 @@
 -- What a caller did, by what asked for it.
-use Rattle.std.proofs.Common.{◌≡◌, ℕ, ◌+◌, ◌≤◌, List, [], ◌∷◌, ◌++◌, length, refl, sym, ap, subst, ◌∙◌, append_assoc, arith, inl, inr, ◌⊎◌, ⊎_elim, Result, Ok, Err}
+use Rattle.std.proofs.Common.{◌≡◌, ℕ, List, [], ◌++◌, refl, ap, subst, ◌∙◌, append_assoc, arith, inl, inr, ⊎_elim, Result, Ok, Err}
 use Rattle.std.specs.Prelude.{OnOk}
 use Rattle.std.specs.List.{Contains}
-use Rattle.std.proofs.lemmas.List.Elements.{Contains-append_left, Contains-append_right, Contains-append_cases}
+use Rattle.std.proofs.lemmas.List.Elements.{Contains-append_left, Contains-append_cases}
 use Rattle.bbs_model.specs.PortView.{PortView, rows_seen, IsLater, Looks}
 use Rattle.bbs_model.specs.Replay.{command_in}
 use Rattle.bbs_model.specs.Work.{work}
 use Rattle.bbs_model.specs.declared.command.Command.{Command}
-use Rattle.bbs_model.specs.declared.item.Item.{Item}
 use Rattle.bbs_model.specs.declared.rows.Rows.{Rows}
 use Rattle.bbs_model.specs.declared.reply.CallFault.{CallFault}
 use Rattle.bbs_model.proofs.Public.{later_looks, later_same, later_then}
@@ -15,9 +14,9 @@ use Rattle.cell_records.specs.declared.answer.Answer.{Answer}
 use Rattle.cell_rep.specs.declared.rep.CellRep.{CellRep}
 use Rattle.convergence.specs.Plans.{plan_of_answers}
 use Rattle.crash_backoff.specs.declared.moment.Moment.{Moment}
-use Rattle.converge_round.specs.Callings.{Calling, calling, IsNoted, AreOf}
+use Rattle.converge_round.specs.Callings.{calling, IsNoted, AreOf}
 use Rattle.converge_round.specs.Each.{Each}
-use Rattle.converge_round.specs.Items.{IsAskedBetween, AreAsked, IsClaimIn, IsOfTable, WasSeen, AreHeard, AreLeft, WereLeft, AreFirstItems, HasFirstItems, HasItems}
+use Rattle.converge_round.specs.Items.{AreAsked, IsClaimIn, IsOfTable, WasSeen, AreHeard, AreLeft, WereLeft, AreFirstItems, HasFirstItems, HasItems}
 use Rattle.converge_round.specs.Phases.{AreCalledBy, ArePlaced, AreStopped, IsClaimFor, IsHearing, fails_in}
 use Rattle.converge_round.specs.Places.{placements, jobs_on, unplaced, fails_of}
 use Rattle.converge_round.specs.Reps.{KeepReps}

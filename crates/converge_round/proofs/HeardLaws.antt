@@ -1,5 +1,5 @@
 -- What is heard of a rep that was found by its place.
-use Rattle.std.proofs.Common.{◌≡◌, ℕ, ◌+◌, ◌<◌, Bool, true, false, cond, eqb, List, map, length, get_or, Option, Some, None, refl, sym, ap, subst, ◌∙◌, Result, Ok, Err}
+use Rattle.std.proofs.Common.{◌≡◌, ℕ, Bool, true, false, cond, eqb, List, get_or, Option, Some, None, refl, sym, ap, subst, ◌∙◌, Result, Ok, Err}
 use Rattle.std.specs.Prelude.{slice_get, IfOk}
 use Rattle.std.specs.Option.{option_map, option_map_or}
 use Rattle.std.proofs.lemmas.Bool.{eqb-true, eq-eqb}
@@ -9,8 +9,8 @@ use Rattle.cell_rep.specs.Laws.{HasStore}
 use Rattle.cell_rep.specs.Reps.{answer_of}
 use Rattle.cell_rep.specs.declared.rep.CellRep.{CellRep}
 use Rattle.cell_rep.proofs.Public.{reps_answer}
-use Rattle.converge_round.specs.Askings.{answer_under, StandApart, IsHeardFrom, Hears}
-use Rattle.converge_round.specs.Reps.{names_of, StandsFor, HasNoRep}
+use Rattle.converge_round.specs.Askings.{answer_under, StandApart, Hears}
+use Rattle.converge_round.specs.Reps.{names_of, StandsFor}
 use Rattle.converge_round.proofs.RepLaws.{stands-for}
 
 -- what holds of what was had

@@ -1,5 +1,5 @@
 -- The jobs that wait have names that differ.
-use Rattle.std.proofs.Common.{◌≡◌, ◌≢◌, ℕ, suc, ◌+◌, ◌<◌, Bool, true, false, cond, List, [], ◌∷◌, ◌++◌, length, map, Option, Some, None, refl, sym, ap, subst, ◌∙◌, arith, inl, inr, ◌⊎◌, ⊎_elim}
+use Rattle.std.proofs.Common.{◌≡◌, ◌≢◌, ℕ, suc, Bool, true, false, cond, List, [], ◌∷◌, ◌++◌, map, Option, Some, None, refl, sym, ap, subst, ◌∙◌, arith, inl, inr, ◌⊎◌, ⊎_elim}
 use Rattle.std.specs.Prelude.{nat_lt}
 use Rattle.std.specs.Cmp.{tied_itself}
 use Rattle.std.specs.List.{All, AllPairs, Contains, filter_map, cons_option}
@@ -29,7 +29,7 @@ use Rattle.auctioneer.specs.Asked.{AreJobs}
 use Rattle.bbs_model.specs.Tables.{find_desired}
 use Rattle.bbs_model.specs.Valid.{IsValid}
 use Rattle.bbs_model.specs.declared.rows.Rows.{Rows}
-use Rattle.converge_round.specs.Jobs.{job_of_place, instance_job, waiting_job, row_job, pending_job, task_job, jobs}
+use Rattle.converge_round.specs.Jobs.{job_of_place, waiting_job, row_job, pending_job, task_job, jobs}
 use Rattle.converge_round.proofs.Apart.{pairs_first}
 use Rattle.converge_round.proofs.Lists.{first_or_rest}
 

@@ -1,7 +1,9 @@
 pub mod Lists
 pub mod Eachs
 pub mod Owns
+pub mod SeenRows
 pub mod FaultLaws
+pub mod Sure
 pub mod RepLaws
 pub mod IndexLaws
 pub mod StartLaws

@@ -1,5 +1,5 @@
 -- What a caller did in between.
-use Rattle.std.proofs.Common.{◌≡◌, ℕ, ◌+◌, ◌<◌, ◌≤◌, List, [], ◌∷◌, ◌++◌, length, get_or, refl, sym, ap, subst, ◌∙◌, append_assoc, arith, length-append, Option, Some, None, Result, Ok, Err, ⊎_elim}
+use Rattle.std.proofs.Common.{◌≡◌, ℕ, ◌<◌, List, [], ◌∷◌, ◌++◌, length, get_or, refl, sym, ap, subst, ◌∙◌, append_assoc, arith, length-append, Result, Ok, Err, ⊎_elim}
 use Rattle.std.specs.List.{Contains}
 use Rattle.std.proofs.lemmas.List.{append-nil}
 use Rattle.std.proofs.lemmas.List.Elements.{Contains-append_left, Contains-append_right, Contains-append_cases, Contains-push_cases, Contains-get_or}
@@ -13,7 +13,6 @@ use Rattle.bbs_model.specs.declared.reply.CallFault.{CallFault}
 use Rattle.bbs_model.specs.declared.reply.CallFault.TheVariants as fault
 use Rattle.bbs_model.specs.declared.reply.Reply.{Reply}
 use Rattle.bbs_model.specs.declared.reply.Reply.TheVariants as reply
-use Rattle.crash_backoff.specs.declared.moment.Moment.{Moment}
 use Rattle.converge_round.specs.Callings.{AreOf}
 
 contains_none : (i : Item) → Contains [] i → ⊥

@@ -1,17 +1,14 @@
 -- What the start of a job does to the board and to its cell.
-use Rattle.std.proofs.Common.{◌≡◌, ℕ, ◌<◌, List, [], ◌∷◌, length, get_or, Option, Some, None, Result, Ok, Err, refl, sym, ap, subst, ◌∙◌, ⊎_elim}
+use Rattle.std.proofs.Common.{◌≡◌, ℕ, ◌<◌, List, [], ◌∷◌, length, get_or, Option, Some, None, Result, Ok, Err, refl, sym, ap, subst, ⊎_elim}
 use Rattle.std.specs.List.{Contains}
 use Rattle.std.proofs.lemmas.List.Elements.{Contains-get_or}
 use Rattle.bbs_model.specs.PortView.{PortView}
-use Rattle.bbs_model.specs.Work.{at}
 use Rattle.bbs_model.specs.declared.command.Command.{Command}
-use Rattle.bbs_model.specs.declared.reply.CallFault.{CallFault}
-use Rattle.bbs_model.specs.declared.reply.Reply.{Reply}
 use Rattle.cell_records.specs.declared.job.Job.{Job}
 use Rattle.cell_rep.specs.Acts.{claim_op, claim_todo, job_claim, job_todo}
 use Rattle.cell_rep.specs.Claims.{Claimed}
 use Rattle.cell_rep.specs.Deliveries.{IsDelivered}
-use Rattle.cell_rep.specs.Follows.{Stage, Follows, IsStarted, EndsOf, moved_by, after_todo}
+use Rattle.cell_rep.specs.Follows.{Stage, Follows, IsStarted, EndsOf}
 use Rattle.cell_rep.specs.Wires.{WireEnds}
 use Rattle.cell_rep.specs.declared.call_end.CallEnd.{CallEnd}
 use Rattle.cell_rep.specs.declared.call_end.CallEnd.TheVariants.{Got, Fault, CallLost, ReplyLost, Local, Idle}
@@ -22,7 +19,6 @@ use Rattle.cell_rep.specs.declared.todo.Todo.{Todo}
 use Rattle.cell_rep.specs.declared.todo.Todo.TheVariants as todo
 use Rattle.container_store.specs.declared.refusal.StoreRefusal.{StoreRefusal}
 use Rattle.crash_backoff.specs.declared.moment.Moment.{Moment}
-use Rattle.diego_names.specs.declared.instance.Instance.{Instance}
 use Rattle.cell_rep.proofs.Public.{keeps_started}
 use Rattle.converge_round.specs.Callings.{AreOf}
 use Rattle.cell_records.specs.declared.answer.Answer.{Answer}

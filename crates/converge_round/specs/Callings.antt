@@ -1,5 +1,5 @@
 -- What a caller does to a board, one command after another.
-use Rattle.std.specs.Prelude.{◌≡◌, ℕ, List, Ok}
+use Rattle.std.specs.Prelude.{◌≡◌, ℕ, Ok}
 use Rattle.std.specs.List.{Contains}
 use Rattle.bbs_model.specs.Calls.{by_of}
 use Rattle.bbs_model.specs.PortView.{PortView, IsCalled, IsLater}

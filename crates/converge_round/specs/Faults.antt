@@ -1,11 +1,12 @@
 -- Why a round ended with a fault.
-use Rattle.std.specs.Prelude.{◌≡◌, ◌≤◌, ◌⊎◌, ℕ, length, slice_get, Some, Err}
-use Rattle.std.specs.List.{Contains}
+use Rattle.std.specs.Prelude.{◌≡◌, ◌≤◌, ◌⊎◌, ℕ, Bool, true, false, List, ◌++◌, length, slice_get, Some, Result, Ok, Err}
+use Rattle.std.specs.List.{Contains, list_all}
 use Rattle.cell_rep.specs.declared.call_end.CallEnd.{CallEnd}
 use Rattle.cell_rep.specs.declared.call_end.CallEnd.TheVariants.{Fault, ReplyLost}
 use Rattle.bbs_model.specs.PortView.{PortView, IsLater}
 use Rattle.bbs_model.specs.declared.command.Command.{Command}
-use Rattle.bbs_model.specs.declared.item.Item.TheVariants.{Doubt}
+use Rattle.bbs_model.specs.declared.item.Item.{Item}
+use Rattle.bbs_model.specs.declared.item.Item.TheVariants.{Done, Doubt}
 use Rattle.bbs_model.specs.declared.reply.CallFault.{CallFault}
 use Rattle.bbs_model.specs.declared.reply.CallFault.TheVariants as fault
 
@@ -24,3 +25,29 @@ pub record IsCausedBy (by : ℕ) (v w : PortView) (why : CallFault) : Type 0 whe
 -- the call of a start ended with that fault, or its reply, which was lost, was that fault, or memory ran out
 abbrev pub IsFaultOf : CallEnd → CallFault → Type 0
 IsFaultOf end why = (end ≡ Fault why) ⊎ ((end ≡ ReplyLost (Err why)) ⊎ (why ≡ fault.OutOfMemory))
+
+-- a fault of the disk that the call of a start ended with, or that its lost reply was, is the one told
+abbrev pub IsTold : CallEnd → Result (Unit {0}) CallFault → Type 0
+IsTold end told =
+    (place : ℕ) → (end ≡ Fault (fault.Disk place)) ⊎ (end ≡ ReplyLost (Err (fault.Disk place))) → told ≡ Err (fault.Disk place)
+
+-- the item was acknowledged
+abbrev pub is_sure : Item → Bool
+is_sure (Done by c) = true
+is_sure (Doubt by c) = false
+
+-- nothing that a caller did in between is in doubt
+pub record HasNoDoubt (v w : PortView) : Type 0 where
+  pub items : List Item
+  pub mine_is : w.mine ≡ v.mine ++ items
+  pub all_sure : list_all is_sure items ≡ true
+
+-- and so it is behind a fault, unless the disk failed
+abbrev pub IsSureFault : CallFault → PortView → PortView → Type 0
+IsSureFault (fault.Disk place) v w = Unit {0}
+IsSureFault fault.OutOfMemory v w = HasNoDoubt v w
+
+-- so it is behind what came to this end: want of memory hides no doubt
+abbrev pub IsSure : {X : Type 0} → Result X CallFault → PortView → PortView → Type 0
+IsSure (Ok x) v w = HasNoDoubt v w
+IsSure (Err why) v w = IsSureFault why v w

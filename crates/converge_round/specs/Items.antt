@@ -1,10 +1,8 @@
 -- What a caller did, by the tables that asked for it.
 use Rattle.std.specs.Prelude.{◌≡◌, ◌⊎◌, ℕ, List, [], Result, IfOk}
 use Rattle.std.specs.List.{Contains}
-use Rattle.auctioneer.specs.declared.placement.Placement.TheVariants.{On}
 use Rattle.cell_records.specs.declared.answer.Answer.{Answer}
 use Rattle.cell_records.specs.declared.cell_row.CellRow.{CellRow}
-use Rattle.cell_records.specs.declared.job.Job.{Job}
 use Rattle.cell_rep.specs.declared.rep.CellRep.{CellRep}
 use Rattle.convergence.specs.Plans.{plan_of_answers}
 use Rattle.crash_backoff.specs.declared.moment.Moment.{Moment}

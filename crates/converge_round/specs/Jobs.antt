@@ -1,5 +1,5 @@
 -- The work that waits for a cell.
-use Rattle.std.specs.Prelude.{ℕ, nat_lt, List, ◌++◌, Option, Some, None, if◌then◌else◌}
+use Rattle.std.specs.Prelude.{nat_lt, List, ◌++◌, Option, Some, None, if◌then◌else◌}
 use Rattle.std.specs.List.{filter_map}
 use Rattle.std.specs.Option.{option_and_then, option_map}
 use Rattle.cell_records.specs.declared.job.Job.{Job}

@@ -3,6 +3,7 @@ pub mod Tallies
 pub mod Callings
 pub mod Faults
 pub mod CellJobs
+pub mod SeenRows
 pub mod Sendings
 pub mod Reps
 pub mod Jobs

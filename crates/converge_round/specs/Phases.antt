@@ -12,22 +12,19 @@ use Rattle.bbs_model.specs.Valid.{IsValid}
 use Rattle.bbs_model.specs.Work.{work}
 use Rattle.bbs_model.specs.declared.command.Command.{Command}
 use Rattle.bbs_model.specs.declared.rows.Rows.{Rows}
-use Rattle.auctioneer.specs.declared.placement.Placement.{Placement}
 use Rattle.converge_round.specs.Askings.{present, AsksOne, questions}
 use Rattle.converge_round.specs.Callings.{Calling, calling, IsNoted}
 use Rattle.converge_round.specs.Each.{Each}
 use Rattle.converge_round.specs.Places.{OpensOne, placements, jobs_on, unplaced, fails_of}
 use Rattle.converge_round.specs.Reps.{StandsFor, HasNoRep}
 use Rattle.converge_round.specs.Sendings.{WireAt}
-use Rattle.converge_round.specs.Starts.{Serving, serving, StartsOne, IsClaimOfOne}
+use Rattle.converge_round.specs.Starts.{serving, StartsOne, IsClaimOfOne}
 use Rattle.converge_round.specs.Stops.{Stopping, stops_at, StopsOne, so_far}
-use Rattle.converge_round.specs.Tallies.{no_calls}
 use Rattle.converge_round.specs.declared.opening.Hearing.{Hearing}
 use Rattle.converge_round.specs.declared.opening.Opening.{Opening}
 use Rattle.converge_round.specs.declared.placing.Places.{Places}
 use Rattle.converge_round.specs.declared.stopping.Stops.{Stops}
 use Rattle.converge_round.specs.declared.tally.Tally.{Tally}
-use Rattle.convergence.specs.declared.report.Report.{Report}
 
 -- there are at most 1,000 answers, and no two of one name
 pub record AreFewApart (answers : List Answer) : Type 0 where

@@ -1,5 +1,5 @@
 -- A whole round, and what its report says of it.
-use Rattle.std.specs.Prelude.{◌≡◌, ℕ, ◌+◌, ◌-◌, ◌^◌, ◌≤◌, min, List, [], length}
+use Rattle.std.specs.Prelude.{◌≡◌, ℕ, ◌+◌, ◌-◌, ◌^◌, min, List, length}
 use Rattle.std.specs.List.{filter_map}
 use Rattle.cell_rep.specs.Reps.{answer_of}
 use Rattle.cell_rep.specs.declared.rep.CellRep.{CellRep}
@@ -27,7 +27,7 @@ pub record IsReport (line start : ℕ) (o : Opening) (tally : Tally) (reps : Lis
   pub own : r.own ≡ tally.own
   pub foreign : r.foreign ≡ (r.end - start) - tally.own
   pub stopped : r.stopped ≡ o.stopped
-  pub stores : r.stores ≡ filter_map answer_of reps
+  pub stores : r.stores.value ≡ filter_map answer_of reps
 
 -- what a round has seen of the board, the reps and the wire
 pub record Standing : Type 0 where

@@ -1,5 +1,5 @@
 -- How jobs are started on cells.
-use Rattle.std.specs.Prelude.{◌≡◌, ◌⊎◌, ℕ, Bool, true, false, List, [], ◌∷◌, Option, Some, None, Ok, Err, set}
+use Rattle.std.specs.Prelude.{◌≡◌, ℕ, Bool, true, false, List, [], ◌∷◌, Option, Some, None, Ok, Err}
 use Rattle.std.specs.List.{Contains}
 use Rattle.cell_records.specs.declared.job.Job.{Job}
 use Rattle.cell_rep.specs.Acts.{claim_op}
@@ -15,7 +15,6 @@ use Rattle.bbs_model.specs.PortView.{PortView}
 use Rattle.bbs_model.specs.Work.{at}
 use Rattle.bbs_model.specs.declared.command.Command.{Command}
 use Rattle.bbs_model.specs.declared.reply.Reply.{Reply}
-use Rattle.converge_round.specs.Reps.{StandsFor, HasNoRep}
 use Rattle.converge_round.specs.Sendings.{WireAt, IsSent}
 use Rattle.converge_round.specs.Tallies.{noted, lost_one}
 use Rattle.converge_round.specs.declared.tally.Tally.{Tally}

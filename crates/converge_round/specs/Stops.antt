@@ -1,5 +1,5 @@
 -- How containers that are of no use are stopped.
-use Rattle.std.specs.Prelude.{◌≡◌, ◌⊎◌, ℕ, Bool, true, false, List, [], ◌∷◌, ◌++◌, set}
+use Rattle.std.specs.Prelude.{◌≡◌, ℕ, Bool, true, false, List, [], ◌∷◌, ◌++◌, set}
 use Rattle.diego_names.specs.declared.instance.Instance.{Instance}
 use Rattle.cell_rep.specs.Ends.{without}
 use Rattle.cell_rep.specs.declared.rep.CellRep.{CellRep}

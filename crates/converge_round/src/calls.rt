@@ -4,7 +4,7 @@ ghost use Rattle.std.specs.List.{Contains};
 ghost use Rattle.bbs_model.specs.declared.reply.CallFault.TheVariants as fault;
 ghost use Rattle.converge_round.specs.Callings.{calling, IsNoted, AreOf};
 ghost use Rattle.converge_round.specs.Each.{Each};
-ghost use Rattle.converge_round.specs.Faults.{IsCausedBy};
+ghost use Rattle.converge_round.specs.Faults.{IsCausedBy, IsSure};
 ghost use Rattle.converge_round.specs.Tallies.{noted};
 
 use crate::tally::Tally;
@@ -33,6 +33,7 @@ fn call_once<P: Port>(port: &mut P, command: &Command, tally: &mut Tally) -> Res
     ensures own { AreOf (P.number port.old) (λ c. c ≡ command.entry.now) (P.view port.old) (P.view port.new) }
     ensures cause { IfErr result (IsCausedBy (P.number port.old)
         (P.view port.old) (P.view port.new)) }
+    ensures sure { IsSure result (P.view port.old) (P.view port.new) }
     ensures noted { OnOk result (IsNoted (P.number port.old) command.entry.now
         (calling (P.view port.old) tally.old) (calling (P.view port.new) tally.new)) }
 {
@@ -54,6 +55,7 @@ pub fn call_each<P: Port>(
         (P.view port.old) (P.view port.new) }
     ensures cause { IfErr result (IsCausedBy (P.number port.old)
         (P.view port.old) (P.view port.new)) }
+    ensures sure { IsSure result (P.view port.old) (P.view port.new) }
     ensures noted { OnOk result (Each (IsNoted (P.number port.old)) commands.now
         (calling (P.view port.old) tally.old) (calling (P.view port.new) tally.new)) }
 {

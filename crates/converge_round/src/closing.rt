@@ -7,7 +7,7 @@ ghost use Rattle.bbs_model.specs.Valid.{IsValid};
 ghost use Rattle.cell_rep.specs.Reps.{answer_of};
 ghost use Rattle.converge_round.specs.Callings.{calling, IsNoted, AreOf};
 ghost use Rattle.converge_round.specs.Each.{Each};
-ghost use Rattle.converge_round.specs.Faults.{IsCausedBy};
+ghost use Rattle.converge_round.specs.Faults.{IsCausedBy, IsSure};
 ghost use Rattle.converge_round.specs.Phases as told;
 ghost use Rattle.converge_round.specs.Places.{unplaced as without_room};
 ghost use Rattle.converge_round.specs.Rounds.{IsReport};
@@ -24,6 +24,7 @@ use convergence::Report;
 use crash_backoff::Moment;
 use diego_names::{List, OutOfMemory};
 use std::alloc::Global;
+use std::snapshot::Snapshot;
 
 /// One store more, if the rep answers.
 fn add_store(alloc: Global, stores: &mut List<Answer>, rep: &CellRep) -> Result<(), OutOfMemory>
@@ -61,6 +62,7 @@ pub(crate) fn call_fails<P: Port>(
         (P.view port.old) (P.view port.new) }
     ensures cause { IfErr result (IsCausedBy (P.number port.old)
         (P.view port.old) (P.view port.new)) }
+    ensures sure { IsSure result (P.view port.old) (P.view port.new) }
     ensures unplaced { IfOk result
         (λ jobs. jobs ≡ without_room opening.entry.now.places.placements) }
     ensures noted { IfOk result (λ _. Each (IsNoted (P.number port.old))
@@ -113,7 +115,7 @@ pub(crate) fn report_of<P: Port>(
             foreign: end.saturating_sub(start).saturating_sub(tally.own),
             own: tally.own,
             stopped: opening.stopped,
-            stores,
+            stores: Snapshot::of(&stores),
         }),
     }
 }

@@ -4,7 +4,7 @@ ghost use Rattle.bbs_model.specs.Valid.{IsValid};
 ghost use Rattle.converge_round.specs.Callings.{AreOf};
 ghost use Rattle.converge_round.specs.CellJobs.{AreCellJobs};
 ghost use Rattle.converge_round.specs.Each.{Each};
-ghost use Rattle.converge_round.specs.Faults.{IsCausedBy};
+ghost use Rattle.converge_round.specs.Faults.{IsCausedBy, IsSure};
 ghost use Rattle.converge_round.specs.Items.{HasItems};
 ghost use Rattle.converge_round.specs.Phases as told;
 ghost use Rattle.converge_round.specs.Places.{jobs_on as jobs_there};
@@ -47,6 +47,7 @@ fn claim_at<P: Port, W: Wire>(
         (P.view port.old) (P.view port.new) }
     ensures cause { IfErr result (IsCausedBy (P.number port.old)
         (P.view port.old) (P.view port.new)) }
+    ensures sure { IsSure result (P.view port.old) (P.view port.new) }
     ensures cells { KeepReps cells.old cells.new }
     ensures serves { OnOk result ((cell : List ℕ) →
         slice_get (names_of cells.old) at ≡ Some cell →
@@ -81,6 +82,7 @@ fn start_on<P: Port, W: Wire>(
         (P.view port.old) (P.view port.new) }
     ensures cause { IfErr result (IsCausedBy (P.number port.old)
         (P.view port.old) (P.view port.new)) }
+    ensures sure { IsSure result (P.view port.old) (P.view port.new) }
     ensures cells { KeepReps cells.old cells.new }
     ensures serves { OnOk result (told.ServesOne (P.number port.old) now places.entry.now
         answer.entry.now
@@ -118,6 +120,7 @@ fn start_each<P: Port, W: Wire>(
         (P.view port.old) (P.view port.new) }
     ensures cause { IfErr result (IsCausedBy (P.number port.old)
         (P.view port.old) (P.view port.new)) }
+    ensures sure { IsSure result (P.view port.old) (P.view port.new) }
     ensures cells { KeepReps cells.old cells.new }
     ensures serves { OnOk result (Each (told.ServesOne (P.number port.old) now places.entry.now)
         places.entry.now.roomy
@@ -158,6 +161,7 @@ pub fn round<P: Port, W: Wire>(
         (P.view port.old) (P.view port.new) }
     ensures cause { IfErr result (IsCausedBy (P.number port.old)
         (P.view port.old) (P.view port.new)) }
+    ensures sure { IsSure result (P.view port.old) (P.view port.new) }
     ensures cells { KeepReps cells.old cells.new }
     ensures account { IfOk result (IsRound (P.number port.old) now line
         (standing (P.view port.old) cells.old (wire_at (W.ends wire.old) (W.losses wire.old)))

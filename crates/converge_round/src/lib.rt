@@ -12,6 +12,7 @@ mod jobs;
 mod opening;
 mod placing;
 mod rep_index;
+mod seen_rows;
 mod sending;
 mod starting;
 mod stopping;

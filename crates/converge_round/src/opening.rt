@@ -6,16 +6,18 @@ ghost use Rattle.bbs_model.specs.Valid.{IsValid};
 ghost use Rattle.bbs_model.specs.Work.{work};
 ghost use Rattle.convergence.specs.Plans.{plan_of_answers};
 ghost use Rattle.converge_round.specs.Callings.{calling};
-ghost use Rattle.converge_round.specs.Faults.{IsCausedBy};
+ghost use Rattle.converge_round.specs.Faults.{IsCausedBy, IsSure};
 ghost use Rattle.converge_round.specs.Items.{AreAsked, HasFirstItems};
 ghost use Rattle.converge_round.specs.Reps.{names_of, IsRepIndex, KeepReps};
 ghost use Rattle.converge_round.specs.Phases as told;
+ghost use Rattle.converge_round.specs.SeenRows.{AreSeen, WereSeen};
 ghost use Rattle.converge_round.specs.Sendings.{wire_at};
 
 use crate::asking::{ask_each, present_cells};
 use crate::calls::call_each;
 use crate::placing::{Places, place_on};
 use crate::rep_index::RepIndex;
+use crate::seen_rows::SeenRows;
 use crate::stopping::{Stops, stop_strays};
 use crate::tally::Tally;
 use bbs_model::{CallFault, Command, Port, Rows};
@@ -76,18 +78,22 @@ fn hear<P: Port, W: Wire>(
     index: &RepIndex,
     wire: &mut W,
     now: Moment,
-) -> Result<Hearing, OutOfMemory>
+) -> Result<(Hearing, SeenRows), OutOfMemory>
     requires { IsRepIndex (names_of cells.now) index.now }
     ensures keeps { P.keeps port.old port.new }
     ensures number { P.number port.new ≡ P.number port.old }
     ensures looks { Looks (P.view port.old) (P.view port.new) }
-    ensures heard { IfOk result (told.IsHearing cells.now (rows_seen (P.view port.new)) now
+    ensures heard { IfOk result (λ x. told.IsHearing cells.now (rows_seen (P.view port.new)) now
         (wire_at (W.ends wire.old) (W.losses wire.old))
-        (wire_at (W.ends wire.new) (W.losses wire.new))) }
+        (wire_at (W.ends wire.new) (W.losses wire.new)) x.0) }
+    ensures seen { IfOk result (λ x. AreSeen (P.view port.new) x.1) }
 {
-    match port.rows(alloc) {
+    match SeenRows::read(alloc, port) {
         Err(want) => Err(want),
-        Ok(rows) => hear_of(alloc, &rows, cells, index, wire, now),
+        Ok(seen) => match hear_of(alloc, &seen.rows, cells, index, wire, now) {
+            Err(want) => Err(want),
+            Ok(heard) => Ok((heard, seen)),
+        },
     }
 }
 
@@ -104,6 +110,7 @@ fn call_work<P: Port>(
         (P.view port.old) (P.view port.new) }
     ensures cause { IfErr result (IsCausedBy (P.number port.old)
         (P.view port.old) (P.view port.new)) }
+    ensures sure { IsSure result (P.view port.old) (P.view port.new) }
     ensures called { OnOk result (told.AreCalledBy (P.number port.old) (λ rows. work rows now)
         (calling (P.view port.old) tally.old) (calling (P.view port.new) tally.new)) }
 {
@@ -113,22 +120,25 @@ fn call_work<P: Port>(
     }
 }
 
-/// What the answers ask for, at rows that are read now.
+/// What the answers ask for, by the rows of now.
 fn read_plan<P: Port>(
     alloc: Global,
     port: &mut P,
+    seen: &mut SeenRows,
     got: &[Answer],
     now: Moment,
 ) -> Result<List<Command>, OutOfMemory>
+    requires { WereSeen (P.view port.old) seen.old }
     ensures keeps { P.keeps port.old port.new }
     ensures number { P.number port.new ≡ P.number port.old }
     ensures looks { Looks (P.view port.old) (P.view port.new) }
     ensures plan { IfOk result
         (λ list. list ≡ plan_of_answers (rows_seen (P.view port.new)) got.now now) }
+    ensures seen { OnOk result (AreSeen (P.view port.new) seen.new) }
 {
-    match port.rows(alloc) {
+    match seen.renew(alloc, port) {
         Err(want) => Err(want),
-        Ok(rows) => plan(alloc, &rows, got, now),
+        Ok(()) => plan(alloc, &seen.rows, got, now),
     }
 }
 
@@ -136,10 +146,12 @@ fn read_plan<P: Port>(
 fn call_plan<P: Port>(
     alloc: Global,
     port: &mut P,
+    seen: &mut SeenRows,
     got: &[Answer],
     now: Moment,
     tally: &mut Tally,
 ) -> Result<(), CallFault>
+    requires { WereSeen (P.view port.old) seen.old }
     ensures keeps { P.keeps port.old port.new }
     ensures number { P.number port.new ≡ P.number port.old }
     ensures own { AreAsked (P.number port.old)
@@ -147,24 +159,28 @@ fn call_plan<P: Port>(
         (P.view port.old) (P.view port.new) }
     ensures cause { IfErr result (IsCausedBy (P.number port.old)
         (P.view port.old) (P.view port.new)) }
+    ensures sure { IsSure result (P.view port.old) (P.view port.new) }
     ensures called { OnOk result (told.AreCalledBy (P.number port.old)
         (λ rows. plan_of_answers rows got.entry.now now)
         (calling (P.view port.old) tally.old) (calling (P.view port.new) tally.new)) }
+    ensures seen { OnOk result (WereSeen (P.view port.new) seen.new) }
 {
-    match read_plan(alloc, port, got, now) {
+    match read_plan(alloc, port, seen, got, now) {
         Err(_) => Err(CallFault::OutOfMemory),
         Ok(commands) => call_each(port, commands.items(), tally),
     }
 }
 
-/// Reads the rows, and places the work that waits.
+/// Places the work that waits by the rows of now.
 fn place_work<P: Port>(
     alloc: Global,
     port: &mut P,
+    mut seen: SeenRows,
     cells: &[CellRep],
     index: &RepIndex,
     got: &[Answer],
 ) -> Result<Places, OutOfMemory>
+    requires seen { WereSeen (P.view port.old) seen }
     requires index { IsRepIndex (names_of cells.now) index.now }
     requires got { told.AreFewApart got.now }
     ensures keeps { P.keeps port.old port.new }
@@ -173,9 +189,9 @@ fn place_work<P: Port>(
     ensures placed { IfOk result
         (told.ArePlaced (rows_seen (P.view port.new)) cells.now got.now) }
 {
-    match port.rows(alloc) {
+    match seen.renew(alloc, port) {
         Err(want) => Err(want),
-        Ok(rows) => place_on(alloc, rows, cells, index, got),
+        Ok(()) => place_on(alloc, seen.rows, cells, index, got),
     }
 }
 
@@ -212,6 +228,7 @@ pub fn open_round<P: Port, W: Wire>(
         (P.view port.old) (P.view port.new) result }
     ensures cause { IfErr result (IsCausedBy (P.number port.old)
         (P.view port.old) (P.view port.new)) }
+    ensures sure { IsSure result (P.view port.old) (P.view port.new) }
     ensures cells { KeepReps cells.old cells.new }
     ensures opened { IfOk result (told.IsOpenedRound (P.number port.old) now
         (told.course (P.view port.old) tally.old cells.old
@@ -219,23 +236,31 @@ pub fn open_round<P: Port, W: Wire>(
         (told.course (P.view port.new) tally.new cells.new
         (wire_at (W.ends wire.new) (W.losses wire.new)))) }
 {
-    let heard = match hear(alloc, port, cells, index, wire, now) {
+    let (heard, mut seen) = match hear(alloc, port, cells, index, wire, now) {
         Err(_) => return Err(CallFault::OutOfMemory),
-        Ok(heard) => heard,
+        Ok(both) => both,
     };
     match call_work(alloc, port, now, tally) {
         Err(fault) => return Err(fault),
         Ok(()) => {}
     }
-    match call_plan(alloc, port, heard.got.items(), now, tally) {
+    match call_plan(alloc, port, &mut seen, heard.got.items(), now, tally) {
         Err(fault) => return Err(fault),
         Ok(()) => {}
     }
-    let stops = match stop_strays(alloc, port, cells, index, wire, heard.got.items()) {
+    let stops = match stop_strays(
+        alloc,
+        port,
+        &mut seen,
+        cells,
+        index,
+        wire,
+        heard.got.items(),
+    ) {
         Err(_) => return Err(CallFault::OutOfMemory),
         Ok(stops) => stops,
     };
-    match place_work(alloc, port, cells, index, heard.got.items()) {
+    match place_work(alloc, port, seen, cells, index, heard.got.items()) {
         Err(_) => Err(CallFault::OutOfMemory),
         Ok(places) => Ok(opening_of(&heard, stops, places)),
     }

@@ -3,7 +3,7 @@ ghost use Rattle.std.specs.Prelude.{◌≡◌, IfErr, IsOkUnless, OnOk};
 ghost use Rattle.bbs_model.specs.declared.reply.CallFault.TheVariants as fault;
 ghost use Rattle.converge_round.specs.Callings.{AreOf};
 ghost use Rattle.converge_round.specs.Each.{Each};
-ghost use Rattle.converge_round.specs.Faults.{IsCausedBy, IsFaultOf};
+ghost use Rattle.converge_round.specs.Faults.{IsCausedBy, IsFaultOf, IsSure, IsTold};
 ghost use Rattle.converge_round.specs.Reps.{SameRep};
 ghost use Rattle.converge_round.specs.Sendings.{wire_at};
 ghost use Rattle.converge_round.specs.Starts as told;
@@ -38,6 +38,7 @@ fn count_end(tally: &mut Tally, called: &Called) -> Result<(), CallFault>
     ensures counts { OnOk result (tally.new
         ≡ told.counted called.entry.now.command called.entry.now.end tally.old) }
     ensures cause { IfErr result (IsFaultOf called.entry.now.end) }
+    ensures told { IsTold called.entry.now.end result }
 {
     match &called.end {
         CallEnd::Got(reply) => count_answer(tally, &called.command, reply),
@@ -70,6 +71,7 @@ fn start<P: Port, W: Wire>(
         (P.view port.old) (P.view port.new) }
     ensures cause { IfErr result (IsCausedBy (P.number port.old)
         (P.view port.old) (P.view port.new)) }
+    ensures sure { IsSure result (P.view port.old) (P.view port.new) }
     ensures rep { SameRep rep.old rep.new }
     ensures starts { OnOk result (told.StartsOne (P.number port.old) now job.entry.now
         (told.serving rep.old (P.view port.old) tally.old
@@ -102,6 +104,7 @@ pub fn claim_on<P: Port, W: Wire>(
         (P.view port.old) (P.view port.new) }
     ensures cause { IfErr result (IsCausedBy (P.number port.old)
         (P.view port.old) (P.view port.new)) }
+    ensures sure { IsSure result (P.view port.old) (P.view port.new) }
     ensures rep { SameRep rep.old rep.new }
     ensures starts { OnOk result (Each (told.StartsOne (P.number port.old) now) jobs.entry.now
         (told.serving rep.old (P.view port.old) tally.old

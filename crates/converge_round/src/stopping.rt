@@ -6,10 +6,12 @@ ghost use Rattle.cell_rep.specs.Ends.{without};
 ghost use Rattle.converge_round.specs.Each.{Each};
 ghost use Rattle.converge_round.specs.Phases.{AreStopped};
 ghost use Rattle.converge_round.specs.Reps.{names_of, IsRepIndex, KeepReps};
+ghost use Rattle.converge_round.specs.SeenRows.{AreSeen, WereSeen};
 ghost use Rattle.converge_round.specs.Sendings.{wire_at};
 ghost use Rattle.converge_round.specs.Stops as told;
 
 use crate::rep_index::RepIndex;
+use crate::seen_rows::SeenRows;
 use crate::sending::reaches;
 use bbs_model::{Port, Rows};
 use cell_records::Answer;
@@ -153,16 +155,18 @@ fn stop_by<W: Wire>(
     }
 }
 
-/// Reads the rows, and stops what no row needs.
+/// Stops what no row of now needs.
 pub(crate) fn stop_strays<P: Port, W: Wire>(
     alloc: Global,
     port: &mut P,
+    seen: &mut SeenRows,
     cells: &mut [CellRep],
     index: &RepIndex,
     wire: &mut W,
     got: &[Answer],
 ) -> Result<Stops, OutOfMemory>
-    requires { IsRepIndex (names_of cells.old) index.now }
+    requires seen { WereSeen (P.view port.old) seen.old }
+    requires index { IsRepIndex (names_of cells.old) index.now }
     ensures keeps { P.keeps port.old port.new }
     ensures number { P.number port.new ≡ P.number port.old }
     ensures looks { Looks (P.view port.old) (P.view port.new) }
@@ -170,9 +174,10 @@ pub(crate) fn stop_strays<P: Port, W: Wire>(
     ensures stops { IfOk result (AreStopped (rows_seen (P.view port.new)) got.entry.now
         (told.stops_at (wire_at (W.ends wire.old) (W.losses wire.old)) cells.old)
         (told.stops_at (wire_at (W.ends wire.new) (W.losses wire.new)) cells.new)) }
+    ensures seen { OnOk result (AreSeen (P.view port.new) seen.new) }
 {
-    match port.rows(alloc) {
+    match seen.renew(alloc, port) {
         Err(want) => Err(want),
-        Ok(rows) => stop_by(alloc, &rows, cells, index, wire, got),
+        Ok(()) => stop_by(alloc, &seen.rows, cells, index, wire, got),
     }
 }

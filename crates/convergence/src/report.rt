@@ -1,9 +1,10 @@
 use bbs_model::{BoardRefusal, Command};
 use cell_records::{Answer, JobName};
 use diego_names::{Instance, List, Name};
+use std::snapshot::Snapshot;
 
 /// What a round tells of itself. It stands here, below the round, since printing needs it too.
-#[derive(Debug, Drop)]
+#[derive(Drop)]
 pub struct Report {
     /// The line of the scenario that asked for the round, from 1.
     pub line: u32,
@@ -26,6 +27,7 @@ pub struct Report {
     pub own: u64,
     /// The containers that were stopped, each with its cell.
     pub stopped: List<(Name, Instance)>,
-    /// What the cells' reps answer after the round, of those that answer.
-    pub stores: List<Answer>,
+    /// What the cells' reps answer after the round, of those that answer. Only clauses read it, so it has no bytes:
+    /// a report takes no more memory where cells hold more containers.
+    pub stores: Snapshot<List<Answer>>,
 }

@@ -16,8 +16,9 @@ use Rattle.scenario_lines.specs.declared.script.Script.{Script}
 use Rattle.scenario_reader.specs.Accepted.{script_of}
 use Rattle.scenario_reader.specs.declared.fault.ScriptFault.{ScriptFault}
 use Rattle.locket.specs.Lives.{LockLog}
+use Rattle.large_runs.proofs.Public.{large_never}
 use Rattle.lock_runs.proofs.Public as lock
-use Rattle.program_tools.specs.Still.{IsStopped, MeetsNoBoard, MeetsObstacle, PrepareEnds, ReadsWell, UsageEnds}
+use Rattle.program_tools.specs.Still.{GenerateEnds, IsStopped, MeetsNoBoard, MeetsObstacle, PrepareEnds, ReadsWell, UsageEnds}
 use Rattle.program_tools.specs.Words.{asks_for_source}
 use Rattle.program_tools.specs.declared.words.Asked.{Asked}
 use Rattle.program_tools.specs.declared.words.Asked.TheVariants as asked
@@ -47,6 +48,11 @@ module _ {D : Type 0} (told : D → Option Past) (faults moment : D → ℕ) (wo
   prepare_never (ending.Damaged area at) n h = h
   prepare_never how n h = absurd (omega (arith, n))
 
+  generate_never : (number : ℕ) (how : Ending) → status_of how ≡ 6 → GenerateEnds number how v w → ⊥
+  generate_never number (ending.NotABoard area) n h = h
+  generate_never number (ending.Damaged area at) n h = h
+  generate_never number how n h = absurd (omega (arith, n))
+
   usage_never : (how : Ending) → status_of how ≡ 6 → UsageEnds how v w → ⊥
   usage_never (ending.NotABoard area) n h = h
   usage_never (ending.Damaged area at) n h = h
@@ -60,6 +66,8 @@ module _ {D : Type 0} (told : D → Option Past) (faults moment : D → ℕ) (wo
   reached_from how (Some asked.Prepare) n h = absurd (prepare_never how n h.still)
   reached_from how (Some asked.Records) n h = tt
   reached_from how (Some asked.Check) n h = tt
+  reached_from how (Some (asked.Generate number)) n h = absurd (generate_never number how n h.still)
+  reached_from how (Some (asked.Large number)) n h = absurd (large_never number e _ _ _ _ how 6 refl n h.large)
   reached_from how None n h = absurd (usage_never how n h.still)
 
   -- ---- words that ask for no run
@@ -79,6 +87,8 @@ module _ {D : Type 0} (told : D → Option Past) (faults moment : D → ℕ) (wo
       still.stopped_from v w how (Some asked.Records) wanted left h.still m told disk
   stopped_from how (Some asked.Check) wanted n n' h m well read told disk =
       still.stopped_from v w how (Some asked.Check) wanted left h.still m told disk
+  stopped_from how (Some (asked.Generate number)) wanted n n' h m well read told disk = absurd m
+  stopped_from how (Some (asked.Large number)) wanted n n' h m well read told disk = absurd m
   stopped_from how None wanted n n' h m well read told disk = absurd m
 
   -- the same, of the number that is handed back
@@ -130,6 +140,8 @@ module _ {D : Type 0} (told : D → Option Past) (faults moment : D → ℕ) (wo
   no_board_from how (Some asked.Prepare) h m is_told read disk = absurd m
   no_board_from how (Some asked.Records) h m is_told read disk = absurd m
   no_board_from how (Some asked.Check) h m is_told read disk = absurd m
+  no_board_from how (Some (asked.Generate number)) h m is_told read disk = absurd m
+  no_board_from how (Some (asked.Large number)) h m is_told read disk = absurd m
   no_board_from how None h m is_told read disk = absurd m
 
   -- ---- a byte too much
@@ -155,4 +167,6 @@ module _ {D : Type 0} (told : D → Option Past) (faults moment : D → ℕ) (wo
   too_much_from how (Some asked.Prepare) is h tells read = absurd (cc (is))
   too_much_from how (Some asked.Records) is h tells read = absurd (cc (is))
   too_much_from how (Some asked.Check) is h tells read = absurd (cc (is))
+  too_much_from how (Some (asked.Generate number)) is h tells read = absurd (cc (is))
+  too_much_from how (Some (asked.Large number)) is h tells read = absurd (cc (is))
   too_much_from how None is h tells read = absurd (cc (is))

@@ -1,6 +1,7 @@
 pub mod Ran
 pub mod Recoveries
 pub mod Faithful
+pub mod NumberLaws
 pub mod SinceEntry
 pub mod Spoken
 pub mod TopLaws

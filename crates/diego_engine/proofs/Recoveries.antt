@@ -15,6 +15,7 @@ use Rattle.program_ends.specs.declared.ending.Ending.{Ending}
 use Rattle.program_ends.specs.declared.ending.Ending.TheVariants as ending
 use Rattle.program_ends.proofs.Public.{keeps_same}
 use Rattle.scenario_player.specs.Wordings.{Wording}
+use Rattle.large_runs.proofs.Public.{large_calm}
 use Rattle.locket.specs.Lives.{LockLog}
 use Rattle.lock_runs.proofs.Public as lock
 use Rattle.program_run.specs.Runs.{EndsIdle, EndsLate, EndsUnseen, IsEmpty, RunEnds, ScriptEnds}
@@ -148,4 +149,10 @@ module _ {D : Type 0} (told : D → Option Past) (faults moment : D → ℕ) (wo
     doubts_from how (Some asked.Prepare) ends = none ends.empty (later_from v w how (Some asked.Prepare) ends.still)
     doubts_from how (Some asked.Records) ends = none ends.empty (later_from v w how (Some asked.Records) ends.still)
     doubts_from how (Some asked.Check) ends = none ends.empty (later_from v w how (Some asked.Check) ends.still)
+    doubts_from how (Some (asked.Generate number)) ends =
+        none ends.empty (later_from v w how (Some (asked.Generate number)) ends.still)
+    doubts_from how (Some (asked.Large number)) ends =
+        let calm = large_calm number e _ _ _ _ how ends.large in
+        let stands = ends.faults in
+        omega (arith, calm, stands)
     doubts_from how None ends = none ends.empty (later_from v w how None ends.still)

@@ -61,6 +61,8 @@ module _ (wording : Wording) (e : Ended) (v w : Ports) (told : IsTold w.told) wh
     spoken how (Some asked.Prepare) ends = ends
     spoken how (Some asked.Records) ends = ends
     spoken how (Some asked.Check) ends = ends
+    spoken how (Some (asked.Generate number)) ends = ends
+    spoken how (Some (asked.Large number)) ends = ends
     spoken how (Some asked.Run) ends = run how ends
     spoken how (Some asked.Routes) ends = run how ends
 

@@ -25,10 +25,11 @@ use Rattle.program_run.specs.declared.ended.Ended.{Ended}
 use Rattle.scenario_lines.specs.declared.script.Script.{Script}
 use Rattle.scenario_reader.specs.Accepted.{script_of}
 use Rattle.scenario_reader.specs.declared.fault.ScriptFault.{ScriptFault}
+use Rattle.large_runs.proofs.Public.{large_complete, large_never, large_unwritten}
 use Rattle.locket.specs.Lives.{LockLog}
 use Rattle.lock_runs.proofs.Public as lock
 use Rattle.program_tools.specs.Still.{AskedEnds, IsRefusedFor, ReadsFault, StillEnds}
-use Rattle.program_tools.specs.Words.{asks_for_locks, asks_for_run}
+use Rattle.program_tools.specs.Words.{asks_for_locks, asks_for_run, asks_to_play}
 use Rattle.program_tools.specs.declared.words.Asked.{Asked}
 use Rattle.program_tools.specs.declared.words.Asked.TheVariants as asked
 use Rattle.program_tools.proofs.Public as still
@@ -131,6 +132,8 @@ module _ {D : Type 0} (told : D → Option Past) (faults moment : D → ℕ) (wo
   usage_from how (Some asked.Prepare) n h = still.usage_from v w how (Some asked.Prepare) n h.still
   usage_from how (Some asked.Records) n h = still.usage_from v w how (Some asked.Records) n h.still
   usage_from how (Some asked.Check) n h = still.usage_from v w how (Some asked.Check) n h.still
+  usage_from how (Some (asked.Generate number)) n h = still.usage_from v w how (Some (asked.Generate number)) n h.still
+  usage_from how (Some (asked.Large number)) n h = absurd (large_never number e _ _ _ _ how 1 refl n h.large)
   usage_from how None n h = refl
 
   pub usage_to : (how : Ending) (what : Option Asked) → what ≡ None
@@ -149,6 +152,9 @@ module _ {D : Type 0} (told : D → Option Past) (faults moment : D → ℕ) (wo
       (λ never. omega (arith, never)) refl n h.still)
   script_from how (Some asked.Check) n h = absurd (not_here how (Some asked.Check) 2
       (λ never. omega (arith, never)) refl n h.still)
+  script_from how (Some (asked.Generate number)) n h =
+      absurd (not_here how (Some (asked.Generate number)) 2 (λ never. omega (arith, never)) refl n h.still)
+  script_from how (Some (asked.Large number)) n h = absurd (large_never number e _ _ _ _ how 2 refl n h.large)
   script_from how None n h = absurd (not_here how None 2 (λ never. omega (arith, never)) refl n h.still)
 
   pub unwritten_from : (how : Ending) (what : Option Asked) → status_of how ≡ 4
@@ -159,6 +165,9 @@ module _ {D : Type 0} (told : D → Option Past) (faults moment : D → ℕ) (wo
   unwritten_from how (Some asked.Prepare) n h = still.unwritten_from v w how (Some asked.Prepare) n h.still
   unwritten_from how (Some asked.Records) n h = still.unwritten_from v w how (Some asked.Records) n h.still
   unwritten_from how (Some asked.Check) n h = still.unwritten_from v w how (Some asked.Check) n h.still
+  unwritten_from how (Some (asked.Generate number)) n h =
+      still.unwritten_from v w how (Some (asked.Generate number)) n h.still
+  unwritten_from how (Some (asked.Large number)) n h = large_unwritten number e _ _ _ _ how n h.large
   unwritten_from how None n h = still.unwritten_from v w how None n h.still
 
   pub unstored_from : (how : Ending) (what : Option Asked) → status_of how ≡ 5
@@ -169,6 +178,9 @@ module _ {D : Type 0} (told : D → Option Past) (faults moment : D → ℕ) (wo
   unstored_from how (Some asked.Prepare) n h = still.unstored_from v w how (Some asked.Prepare) n h.still
   unstored_from how (Some asked.Records) n h = still.unstored_from v w how (Some asked.Records) n h.still
   unstored_from how (Some asked.Check) n h = still.unstored_from v w how (Some asked.Check) n h.still
+  unstored_from how (Some (asked.Generate number)) n h =
+      still.unstored_from v w how (Some (asked.Generate number)) n h.still
+  unstored_from how (Some (asked.Large number)) n h = absurd (large_never number e _ _ _ _ how 5 refl n h.large)
   unstored_from how None n h = still.unstored_from v w how None n h.still
 
   pub refused_from : (how : Ending) (what : Option Asked) → status_of how ≡ 6
@@ -181,6 +193,9 @@ module _ {D : Type 0} (told : D → Option Past) (faults moment : D → ℕ) (wo
   refused_from how (Some asked.Prepare) n h = still.refused_from v w how (Some asked.Prepare) n h.still
   refused_from how (Some asked.Records) n h = still.refused_from v w how (Some asked.Records) n h.still
   refused_from how (Some asked.Check) n h = still.refused_from v w how (Some asked.Check) n h.still
+  refused_from how (Some (asked.Generate number)) n h =
+      still.refused_from v w how (Some (asked.Generate number)) n h.still
+  refused_from how (Some (asked.Large number)) n h = absurd (large_never number e _ _ _ _ how 6 refl n h.large)
   refused_from how None n h = still.refused_from v w how None n h.still
 
   pub too_long_from : (how : Ending) (what : Option Asked) → status_of how ≡ 8
@@ -194,6 +209,9 @@ module _ {D : Type 0} (told : D → Option Past) (faults moment : D → ℕ) (wo
       (λ never. omega (arith, never)) refl n h.still)
   too_long_from how (Some asked.Check) n h = absurd (not_here how (Some asked.Check) 8
       (λ never. omega (arith, never)) refl n h.still)
+  too_long_from how (Some (asked.Generate number)) n h =
+      absurd (not_here how (Some (asked.Generate number)) 8 (λ never. omega (arith, never)) refl n h.still)
+  too_long_from how (Some (asked.Large number)) n h = absurd (large_never number e _ _ _ _ how 8 refl n h.large)
   too_long_from how None n h = absurd (not_here how None 8 (λ never. omega (arith, never)) refl n h.still)
 
   pub exists_from : (how : Ending) (what : Option Asked) → status_of how ≡ 9
@@ -205,6 +223,9 @@ module _ {D : Type 0} (told : D → Option Past) (faults moment : D → ℕ) (wo
   exists_from how (Some asked.Prepare) n h = still.exists_from v w how (Some asked.Prepare) n h.still
   exists_from how (Some asked.Records) n h = still.exists_from v w how (Some asked.Records) n h.still
   exists_from how (Some asked.Check) n h = still.exists_from v w how (Some asked.Check) n h.still
+  exists_from how (Some (asked.Generate number)) n h =
+      still.exists_from v w how (Some (asked.Generate number)) n h.still
+  exists_from how (Some (asked.Large number)) n h = absurd (large_never number e _ _ _ _ how 9 refl n h.large)
   exists_from how None n h = still.exists_from v w how None n h.still
 
   pub untouched_from : (how : Ending) (what : Option Asked) → is_before_board (status_of how) ≡ true
@@ -216,6 +237,9 @@ module _ {D : Type 0} (told : D → Option Past) (faults moment : D → ℕ) (wo
   untouched_from how (Some asked.Prepare) n h = still.untouched_from v w how (Some asked.Prepare) n h.still
   untouched_from how (Some asked.Records) n h = still.untouched_from v w how (Some asked.Records) n h.still
   untouched_from how (Some asked.Check) n h = still.untouched_from v w how (Some asked.Check) n h.still
+  untouched_from how (Some (asked.Generate number)) n h =
+      still.untouched_from v w how (Some (asked.Generate number)) n h.still
+  untouched_from how (Some (asked.Large number)) n h = (h.told, h.faults)
   untouched_from how None n h = still.untouched_from v w how None n h.still
 
   is_done : (how : Ending) → status_of how ≡ 0 → how ≡ ending.Done
@@ -268,6 +292,9 @@ module _ {D : Type 0} (told : D → Option Past) (faults moment : D → ℕ) (wo
   complete_from how (Some asked.Prepare) h m is read sink disk = absurd m
   complete_from how (Some asked.Records) h m is read sink disk = absurd m
   complete_from how (Some asked.Check) h m is read sink disk = absurd m
+  complete_from how (Some (asked.Generate number)) h m is read sink disk =
+      still.complete_from v w how (Some (asked.Generate number)) left h.still m is sink disk
+  complete_from how (Some (asked.Large number)) h m is read sink disk = large_complete number e _ _ _ _ how h.large sink
   complete_from how None h m is read sink disk = absurd m
 
   -- a source that tells no scenario is refused
@@ -295,6 +322,8 @@ module _ {D : Type 0} (told : D → Option Past) (faults moment : D → ℕ) (wo
   no_script_from how (Some asked.Prepare) why h tells read = absurd tells
   no_script_from how (Some asked.Records) why h tells read = absurd tells
   no_script_from how (Some asked.Check) why h tells read = absurd tells
+  no_script_from how (Some (asked.Generate number)) why h tells read = absurd tells
+  no_script_from how (Some (asked.Large number)) why h tells read = absurd tells
   no_script_from how None why h tells read = absurd tells
 
   -- ---- words that ask for no run
@@ -310,7 +339,7 @@ module _ {D : Type 0} (told : D → Option Past) (faults moment : D → ℕ) (wo
           unread = same;
         }
 
-    pub still_ends : (how : Ending) (what : Option Asked) → asks_for_run what ≡ false
+    pub still_ends : (how : Ending) (what : Option Asked) → asks_to_play what ≡ false
         → AskedEnds how what locks e.marks.items left left' v w
         → (asks_for_locks what ≡ false → (locks ≡ []) × (e.marks.items ≡ []))
         → (asks_for_locks what ≡ false → left' ≡ left)
@@ -325,4 +354,7 @@ module _ {D : Type 0} (told : D → Option Past) (faults moment : D → ℕ) (wo
         without how (Some asked.Records) ends (none refl) (same refl)
     still_ends how (Some asked.Check) not_run ends none same =
         without how (Some asked.Check) ends (none refl) (same refl)
+    still_ends how (Some (asked.Generate number)) not_run ends none same =
+        without how (Some (asked.Generate number)) ends (none refl) (same refl)
+    still_ends how (Some (asked.Large number)) not_run ends none same = absurd (cc (not_run))
     still_ends how None not_run ends none same = without how None ends (none refl) (same refl)

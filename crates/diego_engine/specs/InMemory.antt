@@ -26,7 +26,7 @@ use Rattle.scenario_player.specs.Wordings.{Wording}
 use Rattle.locket.specs.Lives.{LockLog}
 use Rattle.program_tools.specs.declared.words.Asked.{Asked}
 use Rattle.program_tools.specs.declared.words.Asked.TheVariants as asked
-use Rattle.diego_engine.specs.Top.{EndsWithLocks, EndsWithoutRun, ports_now, run_of, wording_of}
+use Rattle.diego_engine.specs.Top.{EndsInItself, EndsWithLocks, EndsWithoutRun, ports_now, run_of, wording_of}
 
 -- what the disk tells, at every moment
 abbrev pub memory_told : MemoryDisk → Option Past
@@ -91,6 +91,9 @@ EndsInMemory wording how (Some asked.Records) e locks left left' v w =
     EndsWithoutRun how (Some asked.Records) e left left' v w
 EndsInMemory wording how (Some asked.Check) e locks left left' v w =
     EndsWithoutRun how (Some asked.Check) e left left' v w
+EndsInMemory wording how (Some (asked.Generate number)) e locks left left' v w =
+    EndsWithoutRun how (Some (asked.Generate number)) e left left' v w
+EndsInMemory wording how (Some (asked.Large number)) e locks left left' v w = EndsInItself number how e left left' v w
 EndsInMemory wording how None e locks left left' v w = EndsWithoutRun how None e left left' v w
 
 -- a scenario was read and the board of the disk opened, every phase ran on it, nothing is in doubt, and the whole text

@@ -13,6 +13,7 @@ use Rattle.program_ends.specs.declared.ending.Ending.TheVariants as ending
 use Rattle.program_ends.specs.declared.top_end.TopEnd.{TopEnd}
 use Rattle.scenario_player.specs.Wordings.{Wording, whole_wording}
 use Rattle.route_runs.specs.Wording.{route_wording}
+use Rattle.large_runs.specs.Large.{LargeEnds}
 use Rattle.program_run.specs.Runs.{IsEmpty, RunEnds, RunsScript}
 use Rattle.program_run.specs.declared.ended.Ended.{Ended}
 use Rattle.scenario_lines.specs.declared.script.Script.{Script}
@@ -40,6 +41,14 @@ pub record EndsWithLocks (how : Ending) (e : Ended) (locks : LockLog) (left left
   pub reports : e.reports.items ≡ []
   pub ends : LocksEnd how locks e.marks.items left left' v w
 
+-- words that ask for the run of the scenario of a number ended so: it ran in memory, and the source and the disk are
+-- untouched
+pub record EndsInItself (number : ℕ) (how : Ending) (e : Ended) (left left' : Option (List ℕ)) (v w : Ports) : Type 0 where
+  pub large : LargeEnds number how e v.held w.held v.write_faults w.write_faults
+  pub unread : left' ≡ left
+  pub told : w.told ≡ v.told
+  pub faults : w.disk_faults ≡ v.disk_faults
+
 -- in what words the run is told that was asked for; where none was, nothing is
 abbrev pub wording_of : Option Asked → Wording
 wording_of (Some asked.Run) = whole_wording
@@ -61,6 +70,10 @@ ProgramEnds told faults moment wording how (Some asked.Records) e locks left lef
     EndsWithoutRun how (Some asked.Records) e left left' v w
 ProgramEnds told faults moment wording how (Some asked.Check) e locks left left' v w =
     EndsWithoutRun how (Some asked.Check) e left left' v w
+ProgramEnds told faults moment wording how (Some (asked.Generate number)) e locks left left' v w =
+    EndsWithoutRun how (Some (asked.Generate number)) e left left' v w
+ProgramEnds told faults moment wording how (Some (asked.Large number)) e locks left left' v w =
+    EndsInItself number how e left left' v w
 ProgramEnds told faults moment wording how None e locks left left' v w = EndsWithoutRun how None e left left' v w
 
 -- what was asked for came as far as the opening: if it asks for what the source tells, once the source gave that
@@ -71,6 +84,8 @@ ReachesOpening (Some asked.Locks) left left' = (lines : List LockLine) × ReadsW
 ReachesOpening (Some asked.Prepare) left left' = ⊥
 ReachesOpening (Some asked.Records) left left' = Unit {0}
 ReachesOpening (Some asked.Check) left left' = Unit {0}
+ReachesOpening (Some (asked.Generate number)) left left' = ⊥
+ReachesOpening (Some (asked.Large number)) left left' = ⊥
 ReachesOpening None left left' = ⊥
 
 -- no fault of a port was counted meanwhile
@@ -107,11 +122,14 @@ MeetsNothing (Some asked.Locks) left told =
     ((lines : List LockLine) × TellsAs lock_lines_of (Ok lines) left) × MeetsNoLocket told
 MeetsNothing other left told = ⊥
 
--- the source tells what was asked for, and the disk a board for it, or a lock journal
+-- the source tells what was asked for, and the disk a board for it, or a lock journal; a number is all that its
+-- scenario asks for
 abbrev pub MeetsAll : Option Asked → Option (List ℕ) → Option Past → Type 0
 MeetsAll (Some asked.Run) left told = Meets left told
 MeetsAll (Some asked.Routes) left told = Meets left told
 MeetsAll (Some asked.Locks) left told = MeetsLocks left told
+MeetsAll (Some (asked.Generate number)) left told = Unit {0}
+MeetsAll (Some (asked.Large number)) left told = Unit {0}
 MeetsAll other left told = ⊥
 
 -- a scenario was read and a board opened, every phase ran on it, nothing is in doubt, and the whole text was written

@@ -14,16 +14,18 @@ ghost use Rattle.program_ends.specs.Ports.{IsTold, PrintsTo};
 ghost use Rattle.program_ends.specs.Reading.{TellsTooMuch, limit};
 ghost use Rattle.program_ends.specs.declared.ending.Ending.{Ending as AnEnding};
 ghost use Rattle.program_tools.specs.Still.{IsRefusedFor, IsStopped, MeetsObstacle, ReadsFault, ReadsWell};
-ghost use Rattle.program_tools.specs.Words.{asked_of, asks_for_locks, asks_for_run, asks_for_source};
+ghost use Rattle.program_tools.specs.Words.{asked_of, asks_for_locks, asks_for_number, asks_for_run, asks_for_source, number_to_run};
 ghost use Rattle.program_tools.specs.declared.words.Asked.TheVariants as wanted;
 ghost use Rattle.diego_engine.specs.Headline.{Headline};
 ghost use Rattle.diego_engine.specs.Serial.{RunsSeriallyAt};
 ghost use Rattle.diego_engine.specs.Top.{EndsAt, MeetsAll, MeetsNothing, NoFault, ReachesOpening, RunsWholeAt, TellsFault, TellsWithoutFault, ports_now, run_of};
+ghost use Rattle.large_runs.specs.Large.{LargeEnds};
 ghost use Rattle.program_run.specs.Runs.{RunEnds};
 ghost use Rattle.scenario_reader.specs.declared.fault.ScriptFault.{ScriptFault as AFault};
 
 use byte_ports::{Gate, Sink, Source};
 use disk_trait::Disk;
+use large_runs::run_large;
 use program_ends::{TopEnd, number_of};
 use program_run::{Ended, run};
 use program_tools::{Asked, read_words, still_top};
@@ -46,6 +48,15 @@ fn asks_for_routes(alloc: Global, words: &[String]) -> bool
         (asked_of (map (λ w. string_bytes w) words.now) ≡ Some wanted.Routes) }
 {
     matches!(read_words(alloc, words), Some(Asked::Routes))
+}
+
+fn number_to_run(alloc: Global, words: &[String]) -> Option<u32>
+    ensures { result ≡ number_to_run (asked_of (map (λ w. string_bytes w) words.now)) }
+{
+    match read_words(alloc, words) {
+        Some(Asked::Large(number)) => Some(number),
+        _ => None,
+    }
 }
 
 fn top_end<S, K, D>(alloc: Global, ended: Ended, source: S, sink: K, disk: D) -> TopEnd<S, K, D>
@@ -97,6 +108,27 @@ fn run_top<
     top_end(alloc, ended, source, sink, disk)
 }
 
+/// Runs the scenario of a number in memory.
+fn large_top<R: Threads + Wait + Sync, S: Source, K: Sink, D: Disk, G: Gate + Sync>(
+    rt: &R,
+    alloc: Global,
+    number: u32,
+    source: S,
+    mut sink: K,
+    disk: D,
+    gate: &G,
+) -> TopEnd<S, K, D>
+    ensures ends { (how : AnEnding) × (result.status ≡ status_of how)
+        × LargeEnds number how (run_of how result)
+        (K.held sink) (K.held result.sink) (K.faults sink) (K.faults result.sink) }
+    ensures locks { result.locks.items ≡ [] }
+    ensures read { (result.status == 3) ≡ false }
+    ensures apart { (result.source ≡ source) × (result.disk ≡ disk) }
+{
+    let ended = run_large(rt, alloc, number, &mut sink, gate);
+    top_end(alloc, ended, source, sink, disk)
+}
+
 fn whole_top<R: Threads + Wait + Sync, S: Source, K: Sink, D: Disk + Drop + Send, G: Gate + Sync>(
     rt: &R,
     alloc: Global,
@@ -114,12 +146,17 @@ fn whole_top<R: Threads + Wait + Sync, S: Source, K: Sink, D: Disk + Drop + Send
     ensures unread { asks_for_source (asked_of (map (λ w. string_bytes w) words.now)) ≡ false
         → result.source ≡ source }
     ensures unopened { is_before_board result.status ≡ true → result.disk ≡ disk }
+    ensures apart { asks_for_number (asked_of (map (λ w. string_bytes w) words.now)) ≡ true
+        → result.disk ≡ disk }
 {
     if asks_for_whole(alloc, words) {
         return run_top::<WholeTeller, R, S, K, D, G>(rt, alloc, source, sink, disk, gate);
     }
     if asks_for_routes(alloc, words) {
         return run_top::<RouteTeller, R, S, K, D, G>(rt, alloc, source, sink, disk, gate);
+    }
+    if let Some(number) = number_to_run(alloc, words) {
+        return large_top(rt, alloc, number, source, sink, disk, gate);
     }
     still_top(alloc, words, source, sink, disk)
 }
@@ -214,6 +251,19 @@ pub fn diego_top<
         → asks_for_run (asked_of (map (λ w. string_bytes w) words.now)) ≡ true
         → RunsSeriallyAt S.left K.held K.faults D.told D.fault_count D.moment
         (asked_of (map (λ w. string_bytes w) words.now)) source sink disk result }
+
+    // A scenario that is made of a number is printed, or runs on a board in memory, which begins without
+    // rows; what it does there is what any run does. The disk isn't touched.
+    ensures large { (number : ℕ)
+        → asked_of (map (λ w. string_bytes w) words.now) ≡ Some (wanted.Large number)
+        → (how : AnEnding) × (result.status ≡ status_of how)
+        × LargeEnds number how (run_of how result)
+        (K.held sink) (K.held result.sink) (K.faults sink) (K.faults result.sink) }
+    ensures apart { asks_for_number (asked_of (map (λ w. string_bytes w) words.now)) ≡ true
+        → result.disk ≡ disk }
+    ensures complete_number { asks_for_number (asked_of (map (λ w. string_bytes w) words.now))
+        ≡ true → NoFault (K.faults sink) (K.faults result.sink)
+        → (result.status ≡ 0) ⊎ (result.status ≡ 7) }
 
     // With a scenario and a board, or lock commands and a lock journal, and without a fault, all is done
     // unless memory runs out.

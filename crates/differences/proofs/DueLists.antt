@@ -6,7 +6,7 @@ use Rattle.std.specs.Map.{keys_of, lookup}
 use Rattle.std.specs.declared.cmp.Ordering.{Ordering}
 use Rattle.std.proofs.lemmas.Map.Views.{Contains-from_lookup, lookup-from_Contains}
 use Rattle.row_tables.specs.Table.{IsKeyOrder}
-use Rattle.convergence.proofs.Gathers.{Contains-cons, Contains-cons_cases}
+use Rattle.convergence.proofs.Public.{Contains-cons, Contains-cons_cases}
 use Rattle.convergence.proofs.Public.{Contains-table, Contains-from_table}
 use Rattle.crash_backoff.specs.declared.moment.Moment.{Moment}
 use Rattle.work_causes.specs.Causes.{Ends, any_holds_by}

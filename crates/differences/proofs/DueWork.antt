@@ -24,9 +24,7 @@ use Rattle.bbs_model.specs.declared.command.Command.{Command}
 use Rattle.bbs_model.specs.declared.command.Op.{Op}
 use Rattle.bbs_model.specs.declared.rows.Rows.{Rows}
 use Rattle.convergence.specs.Subjects.{Subject, OfCell, OfDomain, OfPlace, OfTask, OfProcess, subject_of, subject_in, subject_order, subject_rank, work_on}
-use Rattle.convergence.proofs.Gathers.{Contains-map, Contains-from_map, Contains-filter_map, Contains-from_filter_map, IsRising-append, IsRising-filter_map, IsRising-map}
-use Rattle.convergence.proofs.Public.{IsKeyOrder-subject_order, about_is, about_work, work_is_by_subject, work_rises}
-use Rattle.convergence.proofs.Members.{same_members}
+use Rattle.convergence.proofs.Public.{about_is, about_work, Contains-filter_map, Contains-from_filter_map, Contains-from_map, Contains-map, IsKeyOrder-subject_order, IsRising-append, IsRising-filter_map, IsRising-map, same_members, work_is_by_subject, work_rises}
 use Rattle.work_causes.proofs.Public.{tell}
 use Rattle.work_causes.specs.Causes.{any_holds_by, end_causes, lease_causes, listed}
 use Rattle.work_causes.specs.declared.cause.Cause.{Cause}

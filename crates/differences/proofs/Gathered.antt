@@ -25,7 +25,7 @@ use Rattle.bbs_model.specs.Valid.{IsValid}
 use Rattle.bbs_model.specs.Work.{wants}
 use Rattle.bbs_model.specs.declared.rows.Rows.{Rows}
 use Rattle.convergence.specs.Subjects.{Subject, OfCell, OfDomain, OfPlace, OfTask, OfProcess}
-use Rattle.convergence.proofs.Lists.{one_more}
+use Rattle.convergence.proofs.Public.{one_more}
 use Rattle.work_causes.specs.Causes.{causes_of, end_causes, end_in, evacuating_causes, lease_causes, lease_in, listed, ordinary_causes, suspect_causes, task_cause}
 use Rattle.work_causes.specs.declared.cause.Causes.{Causes}
 use Rattle.differences.specs.Gathering.{AreInstancesSettled, AreRowsSettled, AreWantedSettled, GoesOn, IsBegun, IsSettled}

@@ -11,3 +11,4 @@ mod Arms
 mod Transitions
 mod Rooms
 mod Emptiness
+mod Spares

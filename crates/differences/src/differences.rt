@@ -3,6 +3,7 @@ ghost use Rattle.std.specs.Prelude.{◌≡◌, ◌+◌, ◌*◌, ◌<◌, ◌≤
 ghost use Rattle.std.specs.Option.{option_copied};
 ghost use Rattle.bbs_model.specs.Valid.{IsValid};
 ghost use Rattle.bbs_model.specs.Work as asked;
+ghost use Rattle.bbs_model.specs.declared.rows.Rows.{Rows as TheRows};
 ghost use Rattle.differences.specs.Standing.{Follows, StandsFor};
 
 use crate::counted::CountedRows;
@@ -46,6 +47,7 @@ impl Differences {
         ensures room { OnOk result (n ≤ self.new.spare) }
         ensures kept { self.old.spare ≤ self.new.spare }
         ensures succeeds { n ≤ self.old.spare → IsOk result }
+        ensures stands { (rows : TheRows) → StandsFor self.old rows → StandsFor self.new rows }
     {
         self.kept.reserve(n)
     }

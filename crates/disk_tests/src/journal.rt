@@ -14,7 +14,7 @@ mod switching;
 mod versions;
 
 use crate::asserts::{are_bytes, are_bytes_at, holds, is_number};
-use bbs_journal::{Journal, LoadFault, Loaded, load, load_from_memory};
+use bbs_journal::{Journal, LoadFault, Loaded, NotLoaded, load, load_from_memory};
 use disk_trait::{Area, Disk, MemoryDisk, Torn};
 use std::alloc::Global;
 use std::process::Abort;
@@ -34,6 +34,9 @@ const DESIRED: [u8; 85] = [
     0, 0, 0x40, 0, 0, 0, 0x80, 0, 0, 0x1f, 0x90, 0,
 ];
 
+// The longest head that a load allows for here.
+const MOST: u32 = 4_096;
+
 // How many device calls the load of the empty board makes.
 const CALLS: u64 = 7;
 
@@ -41,6 +44,14 @@ const CALLS: u64 = 7;
 const ONE: [u8; 7] = [1, 0, 3, 111, 110, 101, 0];
 
 const TWO: [u8; 7] = [1, 0, 3, 116, 119, 111, 0];
+
+// The fault that a load ends with. A head that is too long has none here, and counts as want of memory.
+fn fault_of(why: NotLoaded) -> LoadFault {
+    match why {
+        NotLoaded::Fault(fault) => fault,
+        NotLoaded::LongHead(_) => LoadFault::OutOfMemory,
+    }
+}
 
 /// A disk in memory of these bytes, of which these calls fail.
 pub fn disk_of(alloc: Global, a: &[u8], b: &[u8], failing: &[u64]) -> Result<MemoryDisk, Fail> {
@@ -61,13 +72,13 @@ pub fn journal_on<D: Disk + Drop>(
 ) -> Result<Journal<D>, Fail>
     ensures { IfOk result IsCalm }
 {
-    match load(alloc, disk) {
+    match load(alloc, disk, MOST) {
         Ok(loaded) => {
             holds(rt, loaded.broken.is_none());
             Ok(loaded.journal)
         }
-        Err((_, fault)) => {
-            let failed: Result<Journal<D>, LoadFault> = Err(fault);
+        Err((_, why)) => {
+            let failed: Result<Journal<D>, LoadFault> = Err(fault_of(why));
             Ok(failed?)
         }
     }
@@ -96,9 +107,9 @@ fn is_opened(rt: &impl Abort, row: u64, got: Read, wanted: Read) {
 }
 
 fn opened(alloc: Global, a: &[u8], b: &[u8]) -> Result<Read, Fail> {
-    match load_from_memory(alloc, disk_of(alloc, a, b, &[])?) {
+    match load_from_memory(alloc, disk_of(alloc, a, b, &[])?, MOST) {
         Ok(loaded) => Ok(Ok((loaded.frames.len(), loaded.broken))),
-        Err((_, fault)) => Ok(Err(fault)),
+        Err((_, why)) => Ok(Err(fault_of(why))),
     }
 }
 
@@ -114,10 +125,10 @@ fn text_of<D: Disk>(rt: &impl Abort, alloc: Global, loaded: &Loaded<D>) -> Resul
 }
 
 fn held_on<D: Disk + Drop>(rt: &impl Abort, alloc: Global, disk: D) -> Result<Vec<u8>, Fail> {
-    match load(alloc, disk) {
+    match load(alloc, disk, MOST) {
         Ok(loaded) => text_of(rt, alloc, &loaded),
-        Err((_, fault)) => {
-            let failed: Result<Vec<u8>, LoadFault> = Err(fault);
+        Err((_, why)) => {
+            let failed: Result<Vec<u8>, LoadFault> = Err(fault_of(why));
             Ok(failed?)
         }
     }

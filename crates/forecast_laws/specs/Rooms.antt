@@ -56,7 +56,7 @@ pub record IsOtherwiseUndisturbed (by : ℕ) (now : Moment) (line : ℕ) (s s' :
 -- the report is complete, and all is as it should be by the rows that the round saw last and what the reps answer then
 pub record EndsWell (now : Moment) (s' : Standing) (r : Report) : Type 0 where
   pub complete : IsComplete r
-  pub converged : IsConverged (rows_seen s'.view) r.stores now
+  pub converged : IsConverged (rows_seen s'.view) r.stores.value now
 
 -- where the plan leaves no job, a round that is otherwise undisturbed ends well
 abbrev pub RoomMakesRoundsComplete : Type 0

@@ -14,3 +14,8 @@ pub mod HeadNext
 pub mod Within
 pub mod HeadPlaces
 pub mod PutTexts
+pub mod Fronts
+pub mod Local
+pub mod LocalRows
+pub mod LongTables
+pub mod LongHeads

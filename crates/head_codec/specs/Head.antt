@@ -1,5 +1,5 @@
 -- The rows of a board in bytes, as the head of an area has them, and how bytes are read as rows.
-use Rattle.std.specs.Prelude.{◌≡◌, ℕ, zero, suc, ◌+◌, ◌&&◌, Bool, true, false, not, List, [], ◌∷◌, ◌++◌, length, nat_eq, nat_lt, nat_le, Option, Some, None, Result, Ok, Err, sum_by, if◌then◌else◌}
+use Rattle.std.specs.Prelude.{◌≡◌, ℕ, zero, suc, ◌+◌, ◌*◌, ◌&&◌, Bool, true, false, not, List, [], ◌∷◌, ◌++◌, length, nat_eq, nat_lt, nat_le, Option, Some, None, Result, Ok, Err, sum_by, if◌then◌else◌}
 use Rattle.std.specs.declared.cmp.Ordering.{Ordering}
 use Rattle.std.specs.List.{flat_map, list_all, list_any, AllByRecursion}
 use Rattle.std.specs.Ordering.{is_lt}
@@ -227,6 +227,10 @@ head_reading version bytes = do
   r ← cells_at c.0.0 c.0.1.1.1.0 bytes t.1
   m ← domains_at version c.0.0 c.0.1.1.1.1 bytes r.1
   head_ended bytes (record { desired = d.0; actual = a.0; tasks = t.0; cells = r.0; domains = m.0; next = c.0.0 }) m.1
+
+-- more bytes than any head has: the counts in front and each row of the largest board take 344 at most
+abbrev pub longest_head : ℕ
+longest_head = 344 * (1 + most_processes + most_actual + most_tasks + most_cells + most_domains)
 
 -- the place that a fault tells
 abbrev pub fault_place : CodecFault → ℕ

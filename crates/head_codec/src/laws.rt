@@ -1,10 +1,10 @@
 //! What holds of every head in bytes.
-ghost use Rattle.std.specs.Prelude.{◌≡◌, ◌≤◌, ◌++◌, List, ℕ, length, take, Ok, Err};
+ghost use Rattle.std.specs.Prelude.{◌≡◌, ◌<◌, ◌≤◌, ◌++◌, List, ℕ, length, take, Ok, Err};
 ghost use Rattle.std.specs.Int.{w64, from_be_bytes};
 ghost use Rattle.wire_fields.specs.Laws.{IsBytes};
 ghost use Rattle.bbs_model.specs.declared.rows.Rows.{Rows as SomeRows};
 ghost use Rattle.bbs_codec.specs.declared.fault.CodecFault.{CodecFault as AFault};
-ghost use Rattle.head_codec.specs.Head.{FitsHead, head_spelled, head_reading, fault_place};
+ghost use Rattle.head_codec.specs.Head.{FitsHead, head_spelled, head_reading, fault_place, longest_head};
 
 /// A head that was spelled in a version is read back in it.
 pub fn heads_are_read_back()
@@ -36,4 +36,13 @@ pub fn no_head_begins_another()
 pub fn head_faults_lie_within_the_bytes()
     ensures { (version : ℕ) (bytes : List ℕ) (fault : AFault) → head_reading version bytes ≡ Err fault
         → fault_place fault ≤ length bytes }
+{}
+
+/// No head is as long as this, and one that claims to be is told by its first bytes alone: its fault is
+/// theirs, whatever follows.
+pub fn a_head_that_is_too_long_is_told_by_its_first_bytes()
+    ensures first { (version : ℕ) (bytes rest : List ℕ) → longest_head ≤ length bytes
+        → head_reading version (bytes ++ rest) ≡ head_reading version bytes }
+    ensures shorter { (version : ℕ) (bytes : List ℕ) (rows : SomeRows)
+        → head_reading version bytes ≡ Ok rows → length bytes < longest_head }
 {}

@@ -14,6 +14,10 @@ use bbs_model::{MOST_TRANSITIONS, Rows};
 use std::alloc::Global;
 use wire_fields::FieldFault;
 
+/// More bytes than the head of any board has: 344 for the counts in front, and for each of the 157,000 rows
+/// that a board has at most.
+pub const LONGEST_HEAD: u32 = 344 * 157_001;
+
 /// The counts in front as version 1 has them, without that of domains.
 type OldCounts = (u64, ((u32, u32), (u32, u32)));
 

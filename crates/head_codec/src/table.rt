@@ -21,24 +21,25 @@ pub struct Table<X> {
 }
 
 /// Puts a row behind the others, where it may stand there.
-fn keep<X: HeadRow>(table: &mut Table<X>, next: u64, row: X) -> Result<bool, OutOfMemory>
+fn keep<X: HeadRow>(table: &mut Table<X>, next: u64, row: &X) -> Result<bool, OutOfMemory>
     requires { IsSeen X.Key.cmp X.key X.keeps
         table.old.rows table.old.last table.old.wanted table.old.stamps }
     ensures kept { IfOk result (λ kept.
-        kept ≡ may_follow X.Key.cmp X.key X.keeps next table.old.rows row) }
-    ensures rows { IfOk result (λ kept. kept ≡ true → table.new.rows ≡ table.old.rows ++ row ∷ []) }
+        kept ≡ may_follow X.Key.cmp X.key X.keeps next table.old.rows row.entry.now) }
+    ensures rows { IfOk result (λ kept. kept ≡ true →
+        table.new.rows ≡ table.old.rows ++ row.entry.now ∷ []) }
     ensures seen { IfOk result (λ kept. kept ≡ true → IsSeen X.Key.cmp X.key X.keeps
         table.new.rows table.new.last table.new.wanted table.new.stamps) }
 {
-    if !is_next(table.rows.items(), table.last, table.wanted, next, row) {
+    if !is_next(table.rows.items(), &table.last, table.wanted, next, row) {
         return Ok(false);
     }
     if !note(&mut table.stamps, row)? {
         return Ok(false);
     }
     table.wanted += row.wants();
-    table.last = Some(row);
-    table.rows.push(row)?;
+    table.last = Some(*row);
+    table.rows.push(*row)?;
     Ok(true)
 }
 
@@ -54,7 +55,8 @@ fn read_row<X: HeadRow>(
     requires seen { IsSeen X.Key.cmp X.key X.keeps
         table.old.rows table.old.last table.old.wanted table.old.stamps }
     ensures ok { IfOk result (λ after. row_kept (may_follow X.Key.cmp X.key X.keeps next)
-        (table.old.rows, at) ((X.formats version).read bytes.now at) ≡ Ok (table.new.rows, after)) }
+        (table.old.rows, at) ((X.formats version).read bytes.now at)
+        ≡ Ok (table.new.rows, after)) }
     ensures err { IfErr result (λ fault. BlamesHead fault
         (row_kept (may_follow X.Key.cmp X.key X.keeps next)
         (table.old.rows, at) ((X.formats version).read bytes.now at))) }
@@ -64,7 +66,7 @@ fn read_row<X: HeadRow>(
 {
     match X::read_in(bytes, version, at) {
         Ok((row, after)) => {
-            if keep(table, next, row)? {
+            if keep(table, next, &row)? {
                 Ok(after)
             } else {
                 Err(HeadFault::Codec(CodecFault::BadField { at }))

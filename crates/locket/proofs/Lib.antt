@@ -6,6 +6,7 @@ pub mod Payloads
 pub mod Keeping
 pub mod Changing
 pub mod Outcomes
+pub mod LongHeads
 pub mod Spanning
 pub mod Stopping
 pub mod Public

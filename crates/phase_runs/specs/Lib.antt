@@ -1,5 +1,6 @@
 pub mod Boards
 pub mod Actors
+pub mod Names
 pub mod RoundMarks
 pub mod Reps
 pub mod Rounds

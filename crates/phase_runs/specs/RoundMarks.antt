@@ -1,18 +1,12 @@
 -- What a round's line loses.
-use Rattle.std.specs.Prelude.{◌≡◌, ℕ, nat_eq, Bool, List, if◌then◌else◌}
-use Rattle.std.specs.List.{list_any}
-use Rattle.std.specs.Cmp.Lexicographic.{pointwise}
+use Rattle.std.specs.Prelude.{ℕ, Bool, List, if◌then◌else◌}
 use Rattle.cell_rep.specs.Wires.{WireEnds}
 use Rattle.cell_rep.specs.declared.wire.CallKind.{CallKind}
 use Rattle.cell_rep.specs.declared.wire.CallKind.TheVariants.{Ask, Stop, Start, Board}
 use Rattle.cell_rep.specs.declared.wire.Delivery.{Delivery}
 use Rattle.cell_rep.specs.declared.wire.Delivery.TheVariants.{Through, CallLost, ReplyLost}
 use Rattle.scenario_lines.specs.declared.script.RoundLine.{RoundLine}
-use Rattle.phase_runs.specs.declared.round_wire.RoundWire.{RoundWire}
-
--- the cell is one of these
-abbrev pub is_among : List (List ℕ) → List ℕ → Bool
-is_among names cell = list_any (λ n. pointwise nat_eq n cell) names
+use Rattle.phase_runs.specs.Names.{is_among}
 
 -- a delivery that ends so, if it is lost
 abbrev pub end_if : Bool → Delivery → Delivery
@@ -28,8 +22,3 @@ end_to r cell Board = end_if (is_among r.lose_reply cell) ReplyLost
 -- the ends of a round's wire, which don't depend on the number
 abbrev pub round_ends : RoundLine → WireEnds
 round_ends r call n = end_to r call.actor call.kind
-
--- it is the wire of that line, and has lost nothing
-pub record IsRoundWire (r : RoundLine) (w : RoundWire) : Type 0 where
-  pub line : w.line.now ≡ r
-  pub losses : w.losses ≡ 0

@@ -3,6 +3,7 @@
 
 mod acting;
 mod actors;
+mod lost_names;
 mod phases;
 mod reps;
 mod round_wire;

@@ -18,7 +18,7 @@ use scenario_lines::{Answered, Phase, RoundLine};
 use std::alloc::Global;
 
 /// What came of a phase that ran whole.
-#[derive(Debug, Drop)]
+#[derive(Drop)]
 pub struct Ran {
     /// The answers of each actor, in the order of the actors and of their lines.
     pub parts: List<List<Answered>>,

@@ -1,6 +1,6 @@
 //! The round of a phase: over any port, and on a board that nobody else calls meanwhile.
 ghost use Rattle.std.specs.Prelude.{◌≡◌, IfErr, IfOk};
-ghost use Rattle.converge_round.specs.Faults.{IsCausedBy};
+ghost use Rattle.converge_round.specs.Faults.{IsCausedBy, IsSure};
 ghost use Rattle.converge_round.specs.Items.{HasItems};
 ghost use Rattle.converge_round.specs.Reps.{KeepReps};
 ghost use Rattle.board_port.specs.Went.{seen_of};
@@ -36,11 +36,12 @@ pub fn round_over<P: Port>(
     ensures keeps { (P.keeps port.old port.new) × (P.number port.new ≡ 0) }
     ensures items { HasItems 0 now cells.old (P.view port.old) (P.view port.new) }
     ensures cause { IfErr result (IsCausedBy 0 (P.view port.old) (P.view port.new)) }
+    ensures sure { IsSure result (P.view port.old) (P.view port.new) }
     ensures cells { KeepReps cells.old cells.new }
     ensures account { IfOk result (RoundOf now line.now cells.old cells.new
         (P.view port.old) (P.view port.new)) }
 {
-    let mut wire = RoundWire::new(line);
+    let mut wire = RoundWire::new(alloc, line);
     converge(alloc, port, cells, &mut wire, now, line.line)
 }
 
@@ -56,6 +57,7 @@ pub fn round_on<D: Disk, G: Gate>(
     ensures alone { IsCalledByOne D.told 0 board.old board.new }
     ensures items { HasItems 0 now cells.old (seen_of 0 board.old) (seen_of 0 board.new) }
     ensures cause { IfErr result (IsCausedBy 0 (seen_of 0 board.old) (seen_of 0 board.new)) }
+    ensures sure { IsSure result (seen_of 0 board.old) (seen_of 0 board.new) }
     ensures cells { KeepReps cells.old cells.new }
     ensures account { IfOk result (RoundOf now line.now cells.old cells.new
         (seen_of 0 board.old) (seen_of 0 board.new)) }

@@ -4,3 +4,4 @@ mod Closing
 mod Ports
 mod Away
 mod Together
+mod Sent

@@ -18,7 +18,7 @@ use Rattle.program_ends.specs.Ports.{Ports, IsTold}
 use Rattle.program_ends.specs.declared.ending.Ending.{Ending}
 use Rattle.program_ends.specs.declared.ending.Ending.TheVariants as ending
 use Rattle.bbs_model.specs.declared.rows.Rows.{Rows}
-use Rattle.program_tools.specs.Still.{StillEnds, RecordsEnds, CheckEnds, PrepareEnds, UsageEnds, MeetsBoard, MeetsBytes, MeetsNoBoard, MeetsObstacle, MeetsStill, IsStopped}
+use Rattle.program_tools.specs.Still.{StillEnds, RecordsEnds, CheckEnds, PrepareEnds, GenerateEnds, UsageEnds, MeetsBoard, MeetsBytes, MeetsNoBoard, MeetsObstacle, MeetsStill, IsStopped}
 use Rattle.program_tools.specs.declared.words.Asked.{Asked}
 use Rattle.program_tools.specs.declared.words.Asked.TheVariants as asked
 
@@ -46,6 +46,13 @@ module _ (v w : Ports) where
   check_opens ending.TooLong n h = absurd h
   check_opens how n h = cc
 
+  generate_opens : (number : ℕ) (how : Ending) → is_before_board (status_of how) ≡ true → GenerateEnds number how v w → ⊥
+  generate_opens number ending.Usage n h = absurd h
+  generate_opens number (ending.Script why) n h = absurd h
+  generate_opens number ending.Read n h = absurd h
+  generate_opens number ending.TooLong n h = absurd h
+  generate_opens number how n h = cc
+
   -- a word of the grammar looks at the disk
   pub opens_from : (how : Ending) (what : Option Asked) → is_before_board (status_of how) ≡ true
       → StillEnds how what v w → what ≡ None
@@ -56,6 +63,8 @@ module _ (v w : Ports) where
   opens_from how (Some asked.Prepare) n h = absurd (prepare_opens how n h)
   opens_from how (Some asked.Records) n h = absurd (records_open how n h)
   opens_from how (Some asked.Check) n h = absurd (check_opens how n h)
+  opens_from how (Some (asked.Generate number)) n h = absurd (generate_opens number how n h)
+  opens_from how (Some (asked.Large number)) n h = absurd h
 
   -- what is said of one reading of the words is said of an equal one
   pub asked_as : (how : Ending) (a b : Option Asked) → a ≡ b → StillEnds how a v w → StillEnds how b v w
@@ -87,6 +96,8 @@ module _ (v w : Ports) where
   unwritten_from ending.Unwritten (Some asked.Run) n h = absurd h
   unwritten_from ending.Unwritten (Some asked.Routes) n h = absurd h
   unwritten_from ending.Unwritten (Some asked.Locks) n h = absurd h
+  unwritten_from ending.Unwritten (Some (asked.Generate number)) n s = s.prints.cause.rose refl
+  unwritten_from ending.Unwritten (Some (asked.Large number)) n s = absurd s
   unwritten_from ending.Unwritten None n h = absurd h
   unwritten_from how what n h = absurd (omega (arith, n))
 
@@ -98,6 +109,8 @@ module _ (v w : Ports) where
   unstored_from ending.Unopened (Some asked.Run) n h = absurd h
   unstored_from ending.Unopened (Some asked.Routes) n h = absurd h
   unstored_from ending.Unopened (Some asked.Locks) n h = absurd h
+  unstored_from ending.Unopened (Some (asked.Generate number)) n h = absurd h
+  unstored_from ending.Unopened (Some (asked.Large number)) n h = absurd h
   unstored_from ending.Unopened None n h = absurd h
   unstored_from ending.Doubt (Some asked.Records) n h = absurd h
   unstored_from ending.Doubt (Some asked.Check) n h = absurd h
@@ -105,6 +118,8 @@ module _ (v w : Ports) where
   unstored_from ending.Doubt (Some asked.Run) n h = absurd h
   unstored_from ending.Doubt (Some asked.Routes) n h = absurd h
   unstored_from ending.Doubt (Some asked.Locks) n h = absurd h
+  unstored_from ending.Doubt (Some (asked.Generate number)) n h = absurd h
+  unstored_from ending.Doubt (Some (asked.Large number)) n h = absurd h
   unstored_from ending.Doubt None n h = absurd h
   unstored_from how what n h = absurd (omega (arith, n))
 
@@ -119,6 +134,8 @@ module _ (v w : Ports) where
   refused_from (ending.NotABoard area) (Some asked.Run) n h = absurd h
   refused_from (ending.NotABoard area) (Some asked.Routes) n h = absurd h
   refused_from (ending.NotABoard area) (Some asked.Locks) n h = absurd h
+  refused_from (ending.NotABoard area) (Some (asked.Generate number)) n h = absurd h
+  refused_from (ending.NotABoard area) (Some (asked.Large number)) n h = absurd h
   refused_from (ending.NotABoard area) None n h = absurd h
   refused_from (ending.Damaged area at) (Some asked.Records) n h =
       (fault.Damaged area at, h.early.cause.stood refl, h.refused)
@@ -128,6 +145,8 @@ module _ (v w : Ports) where
   refused_from (ending.Damaged area at) (Some asked.Run) n h = absurd h
   refused_from (ending.Damaged area at) (Some asked.Routes) n h = absurd h
   refused_from (ending.Damaged area at) (Some asked.Locks) n h = absurd h
+  refused_from (ending.Damaged area at) (Some (asked.Generate number)) n h = absurd h
+  refused_from (ending.Damaged area at) (Some (asked.Large number)) n h = absurd h
   refused_from (ending.Damaged area at) None n h = absurd h
   refused_from how what n h = absurd (omega (arith, n))
 
@@ -144,6 +163,8 @@ module _ (v w : Ports) where
   exists_from ending.Exists (Some asked.Run) n h = absurd h
   exists_from ending.Exists (Some asked.Routes) n h = absurd h
   exists_from ending.Exists (Some asked.Locks) n h = absurd h
+  exists_from ending.Exists (Some (asked.Generate number)) n h = absurd h
+  exists_from ending.Exists (Some (asked.Large number)) n h = absurd h
   exists_from ending.Exists None n h = absurd h
   exists_from how what n h = absurd (omega (arith, n))
 
@@ -182,6 +203,12 @@ module _ (v w : Ports) where
   prepare_later ending.Unopened h = h.cause.later
   prepare_later how h = absurd h
 
+  generate_later : (number : ℕ) (how : Ending) → GenerateEnds number how v w → v.disk_faults ≤ w.disk_faults
+  generate_later number ending.Done h = let stands = h.faults in omega (arith, stands)
+  generate_later number ending.Unwritten h = let stands = h.faults in omega (arith, stands)
+  generate_later number ending.OutOfMemory h = let stands = h.faults in omega (arith, stands)
+  generate_later number how h = absurd h
+
   usage_later : (how : Ending) → UsageEnds how v w → v.disk_faults ≤ w.disk_faults
   usage_later ending.Usage h = let stands = h.faults in omega (arith, stands)
   usage_later how h = absurd h
@@ -193,6 +220,8 @@ module _ (v w : Ports) where
   later_from how (Some asked.Prepare) h = prepare_later how h
   later_from how (Some asked.Records) h = records_later how h
   later_from how (Some asked.Check) h = check_later how h
+  later_from how (Some (asked.Generate number)) h = generate_later number how h
+  later_from how (Some (asked.Large number)) h = absurd h
   later_from how None h = usage_later how h
 
   -- ---- completeness
@@ -226,6 +255,13 @@ module _ (v w : Ports) where
       refused_from how (Some asked.Records) n h in board_met m told why refused
   refusal_met how (Some asked.Check) left n h m told = let (why, stood, refused) =
       refused_from how (Some asked.Check) n h in board_met m told why refused
+  refusal_met how (Some (asked.Large number)) left n h m told = absurd h
+  refusal_met how (Some (asked.Generate number)) left n h m told = no_refusal how n h
+    where
+      no_refusal : (x : Ending) → status_of x ≡ 6 → GenerateEnds number x v w → ⊥
+      no_refusal (ending.NotABoard area) n h = h
+      no_refusal (ending.Damaged area at) n h = h
+      no_refusal x n h = absurd (omega (arith, n))
 
   bytes_met : (what : Option Asked) (left : Option (List ℕ)) → StillEnds ending.Exists what v w
       → MeetsStill what left v.told → IsTold w.told → ⊥
@@ -236,6 +272,8 @@ module _ (v w : Ports) where
   bytes_met (Some asked.Run) left h m told = h
   bytes_met (Some asked.Routes) left h m told = h
   bytes_met (Some asked.Locks) left h m told = h
+  bytes_met (Some (asked.Generate number)) left h m told = h
+  bytes_met (Some (asked.Large number)) left h m told = h
   bytes_met None left h m told = h
 
   grammar_met : (how : Ending) (what : Option Asked) (left : Option (List ℕ)) → is_before_board (status_of how) ≡ true
@@ -323,4 +361,6 @@ module _ (v w : Ports) where
       with_number how 6 wanted is (records_stopped how h m told disk)
   stopped_from how (Some asked.Check) wanted left h (is, m) told disk =
       with_number how 6 wanted is (check_stopped how h m told disk)
+  stopped_from how (Some (asked.Generate number)) wanted left h m told disk = absurd m
+  stopped_from how (Some (asked.Large number)) wanted left h m told disk = absurd m
   stopped_from how None wanted left h m told disk = absurd m

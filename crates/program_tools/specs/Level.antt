@@ -1,9 +1,9 @@
 -- The words as one level of clap's subcommands.
 use Rattle.std.specs.Prelude.{ℕ, Bool, true, false, List, [], ◌∷◌, ◌==◌, codes, fold}
 use Rattle.clap.specs.Simple.{App, new_app, new_shape, on_top, with_subcommand}
-use Rattle.program_tools.specs.Words.{word_for}
-use Rattle.program_tools.specs.declared.words.Asked.{Asked}
-use Rattle.program_tools.specs.declared.words.Asked.TheVariants.{Run, Routes, Locks, Prepare, Records, Check}
+use Rattle.program_tools.specs.Words.{text_for}
+use Rattle.program_tools.specs.declared.word_table.Word.{Word}
+use Rattle.program_tools.specs.declared.word_table.Word.TheVariants.{Run, Routes, Locks, Prepare, Records, Check, Generate, Large}
 
 -- the word begins with a hyphen (45), as an option does
 abbrev pub begins_with_hyphen : List ℕ → Bool
@@ -21,9 +21,9 @@ bare_level = on_top (λ s. record s {
 }) (new_app (codes "diego"))
 
 -- a level with one subcommand more
-abbrev pub with_word : App → Asked → App
-with_word level asked = with_subcommand level (new_shape (word_for asked))
+abbrev pub with_word : App → Word → App
+with_word level word = with_subcommand level (new_shape (text_for word))
 
 -- the level of the program's words
 abbrev pub level : App
-level = fold with_word bare_level (Run ∷ Routes ∷ Locks ∷ Prepare ∷ Records ∷ Check ∷ [])
+level = fold with_word bare_level (Run ∷ Routes ∷ Locks ∷ Prepare ∷ Records ∷ Check ∷ Generate ∷ Large ∷ [])

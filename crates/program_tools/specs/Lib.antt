@@ -1,4 +1,5 @@
 pub mod Level
+pub mod Numbers
 pub mod Records
 pub mod Showing
 pub mod Still

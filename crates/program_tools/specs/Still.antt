@@ -24,6 +24,7 @@ use Rattle.program_ends.specs.declared.ending.Ending.{Ending}
 use Rattle.program_ends.specs.declared.ending.Ending.TheVariants as ending
 use Rattle.scenario_reader.specs.Accepted.{script_of}
 use Rattle.scenario_reader.specs.declared.fault.ScriptFault.{ScriptFault}
+use Rattle.scenario_maker.specs.Generated.{generated}
 use Rattle.program_tools.specs.Records.{records_text, IsCheckOf, check_line}
 use Rattle.program_tools.specs.declared.words.Asked.{Asked}
 use Rattle.program_tools.specs.declared.words.Asked.TheVariants as asked
@@ -70,6 +71,19 @@ PrepareEnds ending.Exists v w = Prepared (Err NotEmpty) false ending.Exists v w
 PrepareEnds ending.Unopened v w = Prepared (Err Disk) true ending.Unopened v w
 PrepareEnds other v w = ⊥
 
+-- the scenario of a number was printed, written whole or not, and the disk is untouched
+pub record PrintsScenario (number : ℕ) (whole : Bool) (v w : Ports) : Type 0 where
+  pub told : w.told ≡ v.told
+  pub faults : w.disk_faults ≡ v.disk_faults
+  pub prints : Prints whole (generated number) v w
+
+-- how `generate` ends
+abbrev pub GenerateEnds : ℕ → Ending → Ports → Ports → Type 0
+GenerateEnds number ending.Done v w = PrintsScenario number true v w
+GenerateEnds number ending.Unwritten v w = PrintsScenario number false v w
+GenerateEnds number ending.OutOfMemory v w = EndsUntouched ending.OutOfMemory v w
+GenerateEnds number other v w = ⊥
+
 -- how words outside the grammar end
 abbrev pub UsageEnds : Ending → Ports → Ports → Type 0
 UsageEnds ending.Usage v w = EndsUntouched ending.Usage v w
@@ -83,6 +97,8 @@ StillEnds how (Some asked.Locks) v w = ⊥
 StillEnds how (Some asked.Prepare) v w = PrepareEnds how v w
 StillEnds how (Some asked.Records) v w = RecordsEnds how v w
 StillEnds how (Some asked.Check) v w = CheckEnds how v w
+StillEnds how (Some (asked.Generate number)) v w = GenerateEnds number how v w
+StillEnds how (Some (asked.Large number)) v w = ⊥
 StillEnds how None v w = UsageEnds how v w
 
 -- how words that ask for no run end, by what they did to a locket and to the source
@@ -113,7 +129,8 @@ pub record MeetsBoard (told : Option Past) : Type 0 where
   pub shows : Shows told image
   pub board : IsBoard rows image
 
--- the source and the disk tell what the word asks for: two empty areas, a board, or lock commands and a lock journal
+-- the source and the disk tell what the word asks for: two empty areas, a board, lock commands and a lock journal, or
+-- nothing at all
 abbrev pub MeetsStill : Option Asked → Option (List ℕ) → Option Past → Type 0
 MeetsStill (Some asked.Run) left told = ⊥
 MeetsStill (Some asked.Routes) left told = ⊥
@@ -121,6 +138,8 @@ MeetsStill (Some asked.Locks) left told = MeetsLocks left told
 MeetsStill (Some asked.Prepare) left told = Shows told (λ area. [])
 MeetsStill (Some asked.Records) left told = MeetsBoard told
 MeetsStill (Some asked.Check) left told = MeetsBoard told
+MeetsStill (Some (asked.Generate number)) left told = Unit {0}
+MeetsStill (Some (asked.Large number)) left told = ⊥
 MeetsStill None left told = ⊥
 
 -- the disk tells that it holds no board, with this first defect
@@ -145,6 +164,8 @@ MeetsObstacle (Some asked.Locks) status left told = StopsLocks status left told
 MeetsObstacle (Some asked.Prepare) status left told = (status ≡ 9) × MeetsBytes told
 MeetsObstacle (Some asked.Records) status left told = (status ≡ 6) × MeetsNoBoard told
 MeetsObstacle (Some asked.Check) status left told = (status ≡ 6) × MeetsNoBoard told
+MeetsObstacle (Some (asked.Generate number)) status left told = ⊥
+MeetsObstacle (Some (asked.Large number)) status left told = ⊥
 MeetsObstacle None status left told = ⊥
 
 -- the word ends with the status of what stops it; the line of a defect may want memory

@@ -3,11 +3,14 @@
 #![tactic(auto)]
 
 mod checking;
+mod generating;
 mod level;
+mod number;
 mod preparing;
 mod records;
 mod showing;
 mod still;
+mod word_table;
 mod words;
 
 pub use records::records_text;

@@ -16,7 +16,7 @@ use record_print::check_text;
 use std::alloc::{AllocError, Global};
 
 /// Prints a text whole, or nothing where there was no memory for it.
-fn show<K: Sink>(sink: &mut K, text: Result<Vec<u8>, AllocError>) -> Ending
+pub(crate) fn show<K: Sink>(sink: &mut K, text: Result<Vec<u8>, AllocError>) -> Ending
     ensures { (whole : Bool) × (result ≡ ending_after text whole) × PrintsTo whole (text_in text)
         (K.held sink.old) (K.held sink.new) (K.faults sink.old) (K.faults sink.new) }
 {

@@ -15,9 +15,10 @@ ghost use Rattle.program_ends.specs.declared.ending.Ending.{Ending as AnEnding};
 ghost use Rattle.lock_runs.specs.Runs.{LocksEnd};
 ghost use Rattle.scenario_reader.specs.declared.fault.ScriptFault.{ScriptFault as AFault};
 ghost use Rattle.program_tools.specs.Still.{AskedEnds, StillEnds, IsRefusedFor, ReadsFault, ReadsWell, MeetsStill, MeetsObstacle, IsStopped};
-ghost use Rattle.program_tools.specs.Words.{asked_of, asks_for_locks, asks_for_run};
+ghost use Rattle.program_tools.specs.Words.{asked_of, asks_for_locks, asks_for_number, asks_to_play};
 ghost use Rattle.program_tools.specs.declared.words.Asked.TheVariants as wanted;
 
+use crate::generating::print_scenario;
 use crate::preparing::prepare_board;
 use crate::showing::{show_check, show_records};
 use crate::words::{Asked, read_words};
@@ -34,9 +35,10 @@ fn still<K: Sink, D: Disk>(
     sink: &mut K,
     mut disk: D,
 ) -> (Ending, D)
-    requires run { asks_for_run asked ≡ false }
+    requires run { asks_to_play asked ≡ false }
     requires locks { asks_for_locks asked ≡ false }
     ensures untouched { asked ≡ None → result.1 ≡ disk }
+    ensures apart { asks_for_number asked ≡ true → result.1 ≡ disk }
     ensures ends { StillEnds result.0 asked
         (ports_of (K.held sink.old) (K.faults sink.old)
         (D.told disk) (D.fault_count disk) (D.moment disk))
@@ -50,6 +52,7 @@ fn still<K: Sink, D: Disk>(
         }
         Some(Asked::Records) => show_records(alloc, sink, disk),
         Some(Asked::Check) => show_check(alloc, sink, disk),
+        Some(Asked::Generate(number)) => print_scenario(alloc, number, sink, disk),
         _ => (ended_early(sink, Ending::Usage), disk),
     }
 }
@@ -116,7 +119,7 @@ fn tools_top<S: Source, K: Sink, D: Disk>(
     mut sink: K,
     disk: D,
 ) -> TopEnd<S, K, D>
-    requires run { asks_for_run asked ≡ false }
+    requires run { asks_to_play asked ≡ false }
     requires locks { asks_for_locks asked ≡ false }
     ensures ends { (how : AnEnding) × (result.status ≡ status_of how)
         × StillEnds how asked
@@ -128,6 +131,7 @@ fn tools_top<S: Source, K: Sink, D: Disk>(
         × (result.reports.items ≡ []) }
     ensures locks { (result.locks.items ≡ []) × (result.marks.items ≡ []) }
     ensures untouched { asked ≡ None → result.disk ≡ disk }
+    ensures apart { asks_for_number asked ≡ true → result.disk ≡ disk }
 {
     let (ending, disk) = still(alloc, asked, &mut sink, disk);
     let ended = LocksEnded {
@@ -146,7 +150,7 @@ fn asked_top<S: Source, K: Sink, D: Disk>(
     sink: K,
     disk: D,
 ) -> TopEnd<S, K, D>
-    requires { asks_for_run asked ≡ false }
+    requires { asks_to_play asked ≡ false }
     ensures ends { (how : AnEnding) × (result.status ≡ status_of how)
         × AskedEnds how asked result.locks.items result.marks.items
         (S.left source) (S.left result.source)
@@ -160,6 +164,7 @@ fn asked_top<S: Source, K: Sink, D: Disk>(
         → (result.locks.items ≡ []) × (result.marks.items ≡ []) }
     ensures read { HasCause (result.status == 3) (S.faults source) (S.faults result.source) }
     ensures unopened { is_before_board result.status ≡ true → result.disk ≡ disk }
+    ensures apart { asks_for_number asked ≡ true → result.disk ≡ disk }
 {
     if matches!(asked, Some(Asked::Locks)) {
         return locks_top(alloc, source, sink, disk);
@@ -167,8 +172,9 @@ fn asked_top<S: Source, K: Sink, D: Disk>(
     tools_top(alloc, asked, source, sink, disk)
 }
 
-/// Does what the words ask for, where they don't ask for a run. It waits for nobody. `records`, `check` and
-/// a `prepare` that finds bytes change no byte of the disk; `locks` alone takes anything from the source.
+/// Does what the words ask for, where they don't ask for a run. It waits for nobody. `records`, `check`,
+/// `generate` and a `prepare` that finds bytes change no byte of the disk; `locks` alone takes anything from
+/// the source.
 pub fn still_top<S: Source, K: Sink, D: Disk>(
     alloc: Global,
     words: &[String],
@@ -176,7 +182,7 @@ pub fn still_top<S: Source, K: Sink, D: Disk>(
     sink: K,
     disk: D,
 ) -> TopEnd<S, K, D>
-    requires { asks_for_run (asked_of (map (λ w. string_bytes w) words.now)) ≡ false }
+    requires { asks_to_play (asked_of (map (λ w. string_bytes w) words.now)) ≡ false }
     ensures source { asks_for_locks (asked_of (map (λ w. string_bytes w) words.now)) ≡ false
         → result.source ≡ source }
     ensures lists { (result.log.items ≡ []) × (result.answers.items ≡ [])
@@ -184,6 +190,8 @@ pub fn still_top<S: Source, K: Sink, D: Disk>(
     ensures locks { asks_for_locks (asked_of (map (λ w. string_bytes w) words.now)) ≡ false
         → (result.locks.items ≡ []) × (result.marks.items ≡ []) }
     ensures unopened { is_before_board result.status ≡ true → result.disk ≡ disk }
+    ensures apart { asks_for_number (asked_of (map (λ w. string_bytes w) words.now)) ≡ true
+        → result.disk ≡ disk }
 
     ensures ends { (how : AnEnding) × (result.status ≡ status_of how)
         × AskedEnds how (asked_of (map (λ w. string_bytes w) words.now))

@@ -163,7 +163,7 @@ module _ (by : ℕ) (now : Moment) (line : ℕ) (s s' : Standing) (r : Report) (
   rows_end = rows-looks h.served.view s'.view looks_end quiet_g ∙ taken.rows_are ∙ ap
       (λ (x : Rows). state_after_all x cs) rows_opened
 
-  stores : r.stores ≡ after
+  stores : r.stores.value ≡ after
   stores = h.reports.stores ∙ ap (λ (rs : List CellRep). filter_map answer_of rs) h.reps_are
 
   moments : (c : Command) → Contains cs c → c.now ≡ now
@@ -252,9 +252,9 @@ module _ (by : ℕ) (now : Moment) (line : ℕ) (s s' : Standing) (r : Report) (
         (task-waits places_rows n t is state);
   }
 
-  pub complete-converges : IsConverged (rows_seen s'.view) r.stores now
+  pub complete-converges : IsConverged (rows_seen s'.view) r.stores.value now
   complete-converges =
-      subst (λ (x : Rows). IsConverged x r.stores now) (sym rows_end)
+      subst (λ (x : Rows). IsConverged x r.stores.value now) (sym rows_end)
       (subst (λ (xs : List Answer). IsConverged (state_after_all planned cs) xs now) (sym stores)
       (round-converges rows got before left after now cs valid answered all.worked all.planned without apart_claims
       accepted moments

@@ -38,4 +38,4 @@ CompleteRoundsTakeAll = (by : ℕ) (now : Moment) (line : ℕ) (s s' : Standing)
 abbrev pub CompleteRoundsConverge : Type 0
 CompleteRoundsConverge = (by : ℕ) (now : Moment) (line : ℕ) (s s' : Standing) (r : Report) →
     IsRound by now line s s' r → StandApart (names_of s.reps) → IsComplete r →
-    IsConverged (rows_seen s'.view) r.stores now
+    IsConverged (rows_seen s'.view) r.stores.value now

@@ -3,7 +3,7 @@ ghost use Rattle.std.specs.Prelude.{◌≡◌, IfErr, IfOk};
 ghost use Rattle.bbs_model.specs.PortView.{rows_seen};
 ghost use Rattle.converge_laws.specs.Converged.{IsConverged};
 ghost use Rattle.converge_round.specs.Askings.{StandApart};
-ghost use Rattle.converge_round.specs.Faults.{IsCausedBy};
+ghost use Rattle.converge_round.specs.Faults.{IsCausedBy, IsSure};
 ghost use Rattle.converge_round.specs.Items.{HasItems};
 ghost use Rattle.converge_round.specs.Reps.{names_of, KeepReps};
 ghost use Rattle.converge_round.specs.Rounds.{IsRound, standing};
@@ -33,12 +33,13 @@ pub fn converge<P: Port, W: Wire>(
         (P.view port.old) (P.view port.new) }
     ensures cause { IfErr result (IsCausedBy (P.number port.old)
         (P.view port.old) (P.view port.new)) }
+    ensures sure { IsSure result (P.view port.old) (P.view port.new) }
     ensures cells { KeepReps cells.old cells.new }
     ensures account { IfOk result (IsRound (P.number port.old) now line
         (standing (P.view port.old) cells.old (wire_at (W.ends wire.old) (W.losses wire.old)))
         (standing (P.view port.new) cells.new (wire_at (W.ends wire.new) (W.losses wire.new)))) }
     ensures converged { IfOk result (λ report. StandApart (names_of cells.old) →
-        IsComplete report → IsConverged (rows_seen (P.view port.new)) report.stores now) }
+        IsComplete report → IsConverged (rows_seen (P.view port.new)) report.stores.value now) }
 {
     round(alloc, port, cells, wire, now, line)
 }

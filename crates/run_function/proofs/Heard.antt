@@ -13,7 +13,7 @@ use Rattle.cell_rep.proofs.Public.{reps_answer}
 use Rattle.converge_round.specs.Askings.{Asking, AsksOne, Hears, HearsIf, IsHeardFrom, answer_under}
 use Rattle.converge_round.specs.Each.{Each}
 use Rattle.converge_round.specs.Places.{OpensIf, OpensOne, is_being_emptied}
-use Rattle.phase_runs.specs.RoundMarks.{is_among}
+use Rattle.phase_runs.specs.Names.{is_among}
 use Rattle.scenario_lines.specs.declared.script.RoundLine.{RoundLine}
 use Rattle.run_function.specs.Reps.{rep_answer, rep_named}
 use Rattle.run_function.specs.RoundLaws.{AreReps}

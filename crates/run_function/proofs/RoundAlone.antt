@@ -271,7 +271,7 @@ module _ (line : RoundLine) (by : ℕ) (now : Moment) (s s' : Standing) (r : Rep
       let r_foreign : r.foreign ≡ (length h.noted.view.seen - length b.log) - h.noted.tally.own =
       q.foreign ∙ (λ i. (end i - start i) - h.noted.tally.own) in
       let r_stopped : r.stopped ≡ h.opens.stops.stopped = q.stopped ∙ h.opens.stopped_is in
-      let r_stores : r.stores ≡ filter_map answer_of h.served.reps = q.stores ∙ ap (filter_map answer_of) h.reps_are in
+      let r_stores : r.stores.value ≡ filter_map answer_of h.served.reps = q.stores ∙ ap (filter_map answer_of) h.reps_are in
       λ i. record {
         line = q.line_is i;
         start = r_start i;
@@ -283,7 +283,7 @@ module _ (line : RoundLine) (by : ℕ) (now : Moment) (s s' : Standing) (r : Rep
         foreign = r_foreign i;
         own = q.own i;
         stopped = r_stopped i;
-        stores = r_stores i;
+        stores = record { value = r_stores i; marker = record {} };
       }
 
   auctioned_is : E0 → E1 → E7 → E8 → E9 → E10

@@ -17,7 +17,8 @@ use Rattle.converge_round.specs.Sendings.{WireAt}
 use Rattle.converge_round.specs.Starts.{HasNoFault, IsStartTaken, Serving, StartsOne, TakesIf, counted}
 use Rattle.converge_round.specs.Tallies.{lost_one}
 use Rattle.crash_backoff.specs.declared.moment.Moment.{Moment}
-use Rattle.phase_runs.specs.RoundMarks.{is_among, round_ends}
+use Rattle.phase_runs.specs.Names.{is_among}
+use Rattle.phase_runs.specs.RoundMarks.{round_ends}
 use Rattle.scenario_lines.specs.declared.script.RoundLine.{RoundLine}
 use Rattle.run_function.specs.Acts.{done_alone, end_alone, next_end}
 use Rattle.run_function.specs.Boards.{board_seen}

@@ -6,7 +6,8 @@ use Rattle.cell_rep.specs.declared.wire.CallKind.TheVariants.{Ask, Stop, Start}
 use Rattle.cell_rep.specs.declared.wire.Delivery.{Delivery}
 use Rattle.cell_rep.specs.declared.wire.Delivery.TheVariants.{CallLost}
 use Rattle.converge_round.specs.Sendings.{IsSent, WireAt}
-use Rattle.phase_runs.specs.RoundMarks.{end_if, end_to, is_among, round_ends}
+use Rattle.phase_runs.specs.Names.{is_among}
+use Rattle.phase_runs.specs.RoundMarks.{end_if, end_to, round_ends}
 use Rattle.scenario_lines.specs.declared.script.RoundLine.{RoundLine}
 
 -- the wire is still that of the line

@@ -6,7 +6,7 @@ use Rattle.cell_rep.specs.declared.rep.CellRep.{CellRep}
 use Rattle.converge_round.specs.Each.{Each}
 use Rattle.converge_round.specs.Stops.{Stopped, StopsIf, StopsOne, if_done}
 use Rattle.diego_names.specs.declared.instance.Instance.{Instance}
-use Rattle.phase_runs.specs.RoundMarks.{is_among}
+use Rattle.phase_runs.specs.Names.{is_among}
 use Rattle.scenario_lines.specs.declared.script.RoundLine.{RoundLine}
 use Rattle.run_function.specs.Reps.{rep_named, with_rep}
 use Rattle.run_function.specs.RoundLaws.{AreReps}

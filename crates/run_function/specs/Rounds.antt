@@ -20,7 +20,8 @@ use Rattle.converge_round.specs.Tallies.{lost_one, noted}
 use Rattle.converge_round.specs.declared.tally.Tally.{Tally}
 use Rattle.crash_backoff.specs.declared.moment.Moment.{Moment}
 use Rattle.diego_names.specs.declared.instance.Instance.{Instance}
-use Rattle.phase_runs.specs.RoundMarks.{end_to, is_among, round_ends}
+use Rattle.phase_runs.specs.Names.{is_among}
+use Rattle.phase_runs.specs.RoundMarks.{end_to, round_ends}
 use Rattle.scenario_lines.specs.declared.script.RoundLine.{RoundLine}
 use Rattle.run_function.specs.Acts.{SoleRep, end_alone, todo_alone}
 use Rattle.run_function.specs.Boards.{SoleBoard, board_after, reply_alone}

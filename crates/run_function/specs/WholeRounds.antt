@@ -53,7 +53,7 @@ report_alone line start asked lost stopped places s = record {
   foreign = (length s.calls.board.log - start) - s.calls.tally.own;
   own = s.calls.tally.own;
   stopped = stopped;
-  stores = filter_map answer_of s.reps;
+  stores = record { value = filter_map answer_of s.reps; marker = record {} };
 }
 
 -- a round's report, and the board and the reps after it

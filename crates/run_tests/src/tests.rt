@@ -21,6 +21,7 @@ mod freshness;
 mod full;
 mod full_tables;
 mod gates;
+mod large;
 mod limits;
 mod lines;
 mod lives;

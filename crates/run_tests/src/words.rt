@@ -3,10 +3,11 @@
 mod bytes;
 mod faults;
 mod locks;
+mod numbers;
 mod shown;
 
 ghost use Rattle.std.specs.Prelude.{◌≡◌, false, map, string_bytes};
-ghost use Rattle.program_tools.specs.Words.{asked_of, asks_for_run};
+ghost use Rattle.program_tools.specs.Words.{asked_of, asks_to_play};
 
 use crate::given::{
     Given, Left, areas_disk, ends, holds, left_of, sink_of, source_of, tells_nothing, words_of,
@@ -19,11 +20,16 @@ use std::process::Abort;
 
 // The words, which must not ask for a run.
 fn still_words_of(rt: &impl Abort, alloc: Global, texts: &[&str]) -> Vec<String>
-    ensures { asks_for_run (asked_of (map (λ w. string_bytes w) result.items)) ≡ false }
+    ensures { asks_to_play (asked_of (map (λ w. string_bytes w) result.items)) ≡ false }
 {
     let words = words_of(rt, alloc, texts);
     let asked = read_words(alloc, &words);
-    assert!(rt; !matches!(asked, Some(Asked::Run) | Some(Asked::Routes)));
+    assert!(rt;
+        !matches!(
+            asked,
+            Some(Asked::Run) | Some(Asked::Routes) | Some(Asked::Large(_))
+        )
+    );
     words
 }
 

@@ -197,7 +197,7 @@ module _ (base : Rows) (before fresh log : List Item) (goes : LogBegins (before 
       items = λ i inside. by_account (account.items i (subst (λ (xs : List Item). Contains xs i) is_mine inside));
       stores = h.round.reports.stores;
       complete = λ is.
-          subst (λ (x : Rows). IsConverged x r.stores now) (rows_last 0 v w sees later ∙ ap (rows_at base log)
+          subst (λ (x : Rows). IsConverged x r.stores.value now) (rows_last 0 v w sees later ∙ ap (rows_at base log)
           (sym h.round.reports.end_is))
           (converges 0 now line.line (standing v (reps_of olds) (wire_at (Some (round_ends line)) 0))
           (standing w (reps_of news) (wire_at h.ends h.losses)) r h.round apart is);

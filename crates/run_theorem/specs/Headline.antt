@@ -62,7 +62,7 @@ pub record HasConverged (script : Script) (base : Rows) (log : List Item) (r : R
   pub line : RoundLine
   pub round : phase.round ≡ Some line
   pub line_is : r.line ≡ line.line
-  pub converged : IsConverged (rows_at base log r.end) r.stores phase.at
+  pub converged : IsConverged (rows_at base log r.end) r.stores.value phase.at
 
 -- For every interleaving, and every lost or repeated call: each reply is the step's at its place of the log; a legal
 -- command is refused only for a fault of the disk (or for memory, and then nothing is told of its phase); the log is a

@@ -103,8 +103,8 @@ pub record ReportAgrees (base : Rows) (log : List Item) (now : Moment) (line : R
       (standing last (reps_of news) (wire_at ends losses)) r
   pub items : (i : Item) → Contains (by_number 0 (between from upto log)) i →
       IsAskedFor base log now account.got account.roomy r.start r.end i
-  pub stores : r.stores ≡ filter_map answer_of (reps_of news)
-  pub complete : IsComplete r → IsConverged (rows_at base log r.end) r.stores now
+  pub stores : r.stores.value ≡ filter_map answer_of (reps_of news)
+  pub complete : IsComplete r → IsConverged (rows_at base log r.end) r.stores.value now
 
 -- a round has a report; or a fault of the disk ended it, whose doubt is an item of it, so that no phase follows
 abbrev pub IsReported : Rows → List Item → Moment → RoundLine → ℕ → ℕ → List ActorState → List ActorState →

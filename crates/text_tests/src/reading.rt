@@ -3,6 +3,7 @@ ghost use Rattle.std.specs.Prelude.{◌≤◌, length};
 
 mod faults;
 mod limits;
+mod made;
 
 use diego_names::Name;
 use scenario_lines::{Actor, Loss};

@@ -16,8 +16,12 @@ const DRAWN: usize = 0;
 
 const SERVED: usize = 1;
 
-/// So often a waiting thread gives its processor away before it sleeps.
+/// So often a thread whose turn is near gives its processor away before it sleeps.
 const PATIENCE: u32 = 16;
+
+/// A turn is near if no more than so many come first. Whoever waits for a later one sleeps at once: the turns
+/// before it take longer than its looks, and each look takes a processor from them.
+const NEAR: u64 = 2;
 
 /// Draws a ticket.
 pub(crate) fn draw<V: History>(top: &Top<V>, place: &mut Place<V>, number: u32) -> u64
@@ -55,7 +59,7 @@ pub(crate) fn await_turn<V: History, R: Wait>(
         if served == ticket {
             return;
         }
-        if looks < PATIENCE {
+        if looks < PATIENCE && ticket.wrapping_sub(served) <= NEAR {
             looks += 1;
             thread::yield_now();
         } else {

@@ -2,7 +2,7 @@
 ghost use Rattle.std.specs.Prelude.{◌≡◌, ◌≤◌, false};
 ghost use Rattle.bbs_journal.specs.declared.waiting.Waiting.TheVariants.{Nothing};
 
-use super::{CALLS, EMPTY, TWO, empty_disk, empty_journal, is_cut, leaves};
+use super::{CALLS, EMPTY, MOST, TWO, empty_disk, empty_journal, fault_of, is_cut, leaves};
 use crate::asserts::{are_bytes, holds, is_number};
 use bbs_journal::{DiskFault, Journal, LoadFault, load};
 use disk_trait::{Area, Disk, MemoryDisk, Torn};
@@ -12,9 +12,9 @@ use std::test::Fail;
 
 // The disk after a load that failed, and why it did.
 fn failed_load<D: Disk + Drop>(alloc: Global, disk: D) -> (D, Option<LoadFault>) {
-    match load(alloc, disk) {
+    match load(alloc, disk, MOST) {
         Ok(loaded) => (loaded.journal.into_disk(), None),
-        Err((disk, fault)) => (disk, Some(fault)),
+        Err((disk, why)) => (disk, Some(fault_of(why))),
     }
 }
 

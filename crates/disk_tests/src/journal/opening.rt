@@ -1,8 +1,8 @@
 //! What an opening reads of areas that were cut or changed, and of two areas.
 use super::versions::OLD_DESIRED;
-use super::{CALLS, DESIRED, EMPTY, ONE, Read, disk_of, is_opened, opened};
-use crate::asserts::holds;
-use bbs_journal::{LoadFault, load};
+use super::{CALLS, DESIRED, EMPTY, MOST, ONE, Read, disk_of, fault_of, is_opened, opened};
+use crate::asserts::{are_bytes, holds};
+use bbs_journal::{LoadFault, LongHead, NotLoaded, load};
 use disk_trait::{Area, Disk};
 use std::alloc::Global;
 use std::process::Abort;
@@ -23,9 +23,9 @@ fn bytes_behind_the_closed_gate_are_free(rt: HostRuntime) -> Result<(), Fail> {
 
 // How many frames a load finds, and how many device calls it makes.
 fn counted<D: Disk + Drop>(alloc: Global, disk: D) -> Result<(usize, u64), LoadFault> {
-    match load(alloc, disk) {
+    match load(alloc, disk, MOST) {
         Ok(loaded) => Ok((loaded.frames.len(), loaded.journal.clock())),
-        Err((_, fault)) => Err(fault),
+        Err((_, why)) => Err(fault_of(why)),
     }
 }
 
@@ -155,5 +155,38 @@ fn of_two_areas_the_newer_is_read(rt: HostRuntime) -> Result<(), Fail> {
     for (row, (a, b, want)) in table.iter().enumerate() {
         is_opened(&rt, row as u64, opened(alloc, a, b)?, *want);
     }
+    Ok(())
+}
+
+// The head that is too long for a load with room for so many bytes of it.
+fn long_head<D: Disk + Drop>(alloc: Global, disk: D, most: u32) -> Option<LongHead> {
+    match load(alloc, disk, most) {
+        Ok(_) => None,
+        Err((_, why)) => match why {
+            NotLoaded::Fault(_) => None,
+            NotLoaded::LongHead(long) => Some(long),
+        },
+    }
+}
+
+fn is_cut(rt: &impl Abort, long: Option<LongHead>, begin: &[u8]) {
+    match long {
+        Some(long) => {
+            holds(rt, long.area == Area::A && long.version == 2);
+            are_bytes(rt, &long.begin, begin);
+        }
+        None => holds(rt, false),
+    }
+}
+
+#[test]
+fn of_a_head_that_is_too_long_no_more_is_read_than_was_allowed(
+    rt: HostRuntime,
+) -> Result<(), Fail> {
+    let alloc = rt.alloc();
+    let cut = long_head(alloc, disk_of(alloc, &EMPTY, &[], &[])?, 27);
+    is_cut(&rt, cut, &[0; 27]);
+    let whole = long_head(alloc, disk_of(alloc, &EMPTY, &[], &[])?, 28);
+    holds(&rt, whole.is_none());
     Ok(())
 }

@@ -2,7 +2,7 @@
 ghost use Rattle.std.specs.Prelude.{◌≡◌, ◌≤◌, false, IfOk};
 
 use super::switching::switch;
-use super::{CALLS, DESIRED, EMPTY, disk_of, journal_on};
+use super::{CALLS, DESIRED, EMPTY, MOST, disk_of, fault_of, journal_on};
 use crate::asserts::{are_bytes, holds, is_number};
 use bbs_journal::{LoadFault, load_from_memory};
 use disk_trait::{Area, Disk, MemoryDisk, Torn};
@@ -32,9 +32,9 @@ fn is_read(rt: &impl Abort, row: u64, got: Read, wanted: Read) {
 }
 
 fn read(alloc: Global, a: &[u8], b: &[u8]) -> Result<Read, Fail> {
-    match load_from_memory(alloc, disk_of(alloc, a, b, &[])?) {
+    match load_from_memory(alloc, disk_of(alloc, a, b, &[])?, MOST) {
         Ok(loaded) => Ok(Ok((loaded.journal.area(), loaded.version, loaded.frames.len()))),
-        Err((_, fault)) => Ok(Err(fault)),
+        Err((_, why)) => Ok(Err(fault_of(why))),
     }
 }
 

@@ -5,6 +5,7 @@ ghost use Rattle.board_port.specs.Went.{seen_of};
 use super::boards::CALLER;
 use bbs_board::Board;
 use bbs_model::{CallFault, Command, Heard, Port, Reply, Rows};
+use board_port::uncounted_work;
 use crash_backoff::Moment;
 use diego_names::{List, OutOfMemory};
 use disk_trait::Disk;
@@ -70,7 +71,7 @@ impl<'a, D: Disk> Port for BesidePort<'a, D> {
 
     fn work(&mut self, alloc: Global, now: Moment) -> Result<List<Command>, OutOfMemory> {
         self.board.holds();
-        self.board.work(alloc, now)
+        uncounted_work(self.board, alloc, now)
     }
 
     fn events(&mut self, alloc: Global, from: u64, max: u32) -> Result<Heard, OutOfMemory> {

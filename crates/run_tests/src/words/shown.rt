@@ -76,7 +76,8 @@ fn words_that_are_not_in_the_grammar_touch_nothing(rt: HostRuntime) {
     is_usage(&rt, alloc, &["diego", "-h"]);
     is_usage(&rt, alloc, &["diego", "help"]);
     is_usage(&rt, alloc, &["diego", "generate", "4294967296"]);
-    is_usage(&rt, alloc, &["diego", "generate", "7"]);
+    is_usage(&rt, alloc, &["diego", "generate"]);
+    is_usage(&rt, alloc, &["diego", "generate", "07"]);
     is_usage(&rt, alloc, &["diego", "records", "records"]);
     is_usage(&rt, alloc, &["diego", "-check"]);
 }

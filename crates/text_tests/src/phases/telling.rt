@@ -10,6 +10,7 @@ use phase_text::{answers_by_line, events_by_key, phase_text};
 use scenario_lines::{Actor, Answered, Line, Phase, RoundLine, Script};
 use std::alloc::Global;
 use std::process::Abort;
+use std::snapshot::Snapshot;
 use std::test::Fail;
 
 /// What a round reports that asked so many cells, and left one job at most without a cell.
@@ -124,7 +125,7 @@ fn report(alloc: Global, line: u32, of: &Reported) -> Result<Report, OutOfMemory
         foreign: of.foreign,
         own: of.own,
         stopped: List::new(alloc),
-        stores: List::new(alloc),
+        stores: Snapshot::of(&List::new(alloc)),
     })
 }
 

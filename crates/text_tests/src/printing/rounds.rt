@@ -6,6 +6,7 @@ use diego_names::{Instance, List, Name};
 use record_print::{failed_round_text, report_text};
 use std::alloc::Global;
 use std::process::Abort;
+use std::snapshot::Snapshot;
 use std::test::Fail;
 
 /// A round at a line, over two cells, that did so much and left nothing open.
@@ -21,7 +22,7 @@ fn report(alloc: Global, line: u32, own: u64) -> Report {
         foreign: 0,
         own,
         stopped: List::new(alloc),
-        stores: List::new(alloc),
+        stores: Snapshot::of(&List::new(alloc)),
     }
 }
 

@@ -7,8 +7,8 @@ returns-clause-shows g c =
     (λ f holds c' shows. holds c' shows (c.in_ok-chosen.ensures.shows c'
     (shows_back _ _ c' c.read_area.ensures.does shows))) c.read_area.ensures.shows
 
-pub returns-clause-fault : goal.returns-clause-fault
-returns-clause-fault g c =
+pub returns-clause-why : goal.returns-clause-why
+returns-clause-why g c =
     if_err_weaker c.read_area.result _ _
     (λ e fails c' shows. fails c' shows (c.in_ok-chosen.ensures.shows c'
-    (shows_back _ _ c' c.read_area.ensures.does shows))) c.read_area.ensures.fault
+    (shows_back _ _ c' c.read_area.ensures.does shows))) c.read_area.ensures.why

@@ -1,7 +1,4 @@
-use Rattle.std.proofs.Common.{◌≡◌}
-use Rattle.cell_records.specs.declared.answer.Answer.{Answer}
-use Rattle.converge_round.specs.Askings.{Hears, answer_under}
-use Rattle.cell_rep.specs.Reps.{answer_of}
+use Rattle.converge_round.specs.Askings.{Hears}
 use Rattle.converge_round.specs.Reps.{names_of}
 use Rattle.converge_round.proofs.HeardLaws.{if_ok, hears_at}
 use Rattle.converge_round.proofs.asking.answer_of_cell.Goals as goal

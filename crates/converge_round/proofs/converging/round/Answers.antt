@@ -7,6 +7,7 @@ use Rattle.converge_round.proofs.RepLaws.{index-kept, keep-same, keep-then}
 use Rattle.converge_round.proofs.RoundLaws.{each_by, own_by, first_by, opens_by, report_from}
 use Rattle.bbs_model.proofs.Public.{later_looks, later_then}
 use Rattle.converge_round.proofs.FaultLaws.{caused_by_want, caused_before}
+use Rattle.converge_round.proofs.Sure.{sure_looks, sure_then, sure_fault}
 use Rattle.converge_round.proofs.converging.round.Goals as goal
 
 pub start_each-requires-clause-index : goal.start_each-requires-clause-index
@@ -140,3 +141,40 @@ returns-in-Err-call_fails-clause-cause g c =
 
 pub returns-in-Err-report_of-clause-cause : goal.returns-in-Err-report_of-clause-cause
 returns-in-Err-report_of-clause-cause g c = caused_by_want _ _ _
+
+pub returns-in-Err-clause-sure : goal.returns-in-Err-clause-sure
+returns-in-Err-clause-sure g c = sure_looks _ _ c.place-start.ensures.looks
+
+pub returns-in-Err-open_round-clause-sure : goal.returns-in-Err-open_round-clause-sure
+returns-in-Err-open_round-clause-sure g c =
+    sure_fault c.in-Err-open_round.fault _ _ _ (sure_looks _ _ c.place-start.ensures.looks)
+    c.in-Err-open_round.ensures.sure
+
+pub returns-in-Err-start_each-clause-sure : goal.returns-in-Err-start_each-clause-sure
+returns-in-Err-start_each-clause-sure g c =
+    sure_fault c.in-Err-start_each.fault _ _ _
+    (sure_then _ _ _ (sure_looks _ _ c.place-start.ensures.looks) c.in-Ok-open_round.ensures.sure)
+    c.in-Err-start_each.ensures.sure
+
+pub returns-in-Err-call_fails-clause-sure : goal.returns-in-Err-call_fails-clause-sure
+returns-in-Err-call_fails-clause-sure g c =
+    sure_fault c.in-Err-call_fails.fault _ _ _
+    (sure_then _ _ _ (sure_then _ _ _ (sure_looks _ _ c.place-start.ensures.looks) c.in-Ok-open_round.ensures.sure)
+    c.in-Ok-start_each.ensures.sure)
+    c.in-Err-call_fails.ensures.sure
+
+pub returns-in-Err-report_of-clause-sure : goal.returns-in-Err-report_of-clause-sure
+returns-in-Err-report_of-clause-sure g c =
+    sure_then _ _ _
+    (sure_then _ _ _ (sure_then _ _ _ (sure_then _ _ _ (sure_looks _ _ c.place-start.ensures.looks) c.in-Ok-open_round.ensures.sure)
+    c.in-Ok-start_each.ensures.sure)
+    c.in-Ok-call_fails.ensures.sure)
+    (sure_looks _ _ c.report_of.ensures.looks)
+
+pub returns-clause-sure : goal.returns-clause-sure
+returns-clause-sure g c =
+    sure_then _ _ _
+    (sure_then _ _ _ (sure_then _ _ _ (sure_then _ _ _ (sure_looks _ _ c.place-start.ensures.looks) c.in-Ok-open_round.ensures.sure)
+    c.in-Ok-start_each.ensures.sure)
+    c.in-Ok-call_fails.ensures.sure)
+    (sure_looks _ _ c.report_of.ensures.looks)

@@ -6,6 +6,7 @@ use Rattle.converge_round.proofs.Owns.{own_none, own_more}
 use Rattle.converge_round.proofs.RepLaws.{keep-same, keep-then, index-kept}
 use Rattle.converge_round.proofs.StartLaws.{claim_for_one}
 use Rattle.converge_round.proofs.FaultLaws.{caused_by_want, caused_before}
+use Rattle.converge_round.proofs.Sure.{sure_none, sure_then, sure_fault}
 use Rattle.converge_round.proofs.converging.start_each.Goals as goal
 
 pub loop-answer-init : goal.loop-answer-init
@@ -14,6 +15,7 @@ loop-answer-init g c = record {
   keeps = g.met.P.Port.same c.args.port.now;
   number = refl;
   own = own_none _ _ _;
+  sure = sure_none _;
   cells = keep-same c.args.cells.now;
   serves = refl;
 }
@@ -35,6 +37,7 @@ loop-answer-preserved g c =
       number = p.number ∙ i.number;
       own = own_more _ _ (IsClaimFor c.args.now places places.roomy) _ _ _ _ i.number
           (claim_for_one c.args.now places k item within is) i.own p.own;
+      sure = sure_then _ _ _ i.sure p.sure;
       cells = keep-then _ _ _ i.cells p.cells;
       serves = each-more-by (λ by. ServesOne by c.args.now places) _ _ places.roomy k item _ _ _ i.number within is
           i.serves p.serves;
@@ -69,3 +72,10 @@ pub returns-in-Err-start_on-clause-cause : goal.returns-in-Err-start_on-clause-c
 returns-in-Err-start_on-clause-cause g c =
     let i = c.loop-answer.invariant in
     caused_before _ _ _ _ _ _ i.number i.own.later c.in-Err-start_on.ensures.cause
+
+pub returns-in-Err-clause-sure : goal.returns-in-Err-clause-sure
+returns-in-Err-clause-sure g c = sure_none _
+
+pub returns-in-Err-start_on-clause-sure : goal.returns-in-Err-start_on-clause-sure
+returns-in-Err-start_on-clause-sure g c =
+    sure_fault c.in-Err-start_on.fault _ _ _ c.loop-answer.invariant.sure c.in-Err-start_on.ensures.sure

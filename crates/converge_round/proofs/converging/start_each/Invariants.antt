@@ -1,6 +1,7 @@
 use Rattle.std.proofs.Common.{◌≡◌, take}
 use Rattle.converge_round.specs.Callings.{AreOf}
 use Rattle.converge_round.specs.Each.{Each}
+use Rattle.converge_round.specs.Faults.{HasNoDoubt}
 use Rattle.converge_round.specs.Phases.{IsClaimFor, ServesOne, course}
 use Rattle.converge_round.specs.Reps.{names_of, IsRepIndex, KeepReps}
 use Rattle.converge_round.specs.Sendings.{wire_at}
@@ -13,6 +14,7 @@ invariant-loop-answer g l = record {
   number : g.P.Port.number l.port ≡ g.P.Port.number l.initial.port;
   own : AreOf (g.P.Port.number l.initial.port) (IsClaimFor l.now l.places l.places.roomy)
       (g.P.Port.view l.initial.port) (g.P.Port.view l.port);
+  sure : HasNoDoubt (g.P.Port.view l.initial.port) (g.P.Port.view l.port);
   cells : KeepReps l.initial.cells l.cells;
   serves : Each (ServesOne (g.P.Port.number l.initial.port) l.now l.places) (take l.answer-index l.places.roomy)
       (course (g.P.Port.view l.initial.port) l.initial.tally l.initial.cells

@@ -2,13 +2,13 @@ use Rattle.std.proofs.Common.{List, inl, subst}
 use Rattle.cell_records.specs.declared.job.Job.{Job}
 use Rattle.converge_round.specs.Callings.{AreOf}
 use Rattle.converge_round.specs.Phases.{ClaimsAt, course}
-use Rattle.converge_round.specs.Places.{jobs_on}
 use Rattle.converge_round.specs.Sendings.{wire_at}
 use Rattle.converge_round.specs.Starts.{IsClaimOfOne}
 use Rattle.converge_round.specs.Reps.{names_of}
 use Rattle.converge_round.proofs.Owns.{own_none}
 use Rattle.converge_round.proofs.RepLaws.{keep-same, place-within}
 use Rattle.std.proofs.lemmas.Result.{on_ok_weaker}
+use Rattle.converge_round.proofs.Sure.{sure_none}
 use Rattle.converge_round.proofs.converging.start_on.Goals as goal
 
 pub returns-in-None-clause-own : goal.returns-in-None-clause-own
@@ -39,3 +39,6 @@ returns-in-Some-clause-serves g c =
     (c.on-jobs.ensures c.args.places.now.rows c.args.places.now.placements c.requires.kept)
     (h c.args.answer.now.cell (c.in-Some.ensures (names_of c.args.cells.now) c.requires.index))))
     c.claim_at.ensures.serves
+
+pub returns-in-None-clause-sure : goal.returns-in-None-clause-sure
+returns-in-None-clause-sure g c = sure_none _

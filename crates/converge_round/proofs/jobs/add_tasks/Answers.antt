@@ -1,4 +1,4 @@
-use Rattle.std.proofs.Common.{◌∙◌, ap, refl, [], ◌++◌, Option}
+use Rattle.std.proofs.Common.{◌∙◌, ap, ◌++◌, Option}
 use Rattle.std.specs.Option.{option_to_list}
 use Rattle.cell_records.specs.declared.job.Job.{Job}
 use Rattle.converge_round.specs.Jobs.{task_job}

@@ -3,6 +3,7 @@ use Rattle.convergence.specs.Plans.{plan_of_answers}
 use Rattle.converge_round.proofs.Asked.{asked_looks, asked_list, on_ok, called_read}
 use Rattle.bbs_model.proofs.Public.{later_looks}
 use Rattle.converge_round.proofs.FaultLaws.{caused_by_want, causes_before}
+use Rattle.converge_round.proofs.Sure.{sure_looks, sure_behind}
 use Rattle.converge_round.proofs.opening.call_plan.Goals as goal
 
 pub returns-in-Err-clause-own : goal.returns-in-Err-clause-own
@@ -26,3 +27,10 @@ pub returns-in-Ok-clause-cause : goal.returns-in-Ok-clause-cause
 returns-in-Ok-clause-cause g c =
     causes_before c.call_each.result _ _ _ _ _ c.in-Ok.ensures.number
     (later_looks _ _ c.in-Ok.ensures.looks) c.call_each.ensures.cause
+
+pub returns-in-Err-clause-sure : goal.returns-in-Err-clause-sure
+returns-in-Err-clause-sure g c = sure_looks _ _ c.in-Err.ensures.looks
+
+pub returns-in-Ok-clause-sure : goal.returns-in-Ok-clause-sure
+returns-in-Ok-clause-sure g c =
+    sure_behind c.call_each.result _ _ _ (sure_looks _ _ c.in-Ok.ensures.looks) c.call_each.ensures.sure

@@ -1,4 +1,4 @@
-use Rattle.std.proofs.Common.{◌≡◌, ◌≤◌, ◌∙◌, List, [], length, subst, sym, ap, refl, arith}
+use Rattle.std.proofs.Common.{◌≡◌, ◌≤◌, ◌∙◌, List, [], length, subst, ap, refl, arith}
 use Rattle.cell_records.specs.declared.cell_row.CellRow.{CellRow}
 use Rattle.converge_round.specs.Askings.{present, AsksOne, questions}
 use Rattle.converge_round.specs.Each.{Each}

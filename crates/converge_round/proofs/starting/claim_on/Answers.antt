@@ -5,6 +5,7 @@ use Rattle.converge_round.proofs.Owns.{own_none, own_more}
 use Rattle.converge_round.proofs.RepLaws.{rep_same, rep_then}
 use Rattle.converge_round.proofs.StartLaws.{claim_of_one}
 use Rattle.converge_round.proofs.FaultLaws.{caused_before}
+use Rattle.converge_round.proofs.Sure.{sure_none, sure_then, sure_fault}
 use Rattle.converge_round.proofs.starting.claim_on.Goals as goal
 
 pub loop-job-init : goal.loop-job-init
@@ -12,6 +13,7 @@ loop-job-init g c = record {
   keeps = g.met.P.Port.same c.args.port.now;
   number = refl;
   own = own_none _ _ _;
+  sure = sure_none _;
   rep = rep_same c.args.rep.now;
   starts = refl;
 }
@@ -28,6 +30,7 @@ loop-job-preserved g c =
       own = own_more _ _ (IsClaimOfOne c.args.now c.args.rep.now.cell list) _ _ _ _ i.number
           (claim_of_one c.args.now c.args.rep.now.cell c.loop-job.rep.cell list k c.job-item.result i.rep.cell
           c.loop-job-test.true c.job-item.is) i.own p.own;
+      sure = sure_then _ _ _ i.sure p.sure;
       rep = rep_then _ _ _ i.rep p.rep;
       starts = each-more-by (λ by. StartsOne by c.args.now) _ _ list k c.job-item.result _ _ _ i.number
           c.loop-job-test.true c.job-item.is i.starts p.starts;
@@ -48,3 +51,7 @@ pub returns-in-Err-clause-cause : goal.returns-in-Err-clause-cause
 returns-in-Err-clause-cause g c =
     let i = c.loop-job.invariant in
     caused_before _ _ _ _ _ _ i.number i.own.later c.in-Err.ensures.cause
+
+pub returns-in-Err-clause-sure : goal.returns-in-Err-clause-sure
+returns-in-Err-clause-sure g c =
+    sure_fault c.in-Err.fault _ _ _ c.loop-job.invariant.sure c.in-Err.ensures.sure

@@ -1,6 +1,7 @@
 use Rattle.std.proofs.Common.{◌≡◌, take}
 use Rattle.converge_round.specs.Callings.{AreOf}
 use Rattle.converge_round.specs.Each.{Each}
+use Rattle.converge_round.specs.Faults.{HasNoDoubt}
 use Rattle.converge_round.specs.Reps.{SameRep}
 use Rattle.converge_round.specs.Sendings.{wire_at}
 use Rattle.converge_round.specs.Starts.{StartsOne, IsClaimOfOne, serving}
@@ -12,6 +13,7 @@ invariant-loop-job g l = record {
   number : g.P.Port.number l.port ≡ g.P.Port.number l.initial.port;
   own : AreOf (g.P.Port.number l.initial.port) (IsClaimOfOne l.now l.initial.rep.cell l.jobs)
       (g.P.Port.view l.initial.port) (g.P.Port.view l.port);
+  sure : HasNoDoubt (g.P.Port.view l.initial.port) (g.P.Port.view l.port);
   rep : SameRep l.initial.rep l.rep;
   starts : Each (StartsOne (g.P.Port.number l.initial.port) l.now) (take l.job-index l.jobs)
       (serving l.initial.rep (g.P.Port.view l.initial.port) l.initial.tally

@@ -3,6 +3,7 @@ use Rattle.std.specs.Prelude.{◌==◌}
 use Rattle.program_ends.specs.Opening.{is_before_board}
 use Rattle.diego_engine.proofs.Exactly.{reached_from, stopped_at, no_board_from, too_much_from}
 use Rattle.diego_engine.proofs.Faithful.{headline_from}
+use Rattle.diego_engine.proofs.NumberLaws.{large_from, number_complete}
 use Rattle.diego_engine.proofs.Recoveries.{doubts_from}
 use Rattle.diego_engine.proofs.Serial.{serially}
 use Rattle.diego_engine.proofs.TopLaws.{usage_from, usage_to, script_from, unwritten_from, unstored_from, refused_from, too_long_from, exists_from, untouched_from, done_from, complete_from, no_script_from}
@@ -117,3 +118,15 @@ returns-clause-too_much g c is tells source =
 pub returns-clause-reached : goal.returns-clause-reached
 returns-clause-reached g c n = let (how, status, ends) = c.whole_top.ensures.ends in
     reached_from g.D.Disk.told g.D.Disk.fault_count g.D.Disk.moment _ _ _ _ _ _ _ how _ (sym status ∙ n) ends
+
+pub returns-clause-complete_number : goal.returns-clause-complete_number
+returns-clause-complete_number g c is sink =
+    let (how, status, ends) = c.whole_top.ensures.ends in
+    elim (number_complete _ _ _ g.D.Disk.told g.D.Disk.fault_count g.D.Disk.moment _ _ _ _ how _ is ends sink) [
+      | inl n ↦ inl (status ∙ n)
+      | inr n ↦ inr (status ∙ n)
+    ]
+
+pub returns-clause-large : goal.returns-clause-large
+returns-clause-large g c number is = let (how, status, ends) = c.whole_top.ensures.ends in
+    (how, status, large_from _ _ _ g.D.Disk.told g.D.Disk.fault_count g.D.Disk.moment _ _ _ _ how _ number is ends)

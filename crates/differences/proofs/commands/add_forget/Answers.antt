@@ -2,7 +2,7 @@ use Rattle.std.proofs.Common.{◌++◌, Option, ap, ◌∙◌}
 use Rattle.std.specs.Option.{option_map, option_to_list}
 use Rattle.bbs_model.specs.Work.{at}
 use Rattle.bbs_model.specs.declared.command.Command.{Command}
-use Rattle.convergence.proofs.Lists.{asked_more}
+use Rattle.convergence.proofs.Public.{asked_more}
 use Rattle.differences.specs.Commands.{forget}
 use Rattle.differences.proofs.commands.add_forget.Goals as goal
 

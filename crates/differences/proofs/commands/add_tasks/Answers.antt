@@ -3,7 +3,7 @@ use Rattle.std.specs.Option.{option_map, option_to_list}
 use Rattle.bbs_model.specs.Work.{at}
 use Rattle.bbs_model.specs.declared.command.Command.{Command}
 use Rattle.bbs_model.specs.declared.rows.Rows.{Rows}
-use Rattle.convergence.proofs.Lists.{asked_more}
+use Rattle.convergence.proofs.Public.{asked_more}
 use Rattle.differences.specs.Commands.{command_of_task, task_command}
 use Rattle.differences.proofs.commands.add_tasks.Goals as goal
 

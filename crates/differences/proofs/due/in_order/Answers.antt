@@ -1,6 +1,6 @@
 use Rattle.std.proofs.Common.{◌∙◌}
 use Rattle.std.proofs.lemmas.List.Filters.{dedup_is}
-use Rattle.convergence.proofs.Orders.{table-from_dedup}
+use Rattle.convergence.proofs.Public.{table-from_dedup}
 use Rattle.differences.proofs.due.in_order.Goals as goal
 
 pub returns : goal.returns

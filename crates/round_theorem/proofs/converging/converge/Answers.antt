@@ -18,7 +18,7 @@ returns-clause-converged g c =
     (wire_at (g.W.Wire.ends c.round.new.wire) (g.W.Wire.losses c.round.new.wire)) in
     if_ok (λ (r : Report). IsRound (g.P.Port.number c.args.port.now) c.args.now c.args.line before after r)
     (λ (r : Report). StandApart (names_of c.args.cells.now) → IsComplete r
-    → IsConverged (rows_seen (g.P.Port.view c.round.new.port)) r.stores c.args.now)
+    → IsConverged (rows_seen (g.P.Port.view c.round.new.port)) r.stores.value c.args.now)
     c.round.result
     (λ r h apart complete. complete-converges (g.P.Port.number c.args.port.now) c.args.now c.args.line before after r h
     apart complete)

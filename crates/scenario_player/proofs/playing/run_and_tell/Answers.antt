@@ -1,4 +1,4 @@
-use Rattle.std.proofs.Common.{◌≡◌, ◌∙◌, List, take, rules, sym, ap, subst}
+use Rattle.std.proofs.Common.{◌≡◌, ◌∙◌, List, take, rules, refl, sym, ap, subst, inr}
 use Rattle.std.specs.List.Sorted.{IsPermutation}
 use Rattle.phase_runs.specs.Phases.{PhaseRan}
 use Rattle.scenario_lines.specs.declared.answered.Answered.{Answered}
@@ -53,3 +53,21 @@ returns-in-Ok-add-clause-told g c =
     (c.in-Ok-made.ensures.text
     ∙ ap (λ (xs : List Answered). g.T.Teller.wording script phase xs report left.base (take from left.log) left.log)
     c.items.ensures)
+
+pub returns-in-Err-answers_by_line-clause-untold : goal.returns-in-Err-answers_by_line-clause-untold
+returns-in-Err-answers_by_line-clause-untold g c =
+    let ran : PhaseRan g.D.Disk.told c.args.phase.now c.args.actors.now c.run_phase-board.new.actors c.in-Ok.ran.parts
+    c.in-Ok.ran.report c.args.board c.run_phase-board.result.0 = search rules in
+    (refl, inr (c.run_phase-board.new.actors, c.in-Ok.ran.parts, c.in-Ok.ran.report, ran))
+
+pub returns-in-Err-made-clause-untold : goal.returns-in-Err-made-clause-untold
+returns-in-Err-made-clause-untold g c =
+    let ran : PhaseRan g.D.Disk.told c.args.phase.now c.args.actors.now c.run_phase-board.new.actors c.in-Ok.ran.parts
+    c.in-Ok.ran.report c.args.board c.run_phase-board.result.0 = search rules in
+    (refl, inr (c.run_phase-board.new.actors, c.in-Ok.ran.parts, c.in-Ok.ran.report, ran))
+
+pub returns-clause-untold : goal.returns-clause-untold
+returns-clause-untold g c =
+    let ran : PhaseRan g.D.Disk.told c.args.phase.now c.args.actors.now c.run_phase-board.new.actors c.in-Ok.ran.parts
+    c.in-Ok.ran.report c.args.board c.run_phase-board.result.0 = search rules in
+    (search rules, inr (c.run_phase-board.new.actors, c.in-Ok.ran.parts, c.in-Ok.ran.report, ran))

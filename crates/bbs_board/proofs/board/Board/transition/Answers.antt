@@ -147,7 +147,7 @@ invariant_of-self-2 g c =
     sound_more g.D.Disk.told g.D.Disk.fault_count c.self.inside.index.rows c.self.inside.base.value.rows
     c.self.inside.history.log c.self.inside.history.marks c.self.inside.history.told c.self.inside.since
     c.self.inside.faults c.self.inside.journal c.store-stored.new.journal c.self.invariant
-    c.args.by c.args.command.now c.write_command-len.ensures.fits legal true c.apply-events.new.store.rows
+    c.args.by c.args.command.now c.write_command-len.ensures.fits legal true c.apply-events.new.self.rows
     c.add-2.new.self.log c.add-2.new.self.marks c.add-2.new.self.told c.clock-mark.result
     (c.apply-events.ensures.state ∙ ap (λ (r : Rows). rows_after r c.args.command.now) c.prepare_call.ensures.rows)
     (ap (λ (e : Entries). e.log) added)
@@ -215,17 +215,17 @@ returns-clause-grows g c =
     let more = c.prepare_call.ensures.kept in
     let added = c.add-2.ensures ∙ ap (with_item c.args.by c.args.command.now c.clock-mark.result
     (Some c.apply-events.result)) c.prepare_call.ensures.history in
-    let after : c.apply-events.new.store.rows ≡ rows_after b.index.rows c.args.command.now =
+    let after : c.apply-events.new.self.rows ≡ rows_after b.index.rows c.args.command.now =
     c.apply-events.ensures.state ∙ ap (λ (r : Rows). rows_after r c.args.command.now) c.prepare_call.ensures.rows in
     let places = places_kept (places_in b.draft) (places_in c.prepare_call.new.draft) b.index.rows
-    c.apply-events.new.store.rows
+    c.apply-events.new.self.rows
     more.2 (subst (λ (r : Rows). row_count r ≤ row_count b.index.rows + 2) (sym after)
     (few_after b.index.rows c.args.command.now)) in
-    let index : b.index.spare ≤ c.apply-events.new.store.spare + 2 =
+    let index : b.index.spare ≤ c.apply-events.new.self.spare + 2 =
     omega (arith, more.0, c.apply-events.ensures.spare) in
     let history : b.history.room ≤ c.add-2.new.self.room + 1 =
     omega (arith, more.1, ap (λ (e : Entries). e.room) added) in
-    let less = calls_less b.index.spare b.history.room _ c.apply-events.new.store.spare c.add-2.new.self.room _ index
+    let less = calls_less b.index.spare b.history.room _ c.apply-events.new.self.spare c.add-2.new.self.room _ index
     history places in
     let was = ap (λ (v : View g.row.D.Denot). v.spare) c.self.view_is in
     record {

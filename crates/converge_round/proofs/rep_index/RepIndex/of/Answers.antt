@@ -1,9 +1,4 @@
-use Rattle.std.proofs.Common.{ap, subst, sym, [], Option}
-use Rattle.std.specs.BTreeMap.{is_at}
-use Rattle.std.specs.Map.{lookup}
-use Rattle.diego_names.specs.Order.{name_order}
-use Rattle.converge_round.specs.Reps.{IsPlaceOf}
-use Rattle.converge_round.proofs.IndexLaws.{placed-more, names-more, names-before, none-placed}
+use Rattle.converge_round.proofs.IndexLaws.{placed-more, names-more, names-before}
 use Rattle.converge_round.proofs.rep_index.RepIndex.of.Goals as goal
 
 pub loop-at-preserved : goal.loop-at-preserved

@@ -3,7 +3,7 @@ use Rattle.std.specs.Option.{option_map, option_to_list}
 use Rattle.bbs_model.specs.Work.{at}
 use Rattle.bbs_model.specs.declared.command.Command.{Command}
 use Rattle.bbs_model.specs.declared.rows.Rows.{Rows}
-use Rattle.convergence.proofs.Lists.{asked_more}
+use Rattle.convergence.proofs.Public.{asked_more}
 use Rattle.differences.specs.Commands.{command_at_place}
 use Rattle.differences.specs.Noted.{noted_of}
 use Rattle.differences.proofs.kept.Kept.add_places.Goals as goal

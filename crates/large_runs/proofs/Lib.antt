@@ -1,0 +1,7 @@
+mod EmptyBoard
+mod Calm
+mod Silence
+mod Texts
+mod Printed
+mod Laws
+pub mod Public

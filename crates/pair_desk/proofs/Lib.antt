@@ -1,0 +1,5 @@
+mod Calls
+mod Turning
+mod Closing
+mod Sent
+pub mod Public

@@ -1,0 +1,11 @@
+pub mod Boards
+pub mod Disks
+pub mod Endings
+pub mod Ends
+pub mod Keeping
+pub mod Opening
+pub mod Reading
+pub mod Runs
+pub mod Servers
+pub mod TakeOvers
+pub mod Top
