@@ -1,7 +1,7 @@
 use diego_names::Name;
 
 /// What ends at a second that a row of the board tells.
-#[derive(Clone, Copy, Debug, PartialEq, Eq)]
+#[derive(Clone, Copy, Debug, PartialEq, Eq, Hash)]
 pub enum Term {
     /// The lease of a cell under the epoch with which it joined.
     OfEpoch { cell: Name, epoch: u64 },
@@ -10,7 +10,7 @@ pub enum Term {
 }
 
 /// Why a subject is asked for something.
-#[derive(Clone, Copy, Debug, PartialEq, Eq)]
+#[derive(Clone, Copy, Debug, PartialEq, Eq, Hash)]
 pub enum Cause {
     /// At any moment.
     Always,
