@@ -1,5 +1,5 @@
 //! The rows of one table, read one by one.
-ghost use Rattle.std.specs.Prelude.{◌≡◌, ◌≤◌, ◌++◌, ◌∷◌, [], true, Ok, length, IfOk, IfErr};
+ghost use Rattle.std.specs.Prelude.{◌≡◌, ◌≤◌, ◌++◌, ◌∷◌, [], true, Ok, length, min, ◌/◌, IfOk, IfErr};
 ghost use Rattle.head_codec.specs.Head.{may_follow, row_kept, head_rows_at};
 ghost use Rattle.head_codec.specs.Seen.{IsSeen, BlamesHead, TellsHead};
 
@@ -10,6 +10,9 @@ use bbs_codec::CodecFault;
 use diego_names::{List, OutOfMemory};
 use std::alloc::Global;
 use std::collections::BTreeSet;
+
+/// No row takes fewer bytes than a domain of one letter that has no end: its length, its letter, and that it has none.
+const LEAST_ROW: usize = 3;
 
 /// The rows that were read, and what tells whether a further one may follow them.
 #[derive(Drop)]
@@ -76,6 +79,55 @@ fn read_row<X: HeadRow>(
     }
 }
 
+/// For how many rows room is made: as many as are told, as a table may have, and as so many bytes hold. So a
+/// count that lies takes no more room than one that is true of these bytes.
+fn room_for<X: HeadRow>(count: u32, bytes: usize) -> usize
+    ensures { result ≡ min (min count X.keeps.most) (bytes / 3) }
+{
+    (count as usize).min(X::most()).min(bytes / LEAST_ROW)
+}
+
+/// A table without rows, which has room for so many.
+fn empty_table<X: HeadRow>(alloc: Global, room: usize) -> Result<Table<X>, OutOfMemory>
+    ensures none { IfOk result (λ table. table.rows ≡ []) }
+    ensures seen { IfOk result (λ table. IsSeen X.Key.cmp X.key X.keeps
+        table.rows table.last table.wanted table.stamps) }
+{
+    let rows = Vec::with_capacity(alloc, room)?;
+    Ok(Table {
+        rows: List::from(rows),
+        last: None,
+        wanted: 0,
+        stamps: BTreeSet::new(alloc),
+    })
+}
+
+/// Reads so many rows behind those of the table, and gives the place behind them.
+fn read_more<X: HeadRow>(
+    table: &mut Table<X>,
+    bytes: &[u8],
+    version: u16,
+    next: u64,
+    count: u32,
+    at: usize,
+) -> Result<usize, HeadFault>
+    requires place { at ≤ length bytes.now }
+    requires seen { IsSeen X.Key.cmp X.key X.keeps
+        table.old.rows table.old.last table.old.wanted table.old.stamps }
+    ensures ok { IfOk result (λ after. head_rows_at (X.formats version).read
+        (may_follow X.Key.cmp X.key X.keeps next) count bytes.now (table.old.rows, at)
+        ≡ Ok (table.new.rows, after)) }
+    ensures err { IfErr result (λ fault. BlamesHead fault (head_rows_at (X.formats version).read
+        (may_follow X.Key.cmp X.key X.keeps next) count bytes.now (table.old.rows, at))) }
+    ensures within { IfOk result (λ after. after ≤ length bytes.now) }
+{
+    let mut place = at;
+    for _row in 0..count {
+        place = read_row(table, bytes, version, next, place)?;
+    }
+    Ok(place)
+}
+
 /// Reads so many rows of a head of this version from a place on, and gives the place behind them.
 pub fn read_rows<X: HeadRow>(
     alloc: Global,
@@ -90,16 +142,9 @@ pub fn read_rows<X: HeadRow>(
         (may_follow X.Key.cmp X.key X.keeps next) count bytes.now ([], at)) }
     ensures within { IfOk result (λ read. read.1 ≤ length bytes.now) }
 {
-    let mut table = Table {
-        rows: List::new(alloc),
-        last: None,
-        wanted: 0,
-        stamps: BTreeSet::new(alloc),
-    };
-    let mut place = at;
-    for _row in 0..count {
-        place = read_row(&mut table, bytes, version, next, place)?;
-    }
+    let room = room_for::<X>(count, bytes.len() - at);
+    let mut table = empty_table(alloc, room)?;
+    let place = read_more(&mut table, bytes, version, next, count, at)?;
     let Table { rows, .. } = table;
     Ok((rows, place))
 }
