@@ -2,6 +2,7 @@
 ghost use Rattle.std.specs.Prelude.{◌≡◌, ℕ, ◌<◌, All, length, slice_index_or};
 ghost use Rattle.ticket_desk.specs.declared.pass.Pass.{Pass};
 ghost use Rattle.bbs_shared.specs.Passes.{IsSame};
+ghost use Rattle.ticket_desk.specs.Passes.{AreAll};
 
 use bbs_board::Board;
 use bbs_model::{CallFault, Command, Reply};
@@ -89,6 +90,21 @@ fn call_and_meet<R: Wait, D: Disk>(
     shared.call(rt, two, *command)
 }
 
+// The same by the last two of the passes, with the first of the commands.
+fn last_two_meet<R: Wait, D: Disk>(
+    rt: &R,
+    shared: &SharedBoard<D>,
+    mut passes: Vec<BoardPass<D>>,
+    commands: &[Command],
+) -> Option<Answer>
+    requires { AreAll shared.now.desk.table.shared.table_id passes.items }
+{
+    let command = commands.first()?;
+    let mut two = passes.pop()?;
+    let mut one = passes.pop()?;
+    Some(call_and_meet(rt, shared, &mut one, &mut two, command))
+}
+
 /// What the number 2 is answered that makes the first call, as the number 1 did, when they have met.
 /// The board is let go.
 pub fn called_twice<R: Wait, D: Disk + Drop>(
@@ -97,11 +113,8 @@ pub fn called_twice<R: Wait, D: Disk + Drop>(
     board: Board<D>,
     commands: &[Command],
 ) -> Option<Answer> {
-    let command = commands.first()?;
-    let Ok((shared, mut passes)) = SharedBoard::start(alloc, board, 3) else {
-        return None;
-    };
-    let mut two = passes.pop()?;
-    let mut one = passes.pop()?;
-    Some(call_and_meet(rt, &shared, &mut one, &mut two, command))
+    match SharedBoard::start(alloc, board, 3) {
+        Ok((shared, passes)) => last_two_meet(rt, &shared, passes, commands),
+        Err(_) => None,
+    }
 }
