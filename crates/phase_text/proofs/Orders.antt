@@ -1,7 +1,7 @@
 -- The orders of answers and of events, and what a stable sort by them leaves.
 use Rattle.std.proofs.Common.{◌≡◌, ℕ, ◌<◌, Bool, true, false, cond, nat_lt, ◌==◌, List, refl, ap, ◌∙◌}
-use Rattle.std.specs.Cmp.{IsTotalOrder, nat_cmp_total, on_total, then_total}
-use Rattle.std.specs.List.Sorted.{IsSortedByKey, IsStableByKey}
+use Rattle.std.specs.Cmp.{IsStrictWeakOrder, IsTotalOrder, nat_cmp_total, on_total, then_total}
+use Rattle.std.specs.List.Sorted.{IsSortedBy, IsSortedByKey, IsStableBy, IsStableByKey}
 use Rattle.std.specs.Ordering.{is_lt, nat_cmp, ordering_then}
 use Rattle.std.specs.declared.cmp.Ordering.{Ordering}
 use Rattle.std.specs.declared.cmp.Ordering.TheVariants.{Less, Equal, Greater}
@@ -13,7 +13,7 @@ use Rattle.diego_names.proofs.Public.{IsKeyOrder-name_order}
 use Rattle.lrp_records.specs.Presence.{rank_of}
 use Rattle.scenario_lines.specs.declared.answered.Answered.{Answered}
 use Rattle.phase_text.specs.Laws.{StandsInOrder}
-use Rattle.phase_text.specs.Sorting.{by_key, event_order, is_earlier_line, sorted_by, spot_of}
+use Rattle.phase_text.specs.Sorting.{by_key, event_order, is_earlier_line, is_earlier_row, sorted_by, spot_of}
 use Rattle.phase_text.proofs.StableSorts.{sorted_by_is}
 
 less_by_test : (b c : Bool) → is_lt (cond b Less (cond c Equal Greater)) ≡ b
@@ -39,11 +39,11 @@ spots_total =
     (then_total (on_total (λ s. s.name) IsKeyOrder-name_order.total)
     (then_total (on_total (λ s. s.index) nat_cmp_total) (on_total (λ s. s.presence) (on_total rank_of nat_cmp_total))))
 
-pub by_key_is : (xs ys : List Event) → IsSortedByKey (λ (e : Event). spot_of e.row) event_order ys
-    → IsStableByKey (λ (e : Event). spot_of e.row) event_order xs ys → ys ≡ by_key xs
-by_key_is xs ys sorted stable =
-    sorted_by_is (λ (a b : Event). is_lt (event_order (spot_of a.row) (spot_of b.row)))
-    (ranks_by spots_total (λ (e : Event). spot_of e.row)) xs ys sorted stable
+pub rows_rank : IsStrictWeakOrder is_earlier_row
+rows_rank = ranks_by spots_total (λ (e : Event). spot_of e.row)
+
+pub by_key_is : (xs ys : List Event) → IsSortedBy is_earlier_row ys → IsStableBy is_earlier_row xs ys → ys ≡ by_key xs
+by_key_is xs ys sorted stable = sorted_by_is is_earlier_row rows_rank xs ys sorted stable
 
 -- a tie of what isn't there leaves the order as it is
 then_tied : (o : Ordering) → ordering_then o Equal ≡ o

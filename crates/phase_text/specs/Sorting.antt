@@ -1,5 +1,5 @@
 -- Answers by their line, and events by their row.
-use Rattle.std.specs.Prelude.{Bool, nat_lt, List, [], ◌∷◌, if◌then◌else◌}
+use Rattle.std.specs.Prelude.{ℕ, Bool, nat_lt, List, [], ◌∷◌, if◌then◌else◌}
 use Rattle.std.specs.List.{flat_map}
 use Rattle.std.specs.Ordering.{is_lt, nat_cmp, on, then_cmp}
 use Rattle.std.specs.declared.cmp.Ordering.{Ordering}
@@ -8,9 +8,9 @@ use Rattle.bbs_model.specs.declared.event.Row.{Row}
 use Rattle.bbs_model.specs.declared.event.Row.TheVariants as row
 use Rattle.diego_names.specs.Order.{name_order}
 use Rattle.lrp_records.specs.Presence.{presence_order}
+use Rattle.lrp_records.specs.declared.presence.Presence.{Presence}
 use Rattle.lrp_records.specs.declared.presence.Presence.TheVariants.{Ordinary}
 use Rattle.scenario_lines.specs.declared.answered.Answered.{Answered}
-use Rattle.phase_text.specs.declared.sorting.Spot.{Spot}
 
 -- elements that stand in order, with one more: it comes behind those that stand before it, and before all others
 abbrev pub with_placed : {X : Type 0} → (X → X → Bool) → X → List X → List X
@@ -33,6 +33,14 @@ joined_parts parts = flat_map (λ part. part) parts
 -- all answers of the parts by line; those to one line stay in their order
 abbrev pub by_line : List (List Answered) → List Answered
 by_line parts = sorted_by is_earlier_line (joined_parts parts)
+
+-- where a row stands among those of all tables; rows without an index have 0, and those without a presence are as ORDINARY
+-- ones
+pub record Spot : Type 0 where
+  pub table : ℕ
+  pub name : List ℕ
+  pub index : ℕ
+  pub presence : Presence
 
 -- where a row stands: desired rows, actual rows, tasks, cells and domains come in this order
 abbrev pub spot_of : Row → Spot

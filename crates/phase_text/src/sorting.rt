@@ -2,13 +2,14 @@
 ghost use Rattle.std.specs.Prelude.{◌≡◌, IfOk};
 ghost use Rattle.std.specs.List.Sorted.{IsPermutation};
 ghost use Rattle.phase_text.specs.Answers.{AreByLine};
-ghost use Rattle.phase_text.specs.Sorting.{by_key, by_line, joined_parts, spot_of};
+ghost use Rattle.phase_text.specs.Sorting.{by_key, by_line, event_order, joined_parts, spot_of};
 
 use bbs_model::{Event, Row};
 use diego_names::{List, Name, OutOfMemory};
 use lrp_records::Presence;
 use scenario_lines::Answered;
 use std::alloc::Global;
+use std::cmp::Ordering;
 
 /// The answers of all parts by line. Answers to one line stay in their order, and of two parts those
 /// of the first come first. It takes the time of a sort.
@@ -35,33 +36,58 @@ fn joined(alloc: Global, parts: &List<List<Answered>>) -> Result<Vec<Answered>, 
     Ok(all)
 }
 
-/// Where a row stands among those of all tables, by the first of these in which two rows differ. Rows
-/// without an index have 0, and those without a presence are as ORDINARY ones.
-#[derive(Clone, Copy, PartialEq, Eq, PartialOrd, Ord)]
-pub(crate) struct Spot {
-    table: u8,
-    name: Name,
-    index: u32,
-    presence: Presence,
+/// The place of a row's table among the tables.
+fn table_of(row: &Row) -> u8
+    ensures { result ≡ (spot_of row.now).table }
+{
+    match row {
+        Row::Desired(_) => 0,
+        Row::Actual(_) => 1,
+        Row::Task(_) => 2,
+        Row::Cell(_) => 3,
+        Row::Domain(_) => 4,
+    }
 }
 
-fn spot_of(row: &Row) -> Spot
-    ensures { result ≡ spot_of row.now }
+fn name_in(row: &Row) -> &Name
+    ensures { result.now ≡ (spot_of row.now).name }
 {
-    let ordinary = Presence::Ordinary;
-    let (table, name, index, presence) = match row {
-        Row::Desired(desired) => (0, desired.process, 0, ordinary),
-        Row::Actual(actual) => (1, actual.key.process, actual.key.index, actual.presence),
-        Row::Task(task) => (2, task.name, 0, ordinary),
-        Row::Cell(cell) => (3, cell.cell, 0, ordinary),
-        Row::Domain(domain) => (4, domain.domain, 0, ordinary),
-    };
-    Spot {
-        table,
-        name,
-        index,
-        presence,
+    match row {
+        Row::Desired(desired) => &desired.process,
+        Row::Actual(actual) => &actual.key.process,
+        Row::Task(task) => &task.name,
+        Row::Cell(cell) => &cell.cell,
+        Row::Domain(domain) => &domain.domain,
     }
+}
+
+fn index_in(row: &Row) -> u32
+    ensures { result ≡ (spot_of row.now).index }
+{
+    match row {
+        Row::Actual(actual) => actual.key.index,
+        Row::Desired(_) | Row::Task(_) | Row::Cell(_) | Row::Domain(_) => 0,
+    }
+}
+
+fn presence_in(row: &Row) -> Presence
+    ensures { result ≡ (spot_of row.now).presence }
+{
+    match row {
+        Row::Actual(actual) => actual.presence,
+        Row::Desired(_) | Row::Task(_) | Row::Cell(_) | Row::Domain(_) => Presence::Ordinary,
+    }
+}
+
+/// How two rows stand to one another, by the first of these in which they differ. Names are compared where they
+/// stand, since a sort compares each many times.
+fn row_order(a: &Row, b: &Row) -> Ordering
+    ensures { result ≡ event_order (spot_of a.now) (spot_of b.now) }
+{
+    let by_presence = presence_in(a).cmp(&presence_in(b));
+    let by_index = index_in(a).cmp(&index_in(b)).then(by_presence);
+    let by_name = name_in(a).cmp(name_in(b)).then(by_index);
+    table_of(a).cmp(&table_of(b)).then(by_name)
 }
 
 /// The events by table (desired, actual, task, cell, domain), by key, and of one instance the ORDINARY
@@ -71,6 +97,6 @@ pub fn events_by_key(alloc: Global, events: &[Event]) -> Result<List<Event>, Out
     ensures { IfOk result (λ list. list ≡ by_key events.now) }
 {
     let mut all = Vec::from_slice(alloc, events)?;
-    all.sort_by_key(|event| spot_of(&event.row))?;
+    all.sort_by(|a, b| row_order(&a.row, &b.row))?;
     Ok(List::from(all))
 }
