@@ -8,10 +8,17 @@ use Rattle.bbs_model.specs.declared.command.Op.{Op}
 use Rattle.bbs_model.specs.declared.command.Op.TheVariants as op
 use Rattle.record_print.specs.declared.asked.Asked.{Asked}
 use Rattle.record_print.specs.declared.asked.Asked.TheVariants as asked
+use Rattle.record_print.specs.declared.spelled.Subject.{Subject}
+use Rattle.record_print.specs.declared.spelled.Subject.TheVariants as subject
 
 -- a key: the process, a slash, and the index
 abbrev pub key_text : Key → List ℕ
 key_text key = key.process ++ (codes "/" ++ decimal key.index)
+
+-- what is named: a name alone, or a key
+abbrev pub subject_words : Subject → List ℕ
+subject_words (subject.Name name) = name.now
+subject_words (subject.Key key) = key_text key.now
 
 -- a job: the key of an instance, or the name of a task
 abbrev pub job_text : JobName → List ℕ

@@ -5,7 +5,7 @@ ghost use Rattle.record_print.specs.Printed.{line_text, answer_data, answer_memb
 ghost use Rattle.line_writing.specs.Writing.{AddsValue};
 
 use crate::asked::Asked;
-use crate::spelled::asked_subject;
+use crate::spelled::put_subject;
 use crate::why::{rep_why_text, why_text};
 use crate::word::{asked_word, end_word};
 use bbs_model::Reply;
@@ -66,7 +66,7 @@ fn put_plain(
     put_text(text, "answer", word)?;
     put_text(text, "call", asked_word(asked))?;
     put_number(text, "line", line as u64)?;
-    put_text(text, "subject", &asked_subject(alloc, actor, asked)?)?;
+    put_subject(text, alloc, actor, asked)?;
     end(text)
 }
 
@@ -85,7 +85,7 @@ fn put_refused(
     put_text(text, "answer", "refused")?;
     put_text(text, "call", asked_word(asked))?;
     put_number(text, "line", line as u64)?;
-    put_text(text, "subject", &asked_subject(alloc, actor, asked)?)?;
+    put_subject(text, alloc, actor, asked)?;
     put_text(text, "why", why)?;
     end(text)
 }
