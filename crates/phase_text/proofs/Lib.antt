@@ -1,5 +1,6 @@
 mod StableSorts
 mod Orders
+mod Referring
 mod Finding
 mod Splitting
 mod Told

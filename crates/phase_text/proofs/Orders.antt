@@ -1,5 +1,5 @@
 -- The orders of answers and of events, and what a stable sort by them leaves.
-use Rattle.std.proofs.Common.{◌≡◌, ℕ, ◌<◌, Bool, true, false, cond, nat_lt, ◌==◌, List, refl, ap, ◌∙◌}
+use Rattle.std.proofs.Common.{◌≡◌, ℕ, ◌<◌, Bool, true, false, cond, nat_lt, ◌==◌, Bor, List, map, refl, ap, ◌∙◌}
 use Rattle.std.specs.Cmp.{IsStrictWeakOrder, IsTotalOrder, nat_cmp_total, on_total, then_total}
 use Rattle.std.specs.List.Sorted.{IsSortedBy, IsSortedByKey, IsStableBy, IsStableByKey}
 use Rattle.std.specs.Ordering.{is_lt, nat_cmp, ordering_then}
@@ -14,6 +14,7 @@ use Rattle.lrp_records.specs.Presence.{rank_of}
 use Rattle.scenario_lines.specs.declared.answered.Answered.{Answered}
 use Rattle.phase_text.specs.Laws.{StandsInOrder}
 use Rattle.phase_text.specs.Sorting.{by_key, event_order, is_earlier_line, is_earlier_row, sorted_by, spot_of}
+use Rattle.phase_text.proofs.Referring.{sorted_map}
 use Rattle.phase_text.proofs.StableSorts.{sorted_by_is}
 
 less_by_test : (b c : Bool) → is_lt (cond b Less (cond c Equal Greater)) ≡ b
@@ -39,11 +40,18 @@ spots_total =
     (then_total (on_total (λ s. s.name) IsKeyOrder-name_order.total)
     (then_total (on_total (λ s. s.index) nat_cmp_total) (on_total (λ s. s.presence) (on_total rank_of nat_cmp_total))))
 
-pub rows_rank : IsStrictWeakOrder is_earlier_row
-rows_rank = ranks_by spots_total (λ (e : Event). spot_of e.row)
+-- an event that is referred to stands before another
+abbrev pub is_earlier : Bor Event → Bor Event → Bool
+is_earlier a b = is_earlier_row a.now b.now
 
-pub by_key_is : (xs ys : List Event) → IsSortedBy is_earlier_row ys → IsStableBy is_earlier_row xs ys → ys ≡ by_key xs
-by_key_is xs ys sorted stable = sorted_by_is is_earlier_row rows_rank xs ys sorted stable
+pub events_rank : IsStrictWeakOrder is_earlier
+events_rank = ranks_by spots_total (λ (e : Bor Event). spot_of e.now.row)
+
+pub by_key_is : (xs ys : List (Bor Event)) → IsSortedBy is_earlier ys → IsStableBy is_earlier xs ys
+    → map (λ (e : Bor Event). e.now) ys ≡ by_key (map (λ (e : Bor Event). e.now) xs)
+by_key_is xs ys sorted stable =
+    ap (map (λ (e : Bor Event). e.now)) (sorted_by_is is_earlier events_rank xs ys sorted stable)
+    ∙ sorted_map (λ (e : Bor Event). e.now) is_earlier_row xs
 
 -- a tie of what isn't there leaves the order as it is
 then_tied : (o : Ordering) → ordering_then o Equal ≡ o

@@ -1,5 +1,5 @@
 //! The order in which a phase is told: answers by line, and events by table, key and presence.
-ghost use Rattle.std.specs.Prelude.{◌≡◌, IfOk};
+ghost use Rattle.std.specs.Prelude.{◌≡◌, IfOk, map};
 ghost use Rattle.std.specs.List.Sorted.{IsPermutation};
 ghost use Rattle.phase_text.specs.Answers.{AreByLine};
 ghost use Rattle.phase_text.specs.Sorting.{by_key, by_line, event_order, joined_parts, spot_of};
@@ -8,7 +8,7 @@ use bbs_model::{Event, Row};
 use diego_names::{List, Name, OutOfMemory};
 use lrp_records::Presence;
 use scenario_lines::Answered;
-use std::alloc::Global;
+use std::alloc::{AllocError, Global};
 use std::cmp::Ordering;
 
 /// The answers of all parts by line. Answers to one line stay in their order, and of two parts those
@@ -90,13 +90,29 @@ fn row_order(a: &Row, b: &Row) -> Ordering
     table_of(a).cmp(&table_of(b)).then(by_name)
 }
 
+/// The events in order, each where it stands. An event has hundreds of bytes, and a sort moves what it sorts many
+/// times.
+fn in_order(alloc: Global, events: &[Event]) -> Result<Vec<&Event>, AllocError>
+    ensures { IfOk result (λ sorted. map (λ e. e.now) sorted.items ≡ by_key events.now) }
+{
+    let mut sorted: Vec<&Event> = events.iter().collect(alloc)?;
+    sorted.sort_by(|a, b| row_order(&a.row, &b.row))?;
+    Ok(sorted)
+}
+
+fn copied(alloc: Global, events: &[&Event]) -> Result<Vec<Event>, AllocError>
+    ensures { IfOk result (λ all. all.items ≡ map (λ e. e.now) events.now) }
+{
+    events.iter().map(|event| **event).collect(alloc)
+}
+
 /// The events by table (desired, actual, task, cell, domain), by key, and of one instance the ORDINARY
 /// row first, then the EVACUATING one, then the SUSPECT one. Events of one row stay in their order. It
 /// takes the time of a sort.
 pub fn events_by_key(alloc: Global, events: &[Event]) -> Result<List<Event>, OutOfMemory>
     ensures { IfOk result (λ list. list ≡ by_key events.now) }
 {
-    let mut all = Vec::from_slice(alloc, events)?;
-    all.sort_by(|a, b| row_order(&a.row, &b.row))?;
+    let sorted = in_order(alloc, events)?;
+    let all = copied(alloc, &sorted)?;
     Ok(List::from(all))
 }
