@@ -11,6 +11,15 @@ use record_print::{event_text, failed_round_text, report_text};
 use scenario_lines::{Actor, Answered, Line, Phase, RoundLine, Script};
 use std::alloc::Global;
 
+/// As many bytes as most lines have.
+const USUAL: usize = 200;
+
+// Room for lines of the usual length is made at once. A text that grows is moved, and touches fresh memory each time.
+fn usual_room(answers: &[Answered], events: &[Event]) -> usize {
+    let lines = answers.len().saturating_add(events.len());
+    lines.saturating_mul(USUAL)
+}
+
 /// The text of a phase, whose answers stand by line and whose events stand by key: each answer, and
 /// the report of its round where the round's line stands among theirs, and then each event. A round
 /// without a report was ended by a fault of the disk, and is told so.
@@ -30,7 +39,7 @@ pub fn phase_text(
 {
     let actors = script.actors.items();
     let lines = phase.lines.items();
-    let mut text = Vec::new(alloc);
+    let mut text = Vec::with_capacity(alloc, usual_room(answers, events))?;
     add_lines(
         &mut text,
         alloc,
