@@ -1,5 +1,5 @@
 -- Why a round ended with a fault.
-use Rattle.std.proofs.Common.{◌≡◌, ℕ, List, [], ◌∷◌, ◌++◌, length, get_or, Option, Some, Result, Ok, Err, refl, sym, ap, subst, ◌∙◌, append_assoc, arith, length-append, inl, inr, ◌⊎◌, ⊎_elim}
+use Rattle.std.proofs.Common.{◌≡◌, ℕ, Bool, true, false, List, [], ◌∷◌, ◌++◌, length, get_or, Option, Some, None, Result, Ok, Err, refl, sym, ap, subst, ◌∙◌, append_assoc, arith, length-append, inl, inr, ◌⊎◌, ⊎_elim}
 use Rattle.std.specs.Prelude.{slice_get, IfErr, IsOkUnless}
 use Rattle.std.proofs.lemmas.List.Elements.{Contains-append_right}
 use Rattle.std.proofs.lemmas.Result.{IfErr-weaker}
@@ -19,13 +19,18 @@ use Rattle.cell_rep.specs.Deliveries.{IsDelivered}
 use Rattle.cell_rep.specs.Follows.{Stage, stage, Follows, IsAnswer, IsStarted, EndsOf, starved}
 use Rattle.cell_rep.specs.Wires.{WireEnds}
 use Rattle.cell_rep.specs.declared.call_end.CallEnd.{CallEnd}
-use Rattle.cell_rep.specs.declared.call_end.CallEnd.TheVariants.{Fault, ReplyLost, Local, Idle}
+use Rattle.cell_rep.specs.declared.call_end.CallEnd.TheVariants.{Got, Fault, CallLost, ReplyLost, Local, Idle}
 use Rattle.cell_rep.specs.declared.call_end.Called.{Called}
 use Rattle.cell_rep.specs.declared.rep.CellRep.{CellRep}
 use Rattle.cell_rep.specs.declared.todo.Todo.{Todo}
 use Rattle.cell_rep.specs.declared.todo.Todo.TheVariants as todo
 use Rattle.crash_backoff.specs.declared.moment.Moment.{Moment}
 use Rattle.converge_round.specs.Faults.{IsDoubtedAt, IsCausedBy, IsFaultOf}
+use Rattle.converge_round.specs.Sendings.{WireAt}
+use Rattle.converge_round.specs.Starts.{Claiming, TakesIf, StartsOne, fault_of, fault_in}
+use Rattle.converge_round.specs.declared.claims.Claimed.{Claimed}
+use Rattle.converge_round.specs.declared.claims.StartEnd.{StartEnd}
+use Rattle.converge_round.specs.declared.claims.StartEnd.TheVariants.{Made}
 
 -- the item behind a list stands at the list's length
 last_stands : (xs : List Item) (x : Item) → slice_get (xs ++ x ∷ []) (length xs) ≡ Some x
@@ -106,41 +111,51 @@ pub causes_before : {X : Type 0} (r : Result X CallFault) (by by' : ℕ) (u v w 
 causes_before r by by' u v w same f h =
     IfErr-weaker r (IsCausedBy by' v w) (IsCausedBy by u w) (λ why. caused_before by by' u v w why same f) h
 
--- want of memory is the only fault of an end that is neither a fault of the disk nor hides one
-only_want : (by : ℕ) (v w : PortView) (end : CallEnd) (why : CallFault)
-    → ((x : CallFault) → (end ≡ Fault x) ⊎ (end ≡ ReplyLost (Err x)) → x ≡ fault.OutOfMemory) → IsFaultOf end why
-    → IsCausedBy by v w why
-only_want by v w end why only h = subst (IsCausedBy by v w) (sym (⊎_elim
-    (λ e. only why (inl e))
-    (λ r. ⊎_elim (λ e. only why (inr e)) (λ e. e) r) h)) (caused_by_want by v w)
+-- want of memory is the only fault of what came to none
+only_want : (by : ℕ) (v w : PortView) (why : CallFault) (o : Option CallFault) → o ≡ None
+    → (o ≡ Some why) ⊎ (why ≡ fault.OutOfMemory) → IsCausedBy by v w why
+only_want by v w why o none h = ⊎_elim
+    (λ e. let bad : None ≡ Some why = sym none ∙ e in absurd cc)
+    (λ e. subst (IsCausedBy by v w) (sym e) (caused_by_want by v w))
+    h
+
+-- the fault that a call of a start ended with
+caused_delivered : (by : ℕ) (v : PortView) (c : Command) (e : CallEnd) (w : PortView) (why : CallFault)
+    → IsDelivered by v c e w → fault_of e ≡ Some why → IsCausedBy by v w why
+caused_delivered by v c (Got r) w why h f = absurd cc
+caused_delivered by v c (Fault x) w why h f =
+    let same : x ≡ why = cc in caused_at_once by v c why w (subst (λ y. IsCalled by v c (Err y) w) same h)
+caused_delivered by v c CallLost w why h f = absurd cc
+caused_delivered by v c (ReplyLost (Ok r)) w why h f = absurd cc
+caused_delivered by v c (ReplyLost (Err x)) w why h f =
+    let same : x ≡ why = cc in caused_at_once by v c why w (subst (λ y. IsCalled by v c (Err y) w) same h)
+caused_delivered by v c (Local x) w why h f = absurd cc
+caused_delivered by v c Idle w why h f = absurd cc
 
 -- the fault of what was to be done at a start
 caused_todo : (by : ℕ) (cell : List ℕ) (ends : Option WireEnds) (t : Todo) (v : PortView) (a : Called) (w : PortView)
     (why : CallFault)
-    → IsAnswer t a → EndsOf by cell ends t v a w → IsFaultOf a.end why → IsCausedBy by v w why
+    → IsAnswer t a → EndsOf by cell ends t v a w → IsFaultOf (Made a) why → IsCausedBy by v w why
 caused_todo by cell ends (todo.Call c) v a w why is h f = ⊎_elim
-    (λ e. caused_at_once by v c why w (subst (λ x. IsDelivered by v c x w) e h.1))
-    (λ r. ⊎_elim
-    (λ e. caused_at_once by v c why w (subst (λ x. IsDelivered by v c x w) e h.1))
-    (λ e. subst (IsCausedBy by v w) (sym e) (caused_by_want by v w)) r) f
+    (λ e. caused_delivered by v c a.end w why h.1 e)
+    (λ e. subst (IsCausedBy by v w) (sym e) (caused_by_want by v w))
+    f
 caused_todo by cell ends todo.Idle v a w why is h f =
-    let end : a.end ≡ Idle = ap (λ (x : Called). x.end) is in
-    only_want by v w a.end why (λ x. ⊎_elim (λ e. absurd cc) (λ e. absurd cc)) f
+    only_want by v w why (fault_of a.end) (ap (λ (x : Called). fault_of x.end) is) f
 caused_todo by cell ends (todo.Local refusal) v a w why is h f =
-    let end : a.end ≡ Local refusal = ap (λ (x : Called). x.end) is in
-    only_want by v w a.end why (λ x. ⊎_elim (λ e. absurd cc) (λ e. absurd cc)) f
+    only_want by v w why (fault_of a.end) (ap (λ (x : Called). fault_of x.end) is) f
 
 caused_follows : (by : ℕ) (cell : List ℕ) (ends : Option WireEnds) (t : Todo) (rep rep' : CellRep) (v w : PortView)
-    (a : Called) (why : CallFault) → Follows by cell ends (t ∷ []) rep v (a ∷ []) rep' w → IsFaultOf a.end why
+    (a : Called) (why : CallFault) → Follows by cell ends (t ∷ []) rep v (a ∷ []) rep' w → IsFaultOf (Made a) why
     → IsCausedBy by v w why
 caused_follows by cell ends t rep rep' v w a why h f =
     subst (λ x. IsCausedBy by v x why) (sym h.3.1) (caused_todo by cell ends t v a h.0 why h.1 h.2 f)
 
--- the fault of a start
-pub caused_started : (by : ℕ) (job : Job) (now : Moment) (rep rep' : CellRep) (v w : PortView)
+-- the fault of a start that reached the rep
+caused_started : (by : ℕ) (job : Job) (now : Moment) (rep rep' : CellRep) (v w : PortView)
     (ends ends' : Option WireEnds)
     (losses losses' : ℕ) (a : Called) (why : CallFault)
-    → IsStarted by job now (stage rep v ends losses []) (stage rep' w ends' losses' (a ∷ [])) → IsFaultOf a.end why
+    → IsStarted by job now (stage rep v ends losses []) (stage rep' w ends' losses' (a ∷ [])) → IsFaultOf (Made a) why
     → IsCausedBy by v w why
 caused_started by job now rep rep' v w ends ends' losses losses' a why h f = ⊎_elim
     (λ p.
@@ -149,6 +164,21 @@ caused_started by job now rep rep' v w ends ends' losses losses' a why h f = ⊎
     (subst (λ xs. Follows by rep.cell ends (todo ∷ []) _ v xs rep' w) (sym p.out_is) p.follows) f)
     (λ e.
     let same : a ∷ [] ≡ starved ∷ [] = ap (λ (x : Stage). x.out) e in
-    let end : a.end ≡ Fault fault.OutOfMemory = ap (λ xs. (get_or xs 0 a).end) same in
-    only_want by v w a.end why (λ x. ⊎_elim (λ y. cc) (λ y. absurd cc)) f)
+    let end : fault_of a.end ≡ Some fault.OutOfMemory = ap (λ xs. fault_of (get_or xs 0 a).end) same in
+    subst (IsCausedBy by v w) (sym (⊎_elim
+    (λ g. let is : Some why ≡ Some fault.OutOfMemory = sym g ∙ end in cc)
+    (λ g. g) f)) (caused_by_want by v w))
     h
+
+caused_if : (b : Bool) (by : ℕ) (now : Moment) (job : Job) (wire : WireAt) (s s' : Claiming) (e : StartEnd)
+    (why : CallFault) → TakesIf b by now job wire s s' e → IsFaultOf e why → IsCausedBy by s.view s'.view why
+caused_if true by now job wire s s' e why h f =
+    caused_started by job now s.rep s'.rep s.view s'.view wire.ends s'.wire.ends wire.losses s'.wire.losses h.answer why
+    h.started (subst (λ (x : StartEnd). IsFaultOf x why) h.end_is f)
+caused_if false by now job wire s s' e why h f =
+    only_want by s.view s'.view why (fault_in e) (ap fault_in h.end_is) f
+
+-- the fault that came of a start
+pub caused_one : (by : ℕ) (now : Moment) (x : Claimed) (s s' : Claiming) (why : CallFault) → StartsOne by now x s s'
+    → IsFaultOf x.end why → IsCausedBy by s.view s'.view why
+caused_one by now x s s' why h f = caused_if h.reached by now x.start.job h.wire s s' x.end why h.takes f

@@ -7,6 +7,7 @@ pub mod Sure
 pub mod RepLaws
 pub mod IndexLaws
 pub mod StartLaws
+pub mod CountLaws
 pub mod GotLaws
 pub mod Asked
 pub mod HeardLaws

@@ -18,31 +18,37 @@ use Rattle.converge_round.specs.Items.{HasFirstItems}
 use Rattle.converge_round.specs.Phases.{AreCalledBy, AreStopped, ArePlaced, Course, course, IsOpenedRound, ClaimsAt}
 use Rattle.converge_round.specs.Reps.{names_of}
 use Rattle.converge_round.specs.Sendings.{WireAt}
-use Rattle.converge_round.specs.Starts.{StartsOne, serving}
+use Rattle.converge_round.specs.Starts.{AreFine, Claims, claiming, counted_all}
 use Rattle.converge_round.specs.Stops.{Stopping}
 use Rattle.converge_round.specs.Tallies.{no_calls}
+use Rattle.converge_round.specs.declared.claims.Claimed.{Claimed}
 use Rattle.converge_round.specs.declared.opening.Opening.{Opening}
 use Rattle.converge_round.specs.declared.stopping.Stops.{Stops}
 use Rattle.converge_round.specs.declared.placing.Places.{Places}
 use Rattle.converge_round.specs.declared.tally.Tally.{Tally}
 use Rattle.converge_round.proofs.RepLaws.{stands-for, rep_read}
 
--- the starts on a rep that was read at a place are those on its cell
-pub claims_at : {X E : Type 0} (r : Result X E) (by : ℕ) (now : Moment) (jobs : List Job) (v w : PortView) (t : Tally)
-    (cells : List CellRep) (t' : Tally) (wire : WireAt) (at : ℕ) (d after : CellRep) (wire' : WireAt)
+-- the starts on a rep that was read at a place are those on its cell, and count so
+pub claims_at : {X E : Type 0} (r : Result X E) (by : ℕ) (now : Moment) (jobs : List Job) (ends : List Claimed)
+    (v w : PortView) (t : Tally) (cells : List CellRep) (t' : Tally) (wire : WireAt) (at : ℕ) (d after : CellRep)
+    (wire' : WireAt)
     → at < length cells
-    → OnOk r (Each (StartsOne by now) jobs (serving (get_or cells at d) v t wire) (serving after w t' wire'))
+    → Claims by now jobs (claiming (get_or cells at d) v wire) (claiming after w wire') ends → AreFine ends
+    → OnOk r (t' ≡ counted_all ends t)
     → OnOk r ((cell : List ℕ) → slice_get (names_of cells) at ≡ Some cell
     → ClaimsAt by now cell jobs (course v t cells wire) (course w t' (set cells at after) wire'))
-claims_at (Ok x) by now jobs v w t cells t' wire at d after wire' within h = λ cell e. record {
+claims_at (Ok x) by now jobs ends v w t cells t' wire at d after wire' within h fine counts = λ cell e. record {
   place = at;
   rep = get_or cells at d;
   stands = stands-for cells at cell (get_or cells at d) e (rep_read cells at d within);
   after = after;
-  starts = h;
+  ends = ends;
+  claims = h;
+  fine = fine;
+  counts = counts;
   reps_are = refl;
 }
-claims_at (Err why) by now jobs v w t cells t' wire at d after wire' within h = tt
+claims_at (Err why) by now jobs ends v w t cells t' wire at d after wire' within h fine counts = tt
 
 -- the same steps by a caller of that number
 pub each_by : {X S : Type 0} (Step : ℕ → X → S → S → Type 0) (by by' : ℕ) (xs : List X) (s t : S) → by' ≡ by

@@ -1,5 +1,5 @@
 -- Want of memory hides no doubt.
-use Rattle.std.proofs.Common.{◌≡◌, ℕ, Bool, true, false, ◌&&◌, List, [], ◌∷◌, ◌++◌, Option, Result, Ok, Err, refl, sym, ap, subst, ◌∙◌, append_assoc, inl, inr, ◌⊎◌, ⊎_elim}
+use Rattle.std.proofs.Common.{◌≡◌, ℕ, Bool, true, false, ◌&&◌, List, [], ◌∷◌, ◌++◌, Option, Some, Result, Ok, Err, refl, sym, ap, subst, ◌∙◌, append_assoc, inl, inr, ◌⊎◌, ⊎_elim}
 use Rattle.std.specs.List.{list_all}
 use Rattle.std.proofs.lemmas.List.{append-nil}
 use Rattle.std.proofs.lemmas.List.Folds.{list_all-append}
@@ -23,6 +23,10 @@ use Rattle.cell_rep.specs.declared.todo.Todo.{Todo}
 use Rattle.cell_rep.specs.declared.todo.Todo.TheVariants as todo
 use Rattle.crash_backoff.specs.declared.moment.Moment.{Moment}
 use Rattle.converge_round.specs.Faults.{is_sure, HasNoDoubt, IsSureFault, IsSure, IsTold}
+use Rattle.converge_round.specs.Sendings.{WireAt}
+use Rattle.converge_round.specs.Starts.{Claiming, TakesIf, StartsOne, fault_of}
+use Rattle.converge_round.specs.declared.claims.Claimed.{Claimed}
+use Rattle.converge_round.specs.declared.claims.StartEnd.{StartEnd}
 
 pub sure_none : (v : PortView) → HasNoDoubt v v
 sure_none v = record { items = []; mine_is = sym (append-nil v.mine); all_sure = refl }
@@ -86,33 +90,40 @@ sure_answer by v c (Err (fault.Disk place)) w told h is =
 sure_answer by v c (Err fault.OutOfMemory) w told h is =
     sure_any told v w (sure_called by v c (Err fault.OutOfMemory) w h)
 
+-- if its end is a fault, that is the one told
+abbrev TellsEnd : CallEnd → Result (Unit {0}) CallFault → Type 0
+TellsEnd e told = (why : CallFault) → fault_of e ≡ Some why → told ≡ Err why
+
 sure_delivered : (by : ℕ) (v : PortView) (c : Command) (e : CallEnd) (w : PortView) (told : Result (Unit {0}) CallFault)
-    → IsDelivered by v c e w → IsTold e told → IsSure told v w
+    → IsDelivered by v c e w → TellsEnd e told → IsSure told v w
 sure_delivered by v c (end.Got r) w told h is = sure_answer by v c (Ok r) w told h (λ place e. absurd cc)
 sure_delivered by v c (end.Fault why) w told h is =
-    sure_answer by v c (Err why) w told h (λ place e. is place (inl (let same : why ≡ fault.Disk place = cc in
-    ap (λ (x : CallFault). end.Fault x) same)))
+    sure_answer by v c (Err why) w told h (λ place e. is (fault.Disk place) (let same : why ≡ fault.Disk place = cc in
+    ap (λ (x : CallFault). Some x) same))
 sure_delivered by v c end.CallLost w told h is = sure_any told v w (sure_as v w h)
-sure_delivered by v c (end.ReplyLost answer) w told h is =
-    sure_answer by v c answer w told h (λ place e. is place (inr (ap (λ (x : Result Reply CallFault). end.ReplyLost x) e)))
+sure_delivered by v c (end.ReplyLost (Ok r)) w told h is =
+    sure_answer by v c (Ok r) w told h (λ place e. absurd cc)
+sure_delivered by v c (end.ReplyLost (Err why)) w told h is =
+    sure_answer by v c (Err why) w told h (λ place e. is (fault.Disk place) (let same : why ≡ fault.Disk place = cc in
+    ap (λ (x : CallFault). Some x) same))
 sure_delivered by v c (end.Local why) w told h is = absurd h
 sure_delivered by v c end.Idle w told h is = absurd h
 
 sure_todo : (by : ℕ) (cell : List ℕ) (ends : Option WireEnds) (t : Todo) (v : PortView) (a : Called) (w : PortView)
-    (told : Result (Unit {0}) CallFault) → EndsOf by cell ends t v a w → IsTold a.end told → IsSure told v w
+    (told : Result (Unit {0}) CallFault) → EndsOf by cell ends t v a w → TellsEnd a.end told → IsSure told v w
 sure_todo by cell ends (todo.Call c) v a w told h is = sure_delivered by v c a.end w told h.1 is
 sure_todo by cell ends todo.Idle v a w told h is = sure_any told v w (sure_as v w h)
 sure_todo by cell ends (todo.Local why) v a w told h is = sure_any told v w (sure_as v w h)
 
 sure_follows : (by : ℕ) (cell : List ℕ) (ends : Option WireEnds) (t : Todo) (rep rep' : CellRep) (v w : PortView)
     (a : Called) (told : Result (Unit {0}) CallFault)
-    → Follows by cell ends (t ∷ []) rep v (a ∷ []) rep' w → IsTold a.end told → IsSure told v w
+    → Follows by cell ends (t ∷ []) rep v (a ∷ []) rep' w → TellsEnd a.end told → IsSure told v w
 sure_follows by cell ends t rep rep' v w a told h is =
     subst (λ (x : PortView). IsSure told v x) (sym h.3.1) (sure_todo by cell ends t v a h.0 told h.2 is)
 
-pub sure_started : (by : ℕ) (job : Job) (now : Moment) (rep rep' : CellRep) (v w : PortView)
+sure_started : (by : ℕ) (job : Job) (now : Moment) (rep rep' : CellRep) (v w : PortView)
     (ends ends' : Option WireEnds) (losses losses' : ℕ) (a : Called) (told : Result (Unit {0}) CallFault)
-    → IsStarted by job now (stage rep v ends losses []) (stage rep' w ends' losses' (a ∷ [])) → IsTold a.end told
+    → IsStarted by job now (stage rep v ends losses []) (stage rep' w ends' losses' (a ∷ [])) → TellsEnd a.end told
     → IsSure told v w
 sure_started by job now rep rep' v w ends ends' losses losses' a told h is = ⊎_elim
     (λ p.
@@ -121,3 +132,16 @@ sure_started by job now rep rep' v w ends ends' losses losses' a told h is = ⊎
     (subst (λ xs. Follows by rep.cell ends (todo ∷ []) _ v xs rep' w) (sym p.out_is) p.follows) is)
     (λ e. sure_any told v w (sure_as v w (ap (λ (x : Stage). x.view) e)))
     h
+
+sure_if : (b : Bool) (by : ℕ) (now : Moment) (job : Job) (wire : WireAt) (s s' : Claiming) (e : StartEnd)
+    (told : Result (Unit {0}) CallFault) → TakesIf b by now job wire s s' e → IsTold e told
+    → IsSure told s.view s'.view
+sure_if true by now job wire s s' e told h is =
+    sure_started by job now s.rep s'.rep s.view s'.view wire.ends s'.wire.ends wire.losses s'.wire.losses h.answer told
+    h.started (subst (λ (x : StartEnd). IsTold x told) h.end_is is)
+sure_if false by now job wire s s' e told h is = sure_any told s.view s'.view (sure_as s.view s'.view h.view)
+
+-- a start, of which a fault that came of it is told
+pub sure_one : (by : ℕ) (now : Moment) (x : Claimed) (s s' : Claiming) (told : Result (Unit {0}) CallFault)
+    → StartsOne by now x s s' → IsTold x.end told → IsSure told s.view s'.view
+sure_one by now x s s' told h is = sure_if h.reached by now x.start.job h.wire s s' x.end told h.takes is

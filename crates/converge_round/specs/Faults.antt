@@ -1,14 +1,14 @@
 -- Why a round ended with a fault.
 use Rattle.std.specs.Prelude.{◌≡◌, ◌≤◌, ◌⊎◌, ℕ, Bool, true, false, List, ◌++◌, length, slice_get, Some, Result, Ok, Err}
 use Rattle.std.specs.List.{Contains, list_all}
-use Rattle.cell_rep.specs.declared.call_end.CallEnd.{CallEnd}
-use Rattle.cell_rep.specs.declared.call_end.CallEnd.TheVariants.{Fault, ReplyLost}
 use Rattle.bbs_model.specs.PortView.{PortView, IsLater}
 use Rattle.bbs_model.specs.declared.command.Command.{Command}
 use Rattle.bbs_model.specs.declared.item.Item.{Item}
 use Rattle.bbs_model.specs.declared.item.Item.TheVariants.{Done, Doubt}
 use Rattle.bbs_model.specs.declared.reply.CallFault.{CallFault}
 use Rattle.bbs_model.specs.declared.reply.CallFault.TheVariants as fault
+use Rattle.converge_round.specs.Starts.{fault_in}
+use Rattle.converge_round.specs.declared.claims.StartEnd.{StartEnd}
 
 -- a caller's doubt of a command stands at that place of what it sees now, behind what it had seen, and is its own item
 pub record IsDoubtedAt (by place : ℕ) (v w : PortView) : Type 0 where
@@ -22,14 +22,13 @@ pub record IsDoubtedAt (by place : ℕ) (v w : PortView) : Type 0 where
 pub record IsCausedBy (by : ℕ) (v w : PortView) (why : CallFault) : Type 0 where
   pub disk : (place : ℕ) → why ≡ fault.Disk place → IsDoubtedAt by place v w
 
--- the call of a start ended with that fault, or its reply, which was lost, was that fault, or memory ran out
-abbrev pub IsFaultOf : CallEnd → CallFault → Type 0
-IsFaultOf end why = (end ≡ Fault why) ⊎ ((end ≡ ReplyLost (Err why)) ⊎ (why ≡ fault.OutOfMemory))
+-- what came of a start is that fault, or memory ran out
+abbrev pub IsFaultOf : StartEnd → CallFault → Type 0
+IsFaultOf end why = (fault_in end ≡ Some why) ⊎ (why ≡ fault.OutOfMemory)
 
--- a fault of the disk that the call of a start ended with, or that its lost reply was, is the one told
-abbrev pub IsTold : CallEnd → Result (Unit {0}) CallFault → Type 0
-IsTold end told =
-    (place : ℕ) → (end ≡ Fault (fault.Disk place)) ⊎ (end ≡ ReplyLost (Err (fault.Disk place))) → told ≡ Err (fault.Disk place)
+-- if what came of a start is a fault, it is the one told
+abbrev pub IsTold : StartEnd → Result (Unit {0}) CallFault → Type 0
+IsTold end told = (why : CallFault) → fault_in end ≡ Some why → told ≡ Err why
 
 -- the item was acknowledged
 abbrev pub is_sure : Item → Bool

@@ -1,7 +1,6 @@
 pub mod Each
 pub mod Tallies
 pub mod Callings
-pub mod Faults
 pub mod CellJobs
 pub mod SeenRows
 pub mod Sendings
@@ -11,6 +10,7 @@ pub mod Askings
 pub mod Stops
 pub mod Places
 pub mod Starts
+pub mod Faults
 pub mod Items
 pub mod Phases
 pub mod Rounds

@@ -18,8 +18,9 @@ use Rattle.converge_round.specs.Each.{Each}
 use Rattle.converge_round.specs.Places.{OpensOne, placements, jobs_on, unplaced, fails_of}
 use Rattle.converge_round.specs.Reps.{StandsFor, HasNoRep}
 use Rattle.converge_round.specs.Sendings.{WireAt}
-use Rattle.converge_round.specs.Starts.{serving, StartsOne, IsClaimOfOne}
+use Rattle.converge_round.specs.Starts.{AreFine, Claims, IsClaimOfOne, claiming, counted_all}
 use Rattle.converge_round.specs.Stops.{Stopping, stops_at, StopsOne, so_far}
+use Rattle.converge_round.specs.declared.claims.Claimed.{Claimed}
 use Rattle.converge_round.specs.declared.opening.Hearing.{Hearing}
 use Rattle.converge_round.specs.declared.opening.Opening.{Opening}
 use Rattle.converge_round.specs.declared.placing.Places.{Places}
@@ -94,14 +95,16 @@ pub record IsOpenedRound (by : ℕ) (now : Moment) (s s' : Course) (o : Opening)
   pub stopped_is : o.stopped ≡ stops.stopped
   pub tally_is : s'.tally ≡ planned.tally
 
--- jobs are started on the rep of a cell
+-- jobs are started on the rep of a cell, without a fault, and then what came of them counts
 pub record ClaimsAt (by : ℕ) (now : Moment) (cell : List ℕ) (jobs : List Job) (s s' : Course) : Type 0 where
   pub place : ℕ
   pub rep : CellRep
   pub stands : StandsFor s.reps cell place rep
   pub after : CellRep
-  pub starts : Each (StartsOne by now) jobs
-      (serving rep s.view s.tally s.wire) (serving after s'.view s'.tally s'.wire)
+  pub ends : List Claimed
+  pub claims : Claims by now jobs (claiming rep s.view s.wire) (claiming after s'.view s'.wire) ends
+  pub fine : AreFine ends
+  pub counts : s'.tally ≡ counted_all ends s.tally
   pub reps_are : s'.reps ≡ set s.reps place after
 
 -- the jobs that go to a cell are started on its rep, if it has one

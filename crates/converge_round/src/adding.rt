@@ -1,5 +1,5 @@
 //! Lists that are made item by item.
-ghost use Rattle.std.specs.Prelude.{◌≡◌, ◌++◌, OnOk};
+ghost use Rattle.std.specs.Prelude.{◌≡◌, [], ◌∷◌, ◌++◌, OnOk};
 ghost use Rattle.std.specs.Option.{option_to_list};
 
 use diego_names::{List, OutOfMemory};
@@ -12,4 +12,11 @@ pub(crate) fn add<X: Copy>(items: &mut List<X>, item: Option<X>) -> Result<(), O
         None => Ok(()),
         Some(item) => items.push(item),
     }
+}
+
+/// Adds this item at the end.
+pub(crate) fn add_one<X: Copy>(items: &mut List<X>, item: &X) -> Result<(), OutOfMemory>
+    ensures { OnOk result (items.new ≡ items.old ++ item.now ∷ []) }
+{
+    items.push(*item)
 }

@@ -15,6 +15,7 @@ ghost use Rattle.converge_round.specs.Starts.{IsClaimOfOne};
 
 use crate::cell_jobs::CellJobs;
 use crate::closing::{call_fails, report_of};
+use crate::counting::count_all;
 use crate::opening::open_round;
 use crate::placing::Places;
 use crate::rep_index::RepIndex;
@@ -28,7 +29,7 @@ use crash_backoff::Moment;
 use diego_names::Name;
 use std::alloc::Global;
 
-/// Starts these jobs on the rep at a place.
+/// Starts these jobs on the rep at a place, and then what came of them counts.
 fn claim_at<P: Port, W: Wire>(
     alloc: Global,
     port: &mut P,
@@ -57,7 +58,10 @@ fn claim_at<P: Port, W: Wire>(
         (told.course (P.view port.new) tally.new cells.new
         (wire_at (W.ends wire.new) (W.losses wire.new)))) }
 {
-    claim_on(alloc, port, &mut cells[at], wire, jobs, now, tally)
+    match claim_on(alloc, port, &mut cells[at], wire, jobs, now) {
+        Err(fault) => Err(fault),
+        Ok(ends) => count_all(tally, ends.items()),
+    }
 }
 
 /// Starts what goes to one cell.

@@ -6,8 +6,10 @@ mod adding;
 mod asking;
 mod calls;
 mod cell_jobs;
+mod claims;
 mod closing;
 mod converging;
+mod counting;
 mod jobs;
 mod opening;
 mod placing;
@@ -19,6 +21,7 @@ mod stopping;
 mod tally;
 
 pub use calls::call_each;
+pub use claims::{Claimed, Start, StartEnd};
 pub use converging::round;
 pub use jobs::{jobs_of, named_job};
 pub use opening::{Opening, open_round};

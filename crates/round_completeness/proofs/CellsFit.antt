@@ -16,7 +16,7 @@ use Rattle.converge_round.specs.Each.{Each}
 use Rattle.converge_round.specs.Phases.{Course, ServesOne}
 use Rattle.converge_round.specs.Places.{jobs_on}
 use Rattle.converge_round.specs.Reps.{names_of, StandsFor}
-use Rattle.converge_round.specs.Starts.{serving}
+use Rattle.converge_round.specs.Starts.{claiming}
 use Rattle.converge_round.specs.declared.placing.Places.{Places}
 use Rattle.converge_round.proofs.Public.{name_there, rep_there}
 use Rattle.crash_backoff.specs.declared.moment.Moment.{Moment}
@@ -80,8 +80,8 @@ pub serve_fits : (by : ℕ) (now : Moment) (p : Places) (x : Answer) (s m : Cour
     → (declined_at by now p x s m h ≡ 0) × ((y : Answer) → y.cell ≢ x.cell → HasAnswered s.reps y
     → HasAnswered m.reps y)
 serve_fits by now p x s m (inl c) has room =
-    let o = starts-fit by now (jobs_on p.rows p.placements x.cell) (serving c.rep s.view s.tally s.wire)
-    (serving c.after m.view m.tally m.wire) c.starts x.free room (has c.place c.rep c.stands) in (
+    let o = starts-fit by now (jobs_on p.rows p.placements x.cell) (claiming c.rep s.view s.wire)
+    (claiming c.after m.view m.wire) c.ends c.claims c.fine x.free room (has c.place c.rep c.stands) in (
       o.0,
       λ y differs had at rep stands.
           had at rep (stood_before s.reps c.place c.after x.cell y.cell at rep c.stands.within

@@ -1,5 +1,5 @@
 -- A start that finds room makes its call.
-use Rattle.std.proofs.Common.{◌≡◌, ℕ, Bool, true, false, List, [], ◌∷◌, Option, Some, None, Result, refl, sym, ap, subst, ◌∙◌, arith, ⊎_elim}
+use Rattle.std.proofs.Common.{◌≡◌, ℕ, Bool, true, false, List, [], ◌∷◌, map, Option, Some, None, Result, refl, sym, ap, subst, ◌∙◌, arith, ⊎_elim}
 use Rattle.auctioneer.specs.Stands.{less}
 use Rattle.bbs_model.specs.PortView.{PortView}
 use Rattle.bbs_model.specs.Work.{at}
@@ -25,10 +25,13 @@ use Rattle.container_store.specs.Store.{StoreView}
 use Rattle.container_store.specs.declared.refusal.StoreRefusal.{StoreRefusal}
 use Rattle.converge_round.specs.Each.{Each}
 use Rattle.converge_round.specs.Sendings.{WireAt}
-use Rattle.converge_round.specs.Starts.{Serving, HasNoFault, TakesIf, StartsOne}
+use Rattle.converge_round.specs.Starts.{AreFine, Claiming, Claims, HasNoFault, IsFine, TakesIf, StartsOne, job_of}
+use Rattle.converge_round.specs.declared.claims.Claimed.{Claimed}
+use Rattle.converge_round.specs.declared.claims.StartEnd.{StartEnd}
+use Rattle.converge_round.proofs.Public.{claims_jobs}
 use Rattle.crash_backoff.specs.declared.moment.Moment.{Moment}
 use Rattle.diego_names.specs.declared.instance.Instance.{Instance}
-use Rattle.round_theorem.specs.Losses.{declined_end, declined_if, declined_on}
+use Rattle.round_theorem.specs.Losses.{declined_end, declined_in, declined_on}
 use Rattle.round_theorem.proofs.Public.{cell_stays}
 use Rattle.round_completeness.specs.Rooms.{FindsRoom, AllFindRoom}
 use Rattle.round_completeness.proofs.Stores.{IsFree, weaker_free, room_made, held_free, gone_free}
@@ -69,7 +72,7 @@ pub record IsFitted (free : Amounts) (job : Job) (rep : CellRep) (wire : WireAt)
   pub fits : EndFits (end_now wire.ends rep.cell) a.end
   pub rest : IsFreeOn (less free job) rep.cell rep'
 
-module _ (by : ℕ) (now : Moment) (job : Job) (s s' : Serving) (wire : WireAt) (a : Called) (ended : HasNoFault a.end)
+module _ (by : ℕ) (now : Moment) (job : Job) (s s' : Claiming) (wire : WireAt) (a : Called) (ended : HasNoFault a.end)
     (free : Amounts)
     (room : FindsRoom free job) where
   fits_joined : (o : Option Joined) → IsFree free o
@@ -113,26 +116,31 @@ module _ (by : ℕ) (now : Moment) (job : Job) (s s' : Serving) (wire : WireAt) 
       (λ e. absurd (subst (λ (x : Called). HasNoFault x.end) (first_of a starved (ap (λ (x : Stage). x.out) e)) ended))
       h
 
-pub fits_if : (b : Bool) (by : ℕ) (now : Moment) (job : Job) (wire : WireAt) (s s' : Serving)
-    (h : TakesIf b by now job wire s s')
-    (free : Amounts) → FindsRoom free job → IsFree free s.rep.joined
-    → (declined_if b by now job wire s s' h ≡ 0) × IsFreeOn (less free job) s.rep.cell s'.rep
-fits_if true by now job wire s s' h free room is =
-    let f = fits_started by now job s s' wire h.answer h.ended free room is h.started in
-    (f.calls, f.rest)
-fits_if false by now job wire s s' h free room is = (
-  refl,
+pub fits_if : (b : Bool) (by : ℕ) (now : Moment) (job : Job) (wire : WireAt) (s s' : Claiming) (e : StartEnd)
+    → IsFine e → TakesIf b by now job wire s s' e → (free : Amounts) → FindsRoom free job → IsFree free s.rep.joined
+    → (declined_in e ≡ 0) × IsFreeOn (less free job) s.rep.cell s'.rep
+fits_if true by now job wire s s' e fine h free room is =
+    let f = fits_started by now job s s' wire h.answer (subst IsFine h.end_is fine) free room is h.started in
+    (ap declined_in h.end_is ∙ f.calls, f.rest)
+fits_if false by now job wire s s' e fine h free room is = (
+  ap declined_in h.end_is,
   subst (IsFreeOn (less free job) s.rep.cell) (sym h.rep)
       (record { cell_is = refl; free_is = weaker_free free job s.rep.joined is }),
 )
 
--- starts that find room, one after another
-pub starts-fit : (by : ℕ) (now : Moment) (jobs : List Job) (s s' : Serving) (f : Each (StartsOne by now) jobs s s')
-    (free : Amounts)
-    → AllFindRoom free jobs → IsFree free s.rep.joined
-    → (declined_on by now jobs s s' f ≡ 0) × (s'.rep.cell ≡ s.rep.cell)
-starts-fit by now [] s s' f free room is = (refl, ap (λ (x : Serving). x.rep.cell) f)
-starts-fit by now (job ∷ jobs) s s' f free room is =
-    let one = fits_if f.1.reached by now job f.1.wire s f.0 f.1.takes free room.0 is in
-    let rest = starts-fit by now jobs f.0 s' f.2 (less free job) room.1 one.1.free_is in
+starts_fit : (by : ℕ) (now : Moment) (ends : List Claimed) (s s' : Claiming) → AreFine ends
+    → Each (StartsOne by now) ends s s' → (free : Amounts) → AllFindRoom free (map job_of ends)
+    → IsFree free s.rep.joined → (declined_on ends ≡ 0) × (s'.rep.cell ≡ s.rep.cell)
+starts_fit by now [] s s' fine f free room is = (refl, ap (λ (x : Claiming). x.rep.cell) f)
+starts_fit by now (x ∷ ends) s s' fine f free room is =
+    let one = fits_if f.1.reached by now x.start.job f.1.wire s f.0 x.end fine.0 f.1.takes free room.0 is in
+    let rest = starts_fit by now ends f.0 s' fine.1 f.2 (less free x.start.job) room.1 one.1.free_is in
     (omega (arith, one.0, rest.0), rest.1 ∙ one.1.cell_is)
+
+-- starts that find room, one after another
+pub starts-fit : (by : ℕ) (now : Moment) (jobs : List Job) (s s' : Claiming) (ends : List Claimed)
+    → Claims by now jobs s s' ends → AreFine ends → (free : Amounts) → AllFindRoom free jobs
+    → IsFree free s.rep.joined → (declined_on ends ≡ 0) × (s'.rep.cell ≡ s.rep.cell)
+starts-fit by now jobs s s' ends f fine free room is =
+    starts_fit by now ends s s' fine f.each free
+    (subst (AllFindRoom free) (sym (claims_jobs s.rep.cell ends jobs f.starts)) room) is

@@ -1,6 +1,7 @@
 -- How many starts are lost over a wire whose ends don't depend on their number.
 use Rattle.std.proofs.Common.{◌≡◌, ℕ, ◌+◌, ◌-◌, ◌^◌, ◌≤◌, min, Bool, true, false, not, cond, ◌&&◌, List, [], ◌∷◌, length, map, sum_by, Option, Some, None, Ok, Err, refl, sym, ap, subst, ◌∙◌, arith, inl, inr, ⊎_elim}
 use Rattle.std.specs.List.{Contains}
+use Rattle.std.proofs.lemmas.List.{length-map}
 use Rattle.std.proofs.lemmas.List.Sums.{sum_by-cons}
 use Rattle.auctioneer.specs.Stands.{less}
 use Rattle.bbs_model.specs.declared.command.Command.{Command}
@@ -23,10 +24,13 @@ use Rattle.converge_round.specs.Phases.{Course, ServesOne}
 use Rattle.converge_round.specs.Places.{jobs_on}
 use Rattle.converge_round.specs.Reps.{names_of}
 use Rattle.converge_round.specs.Sendings.{WireAt}
-use Rattle.converge_round.specs.Starts.{Serving, serving, answered, counted, HasNoFault, TakesIf, StartsOne}
+use Rattle.converge_round.specs.Starts.{AreFine, Claiming, Claims, claiming, answered, counted, counted_all, counted_end, HasNoFault, IsFine, TakesIf, StartsOne, job_of}
 use Rattle.converge_round.specs.Tallies.{lost_one}
+use Rattle.converge_round.specs.declared.claims.Claimed.{Claimed}
+use Rattle.converge_round.specs.declared.claims.StartEnd.{StartEnd}
 use Rattle.converge_round.specs.declared.placing.Places.{Places}
 use Rattle.converge_round.specs.declared.tally.Tally.{Tally}
+use Rattle.converge_round.proofs.Public.{claims_jobs}
 use Rattle.crash_backoff.specs.declared.moment.Moment.{Moment}
 use Rattle.round_theorem.specs.Losses.{declined_end}
 use Rattle.round_theorem.proofs.Public.{Differ, lost_noted, names_set}
@@ -87,7 +91,7 @@ one_unless ends cell b = cond (b && gets_through ends cell Board) 0 1
 first_of : (x y : Called) → x ∷ [] ≡ y ∷ [] → x ≡ y
 first_of x y e = cc
 
-tells_started : (ends : WireEnds) (by : ℕ) (now : Moment) (job : Job) (w : WireAt) (s s' : Serving) (a : Called)
+tells_started : (ends : WireEnds) (by : ℕ) (now : Moment) (job : Job) (w : WireAt) (s s' : Claiming) (a : Called)
     → HasNoFault a.end
     → Tells ends w.ends
     → IsStarted by job now (stage s.rep s.view w.ends w.losses [])
@@ -99,19 +103,21 @@ tells_started ends by now job w s s' a ended tells h = ⊎_elim
     (λ e. absurd (subst (λ (x : Called). HasNoFault x.end) (first_of a starved (ap (λ (x : Stage). x.out) e)) ended))
     h
 
-start_counted : (ends : WireEnds) (b : Bool) (by : ℕ) (now : Moment) (job : Job) (w : WireAt) (s s' : Serving)
-    (h : TakesIf b by now job w s s') (free : Amounts) → FindsRoom free job → IsFree free s.rep.joined
-    → Tells ends w.ends → IsCounted (one_unless ends s.rep.cell b) s.tally.lost s'.tally.lost × Tells ends s'.wire.ends
-start_counted ends true by now job w s s' h free room is tells =
-    let f = fits_started by now job s s' w h.answer h.ended free room is h.started in
+start_counted : (ends : WireEnds) (b : Bool) (by : ℕ) (now : Moment) (job : Job) (w : WireAt) (s s' : Claiming)
+    (e : StartEnd) (t : Tally) → IsFine e → TakesIf b by now job w s s' e → (free : Amounts) → FindsRoom free job
+    → IsFree free s.rep.joined → Tells ends w.ends
+    → IsCounted (one_unless ends s.rep.cell b) t.lost (counted_end e t).lost × Tells ends s'.wire.ends
+start_counted ends true by now job w s s' e t fine h free room is tells =
+    let ended : HasNoFault h.answer.end = subst IsFine h.end_is fine in
+    let f = fits_started by now job s s' w h.answer ended free room is h.started in
     let d = ends (record { actor = s.rep.cell; kind = Board }) 0 in (
-      subst (IsCounted (one_if d) s.tally.lost) (sym (ap (λ (t : Tally). t.lost) h.counts))
-          (end_counted h.answer.command h.answer.end s.tally d h.ended f.calls
+      subst (λ (x : StartEnd). IsCounted (one_if d) t.lost (counted_end x t).lost) (sym h.end_is)
+          (end_counted h.answer.command h.answer.end t d ended f.calls
           (fits_told ends w.ends s.rep.cell h.answer.end tells f.fits)),
-      tells_started ends by now job w s s' h.answer h.ended tells h.started,
+      tells_started ends by now job w s s' h.answer ended tells h.started,
     )
-start_counted ends false by now job w s s' h free room is tells = (
-  counted_one s.tally.lost s'.tally.lost (ap (λ (t : Tally). t.lost) h.counts),
+start_counted ends false by now job w s s' e t fine h free room is tells = (
+  counted_one t.lost (counted_end e t).lost (ap (λ (x : StartEnd). (counted_end x t).lost) h.end_is),
   subst (λ (x : WireAt). Tells ends x.ends) (sym h.wire_is) tells,
 )
 
@@ -127,32 +133,49 @@ none_of : (b : Bool) → ◌≡◌ {A = ℕ} (cond b 0 0) 0
 none_of true = refl
 none_of false = refl
 
-starts_counted : (ends : WireEnds) (cell : List ℕ) (by : ℕ) (now : Moment) (jobs : List Job) (s s' : Serving)
-    (f : Each (StartsOne by now) jobs s s') (free : Amounts) → AllFindRoom free jobs
+starts_counted : (ends : WireEnds) (cell : List ℕ) (by : ℕ) (now : Moment) (xs : List Claimed) (s s' : Claiming)
+    (t : Tally) → AreFine xs → Each (StartsOne by now) xs s s' → (free : Amounts) → AllFindRoom free (map job_of xs)
     → IsFree free s.rep.joined → s.rep.cell ≡ cell → Tells ends s.wire.ends
-    → IsCounted (all_unless ends cell (length jobs)) s.tally.lost s'.tally.lost × Tells ends s'.wire.ends
-starts_counted ends cell by now [] s s' f free room is names tells = (
-  subst (λ (n : ℕ). IsCounted n s.tally.lost s'.tally.lost)
+    → IsCounted (all_unless ends cell (length xs)) t.lost (counted_all xs t).lost × Tells ends s'.wire.ends
+starts_counted ends cell by now [] s s' t fine f free room is names tells = (
+  subst (λ (n : ℕ). IsCounted n t.lost t.lost)
       (sym (none_of (gets_through ends cell Start && gets_through ends cell Board)))
-      (counted_none s.tally.lost s'.tally.lost (ap (λ (x : Serving). x.tally.lost) f)),
-  subst (λ (x : Serving). Tells ends x.wire.ends) (sym f) tells,
+      (counted_none t.lost t.lost refl),
+  subst (λ (x : Claiming). Tells ends x.wire.ends) (sym f) tells,
 )
-starts_counted ends cell by now (job ∷ jobs) s s' f free room is names tells =
+starts_counted ends cell by now (x ∷ xs) s s' t fine f free room is names tells =
+    let job : Job = x.start.job in
+    let u : Tally = counted_end x.end t in
     let w = sent_so ends s.rep.cell Start f.1.reached s.wire f.1.wire tells f.1.sent in
-    let fit = fits_if f.1.reached by now job f.1.wire s f.0 f.1.takes free room.0 is in
-    let one = start_counted ends f.1.reached by now job f.1.wire s f.0 f.1.takes free room.0 is w.1 in
-    let here : IsCounted (all_unless ends cell 1) s.tally.lost f.0.tally.lost =
-    subst (λ (c : List ℕ). IsCounted (all_unless ends c 1) s.tally.lost f.0.tally.lost) names
-    (subst (λ (b : Bool). IsCounted (one_unless ends s.rep.cell b) s.tally.lost f.0.tally.lost) w.0 one.0) in
-    let rest = starts_counted ends cell by now jobs f.0 s' f.2 (less free job) room.1 fit.1.free_is
+    let fit = fits_if f.1.reached by now job f.1.wire s f.0 x.end fine.0 f.1.takes free room.0 is in
+    let one = start_counted ends f.1.reached by now job f.1.wire s f.0 x.end t fine.0 f.1.takes free room.0 is w.1 in
+    let here : IsCounted (all_unless ends cell 1) t.lost u.lost =
+    subst (λ (c : List ℕ). IsCounted (all_unless ends c 1) t.lost u.lost) names
+    (subst (λ (b : Bool). IsCounted (one_unless ends s.rep.cell b) t.lost u.lost) w.0 one.0) in
+    let rest = starts_counted ends cell by now xs f.0 s' u fine.1 f.2 (less free job) room.1 fit.1.free_is
     (fit.1.cell_is ∙ names) one.1 in (
-      subst (λ (n : ℕ). IsCounted n s.tally.lost s'.tally.lost)
-          (one_more_of (gets_through ends cell Start && gets_through ends cell Board) (length jobs) ∙ ap
+      subst (λ (n : ℕ). IsCounted n t.lost (counted_all xs u).lost)
+          (one_more_of (gets_through ends cell Start && gets_through ends cell Board) (length xs) ∙ ap
           (all_unless ends cell) (omega arith))
-          (counted_then (all_unless ends cell 1) (all_unless ends cell (length jobs)) s.tally.lost f.0.tally.lost
-          s'.tally.lost here
+          (counted_then (all_unless ends cell 1) (all_unless ends cell (length xs)) t.lost u.lost
+          (counted_all xs u).lost here
           rest.0),
       rest.1,
+    )
+
+-- the same by the jobs, and by what was counted
+counted_starts : (ends : WireEnds) (cell : List ℕ) (by : ℕ) (now : Moment) (jobs : List Job) (s s' : Claiming)
+    (xs : List Claimed) (t t' : Tally) → Claims by now jobs s s' xs → AreFine xs → t' ≡ counted_all xs t
+    → (free : Amounts) → AllFindRoom free jobs → IsFree free s.rep.joined → s.rep.cell ≡ cell → Tells ends s.wire.ends
+    → IsCounted (all_unless ends cell (length jobs)) t.lost t'.lost × Tells ends s'.wire.ends
+counted_starts ends cell by now jobs s s' xs t t' f fine counts free room is names tells =
+    let are : map job_of xs ≡ jobs = claims_jobs s.rep.cell xs jobs f.starts in
+    let all = starts_counted ends cell by now xs s s' t fine f.each free (subst (AllFindRoom free) (sym are) room) is
+    names tells in (
+      subst (λ (n : ℕ). IsCounted (all_unless ends cell n) t.lost t'.lost)
+          (sym (length-map xs job_of) ∙ ap (λ (js : List Job). length js) are)
+          (subst (λ (x : Tally). IsCounted (all_unless ends cell (length xs)) t.lost x.lost) (sym counts) all.0),
+      all.1,
     )
 
 -- a cell is served
@@ -168,11 +191,12 @@ serve_counted : (ends : WireEnds) (by : ℕ) (now : Moment) (p : Places) (x : An
     → IsServedSo ends (starts_lost ends p x) s m
 serve_counted ends by now p x s m (inl c) have has room tells =
     let jobs = jobs_on p.rows p.placements x.cell in
-    let from = serving c.rep s.view s.tally s.wire in
-    let to = serving c.after m.view m.tally m.wire in
+    let from = claiming c.rep s.view s.wire in
+    let to = claiming c.after m.view m.wire in
     let free = has c.place c.rep c.stands in
-    let all = starts_counted ends x.cell by now jobs from to c.starts x.free room free c.stands.cell_is tells in
-    let cells = starts-fit by now jobs from to c.starts x.free room free in
+    let all = counted_starts ends x.cell by now jobs from to c.ends s.tally m.tally c.claims c.fine c.counts x.free room
+    free c.stands.cell_is tells in
+    let cells = starts-fit by now jobs from to c.ends c.claims c.fine x.free room free in
     record {
       counts = all.0;
       tells = all.1;

@@ -21,17 +21,18 @@ use Rattle.converge_laws.proofs.Public.{inside_first, inside_rest}
 use Rattle.converge_round.specs.Askings.{HearsIf, Asking, AsksOne}
 use Rattle.converge_round.specs.Each.{Each}
 use Rattle.converge_round.specs.Phases.{Course, ServesOne}
-use Rattle.converge_round.specs.Places.{jobs_on}
 use Rattle.converge_round.specs.Reps.{names_of}
 use Rattle.converge_round.specs.Sendings.{WireAt}
-use Rattle.converge_round.specs.Starts.{Serving, serving, answered, counted, HasNoFault, TakesIf, StartsOne}
+use Rattle.converge_round.specs.Starts.{AreFine, Claiming, claiming, answered, counted, counted_all, counted_end, HasNoFault, IsFine, TakesIf, StartsOne}
 use Rattle.converge_round.specs.Stops.{StopsIf, if_done, Stopped, StopsOne}
 use Rattle.converge_round.specs.Tallies.{lost_one}
+use Rattle.converge_round.specs.declared.claims.Claimed.{Claimed}
+use Rattle.converge_round.specs.declared.claims.StartEnd.{StartEnd}
 use Rattle.converge_round.specs.declared.placing.Places.{Places}
 use Rattle.converge_round.specs.declared.tally.Tally.{Tally}
 use Rattle.crash_backoff.specs.declared.moment.Moment.{Moment}
 use Rattle.diego_names.specs.declared.instance.Instance.{Instance}
-use Rattle.round_theorem.specs.Losses.{mute_if, mute_among, declined_end, declined_if, declined_on, declined_at, declined_among, RoseBy}
+use Rattle.round_theorem.specs.Losses.{mute_if, mute_among, declined_end, declined_in, declined_on, declined_at, declined_among, RoseBy}
 use Rattle.round_theorem.proofs.Losses.{lost_noted}
 use Rattle.round_theorem.proofs.RepSets.{names_set}
 use Rattle.round_theorem.proofs.StopsDone.{cell_stays}
@@ -177,7 +178,7 @@ any_of_one : (e : CallEnd) (before now : ℕ) → HasCause (is_call_lost e || fa
     → HasCause (is_call_lost e) before now
 any_of_one e before now h = subst (λ (b : Bool). HasCause b before now) (or_false (is_call_lost e)) h
 
-started_lost : (by : ℕ) (now : Moment) (job : Job) (wire : WireAt) (s s' : Serving) (a : Called) (t : Tally)
+started_lost : (by : ℕ) (now : Moment) (job : Job) (wire : WireAt) (s s' : Claiming) (a : Called) (t : Tally)
     → HasNoFault a.end
     → IsStarted by job now (stage s.rep s.view wire.ends wire.losses [])
     (stage s'.rep s'.view s'.wire.ends s'.wire.losses (a ∷ []))
@@ -189,44 +190,41 @@ started_lost by now job wire s s' a t fine h = ⊎_elim
     (λ e. absurd (subst (λ (x : Called). HasNoFault x.end) (first_of a starved (ap (λ (x : Stage). x.out) e)) fine))
     h
 
-start_if : (b : Bool) (by : ℕ) (now : Moment) (job : Job) (before : ℕ) (d : Delivery) (wire : WireAt) (s s' : Serving)
-    (h : TakesIf b by now job wire s s') → b ≡ not (is_delivery_lost d)
-    → HasCause (is_delivery_lost d) before wire.losses → AreLost (s'.tally.lost - s.tally.lost)
-    (declined_if b by now job wire s s' h) before s'.wire.losses
-start_if true by now job before d wire s s' h is cause =
+start_if : (b : Bool) (by : ℕ) (now : Moment) (job : Job) (before : ℕ) (d : Delivery) (wire : WireAt)
+    (s s' : Claiming) (e : StartEnd) (t : Tally) → IsFine e → TakesIf b by now job wire s s' e
+    → b ≡ not (is_delivery_lost d) → HasCause (is_delivery_lost d) before wire.losses
+    → AreLost ((counted_end e t).lost - t.lost) (declined_in e) before s'.wire.losses
+start_if true by now job before d wire s s' e t fine h is cause =
     let went : AreLost 0 0 before wire.losses = beside_one 0 before wire.losses cause.later in
     let all = lost-then _ _ _ _ before wire.losses s'.wire.losses went
-    (started_lost by now job wire s s' h.answer s.tally h.ended h.started) in
-    record { wire = all.wire; rose = all.rose; all = omega (arith, all.all, ap (λ (t : Tally). t.lost) h.counts) }
-start_if false by now job before d wire s s' h is cause =
+    (started_lost by now job wire s s' h.answer t (subst IsFine h.end_is fine) h.started) in
+    subst (λ (x : StartEnd). AreLost ((counted_end x t).lost - t.lost) (declined_in x) before s'.wire.losses)
+    (sym h.end_is) (record { wire = all.wire; rose = all.rose; all = omega (arith, all.all) })
+start_if false by now job before d wire s s' e t fine h is cause =
     let rose = rose_unless false d before wire.losses refl is cause in
-    record {
-      wire = 1;
-      rose = omega (arith, rose, ap (λ (w : WireAt). w.losses) h.wire_is);
-      all =
-          omega (arith, ap (λ (t : Tally). t.lost) h.counts);
-    }
+    subst (λ (x : StartEnd). AreLost ((counted_end x t).lost - t.lost) (declined_in x) before s'.wire.losses)
+    (sym h.end_is)
+    (record { wire = 1; rose = omega (arith, rose, ap (λ (w : WireAt). w.losses) h.wire_is); all = omega arith })
 
-starts-lost : (by : ℕ) (now : Moment) (jobs : List Job) (s s' : Serving) (f : Each (StartsOne by now) jobs s s')
-    → AreLost (s'.tally.lost - s.tally.lost) (declined_on by now jobs s s' f) s.wire.losses s'.wire.losses
-starts-lost by now [] s s' f =
-    record {
-      wire = 0;
-      rose = omega (arith, ap (λ (x : Serving). x.wire.losses) f);
-      all =
-          omega (arith, ap (λ (x : Serving). x.tally.lost) f);
-    }
-starts-lost by now (job ∷ jobs) s s' f =
-    let one = start_if f.1.reached by now job s.wire.losses f.1.sent.end f.1.wire s f.0 f.1.takes f.1.sent.is
-    f.1.sent.cause in
+starts-lost : (by : ℕ) (now : Moment) (ends : List Claimed) (s s' : Claiming) (t : Tally) → AreFine ends
+    → Each (StartsOne by now) ends s s'
+    → AreLost ((counted_all ends t).lost - t.lost) (declined_on ends) s.wire.losses s'.wire.losses
+starts-lost by now [] s s' t fine f =
+    record { wire = 0; rose = omega (arith, ap (λ (x : Claiming). x.wire.losses) f); all = omega arith }
+starts-lost by now (x ∷ ends) s s' t fine f =
+    let one = start_if f.1.reached by now x.start.job s.wire.losses f.1.sent.end f.1.wire s f.0 x.end t fine.0
+    f.1.takes f.1.sent.is f.1.sent.cause in
     let both = lost-then _ _ _ _ s.wire.losses f.0.wire.losses s'.wire.losses one
-    (starts-lost by now jobs f.0 s' f.2) in
+    (starts-lost by now ends f.0 s' (counted_end x.end t) fine.1 f.2) in
     record { wire = both.wire; rose = both.rose; all = omega (arith, both.all) }
 
 serve_lost : (by : ℕ) (now : Moment) (p : Places) (x : Answer) (s s' : Course) (h : ServesOne by now p x s s')
     → AreLost (s'.tally.lost - s.tally.lost) (declined_at by now p x s s' h) s.wire.losses s'.wire.losses
-serve_lost by now p x s s' (inl c) = starts-lost by now (jobs_on p.rows p.placements x.cell)
-    (serving c.rep s.view s.tally s.wire) (serving c.after s'.view s'.tally s'.wire) c.starts
+serve_lost by now p x s s' (inl c) =
+    subst (λ (t : Tally). AreLost (t.lost - s.tally.lost) (declined_on c.ends) s.wire.losses s'.wire.losses)
+    (sym c.counts)
+    (starts-lost by now c.ends (claiming c.rep s.view s.wire) (claiming c.after s'.view s'.wire) s.tally c.fine
+    c.claims.each)
 serve_lost by now p x s s' (inr e) =
     record {
       wire = 0;

@@ -18,7 +18,7 @@ use Rattle.converge_round.specs.Each.{Each}
 use Rattle.converge_round.specs.Phases.{Course, ClaimsAt, ServesOne}
 use Rattle.converge_round.specs.Places.{jobs_on}
 use Rattle.converge_round.specs.Reps.{names_of}
-use Rattle.converge_round.specs.Starts.{serving}
+use Rattle.converge_round.specs.Starts.{claiming}
 use Rattle.converge_round.specs.declared.placing.Places.{Places}
 use Rattle.round_theorem.proofs.Answered.{answer_cell}
 use Rattle.round_theorem.proofs.ClaimLists.{IsClaimAt, with_none, with_then, with_other}
@@ -26,7 +26,7 @@ use Rattle.round_theorem.proofs.Lists.{kept_inside, zip_then, zip_same, zip_set}
 use Rattle.round_theorem.proofs.RepSets.{names_set, others_named}
 use Rattle.round_theorem.proofs.Losses.{lost-serves}
 use Rattle.round_theorem.proofs.Starts.{in_course, tallied-serves}
-use Rattle.round_theorem.proofs.ClaimsMade.{about_job, AreClaimsMade, claims-made}
+use Rattle.round_theorem.proofs.ClaimsMade.{about_job, AreClaimsMade, made-claims}
 
 pub each_append : {X S : Type 0} (Step : X → S → S → Type 0) (xs ys : List X) (s m t : S) → Each Step xs s m
     → Each Step ys m t → Each Step (xs ++ ys) s t
@@ -69,10 +69,10 @@ module _ (by : ℕ) (now : Moment) (p : Places) (x : Answer) (xs : List Answer) 
     (apart : StandApart (names_of s.reps))
     (h : ClaimsAt by now x.cell (jobs_on p.rows p.placements x.cell) s m) (whole : m.tally.lost ≡ 0)
     (taken : m.tally.refused ≡ []) where
-  abbrev made : AreClaimsMade by now (jobs_on p.rows p.placements x.cell) (serving h.rep s.view s.tally s.wire)
-      (serving h.after m.view m.tally m.wire)
-  made = claims-made by now (jobs_on p.rows p.placements x.cell) (serving h.rep s.view s.tally s.wire)
-      (serving h.after m.view m.tally m.wire) whole taken h.starts
+  abbrev made : AreClaimsMade by now (jobs_on p.rows p.placements x.cell) (claiming h.rep s.view s.wire)
+      (claiming h.after m.view m.wire) s.tally m.tally
+  made = made-claims by now (jobs_on p.rows p.placements x.cell) (claiming h.rep s.view s.wire)
+      (claiming h.after m.view m.wire) h.ends s.tally m.tally h.claims h.fine h.counts whole taken
 
   names_one : names_of m.reps ≡ names_of s.reps
   names_one = ap names_of h.reps_are ∙ names_set s.reps h.place h.rep h.after h.stands.within h.stands.is made.cell

@@ -28,7 +28,7 @@ use Rattle.round_theorem.proofs.ClaimsMade.{about_job}
 use Rattle.round_theorem.proofs.Lists.{kept_inside}
 use Rattle.round_theorem.proofs.Parts.{IsPartOf, part_append}
 use Rattle.round_theorem.proofs.ServesHad.{IsReady}
-use Rattle.round_theorem.proofs.StartsHad.{HasEpoch}
+use Rattle.round_theorem.proofs.StartTraces.{HasEpoch}
 
 claims_on_part : (now : Moment) (cell : List ℕ) (jobs : List Job) (n : ℕ) (cs : List Command)
     → AreClaimsOn now cell jobs n cs → IsPartOf (map subject_in cs) (map about_job jobs)

@@ -54,7 +54,7 @@ use Rattle.round_theorem.proofs.Parts.{IsPartOf, part_inside, part_differ, kept_
 use Rattle.round_theorem.proofs.PlacesTaken.{apart_by_subjects, all_cells, one_subject, placed_on}
 use Rattle.round_theorem.proofs.RoomyCells.{present-there}
 use Rattle.round_theorem.proofs.Segments.{refused_append}
-use Rattle.round_theorem.proofs.StartsHad.{IsClaimUnder}
+use Rattle.round_theorem.proofs.StartTraces.{IsClaimUnder}
 use Rattle.round_theorem.proofs.Taken.{rows-looks}
 use Rattle.round_theorem.proofs.WholeAccount as parts
 

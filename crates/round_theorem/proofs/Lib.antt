@@ -16,6 +16,7 @@ pub mod PlacesTaken
 pub mod RoomyCells
 pub mod Waiting
 pub mod Had
+pub mod StartTraces
 pub mod StartsHad
 pub mod ServesHad
 pub mod Segments

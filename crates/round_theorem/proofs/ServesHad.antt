@@ -11,7 +11,7 @@ use Rattle.converge_round.specs.Each.{Each}
 use Rattle.converge_round.specs.Phases.{Course, ClaimsAt, ServesOne}
 use Rattle.converge_round.specs.Places.{jobs_on}
 use Rattle.converge_round.specs.Reps.{names_of}
-use Rattle.converge_round.specs.Starts.{serving}
+use Rattle.converge_round.specs.Starts.{claiming}
 use Rattle.converge_round.specs.declared.placing.Places.{Places}
 use Rattle.crash_backoff.specs.declared.moment.Moment.{Moment}
 use Rattle.round_theorem.specs.Alone.{AreClaims}
@@ -19,7 +19,8 @@ use Rattle.round_theorem.proofs.CellsServed.{each_append}
 use Rattle.round_theorem.proofs.Had.{had, IsHad}
 use Rattle.round_theorem.proofs.RepSets.{names_set}
 use Rattle.round_theorem.proofs.Starts.{in_course}
-use Rattle.round_theorem.proofs.StartsHad.{HasEpoch, epoch_kept, IsClaimUnder, AreStartsHad, starts-had}
+use Rattle.round_theorem.proofs.StartTraces.{HasEpoch, epoch_kept, IsClaimUnder}
+use Rattle.round_theorem.proofs.StartsHad.{AreStartsHad, had-starts}
 
 -- each rep of the cell has the epoch of that answer
 abbrev pub IsReady : Answer → List CellRep → Type 0
@@ -56,10 +57,10 @@ pub record AreServesHad (by : ℕ) (now : Moment) (p : Places) (xs : List Answer
 
 module _ (by : ℕ) (now : Moment) (p : Places) (x : Answer) (xs : List Answer) (s m s' : Course)
     (h : ClaimsAt by now x.cell (jobs_on p.rows p.placements x.cell) s m) where
-  abbrev one : AreStartsHad by now x.cell (jobs_on p.rows p.placements x.cell) (serving h.rep s.view s.tally s.wire)
-      (serving h.after m.view m.tally m.wire)
-  one = starts-had by now x.cell (jobs_on p.rows p.placements x.cell) (serving h.rep s.view s.tally s.wire)
-      (serving h.after m.view m.tally m.wire) h.stands.cell_is h.starts
+  abbrev one : AreStartsHad by now x.cell (jobs_on p.rows p.placements x.cell) (claiming h.rep s.view s.wire)
+      (claiming h.after m.view m.wire) s.tally m.tally
+  one = had-starts by now x.cell (jobs_on p.rows p.placements x.cell) (claiming h.rep s.view s.wire)
+      (claiming h.after m.view m.wire) h.ends s.tally m.tally h.stands.cell_is h.claims h.fine h.counts
 
   names_one : names_of m.reps ≡ names_of s.reps
   names_one = ap names_of h.reps_are ∙ names_set s.reps h.place h.rep h.after h.stands.within h.stands.is one.cell_is

@@ -21,8 +21,10 @@ use Rattle.converge_round.specs.Callings.{Calling, calling}
 use Rattle.converge_round.specs.Each.{Each}
 use Rattle.converge_round.specs.Phases.{Course, ServesOne}
 use Rattle.converge_round.specs.Sendings.{WireAt}
-use Rattle.converge_round.specs.Starts.{Serving, serving, counted, TakesIf, StartsOne}
+use Rattle.converge_round.specs.Starts.{Claiming, claiming, counted, counted_end, counted_all, TakesIf, StartsOne}
 use Rattle.converge_round.specs.Tallies.{lost_one}
+use Rattle.converge_round.specs.declared.claims.Claimed.{Claimed}
+use Rattle.converge_round.specs.declared.claims.StartEnd.{StartEnd}
 use Rattle.converge_round.specs.declared.placing.Places.{Places}
 use Rattle.converge_round.specs.declared.tally.Tally.{Tally}
 use Rattle.round_theorem.proofs.Tallied.{IsTallied, mine_more, tallied-as, tallied-reply, tallied-then}
@@ -73,7 +75,7 @@ follows by cell ends x rep rep' v w a t h =
 first_of : (a b : Called) → a ∷ [] ≡ b ∷ [] → a ≡ b
 first_of a b e = cc
 
-started : (by : ℕ) (job : Job) (now : Moment) (s s' : Serving) (wire : WireAt) (a : Called) (t : Tally)
+started : (by : ℕ) (job : Job) (now : Moment) (s s' : Claiming) (wire : WireAt) (a : Called) (t : Tally)
     → IsStarted by job now (stage s.rep s.view wire.ends wire.losses [])
     (stage s'.rep s'.view s'.wire.ends s'.wire.losses (a ∷ []))
     → IsTallied (calling s.view t) (calling s'.view (counted a.command a.end t))
@@ -87,24 +89,24 @@ started by job now s s' wire a t h = ⊎_elim
     (tallied-as (calling s.view t) (calling s'.view t) (ap (λ (x : Stage). calling x.view t) e)))
     h
 
-abbrev in_serving : Serving → Calling
-in_serving s = calling s.view s.tally
+taken : (b : Bool) (by : ℕ) (now : Moment) (job : Job) (wire : WireAt) (s s' : Claiming) (e : StartEnd) (t : Tally)
+    → TakesIf b by now job wire s s' e → IsTallied (calling s.view t) (calling s'.view (counted_end e t))
+taken true by now job wire s s' e t h =
+    subst (λ (x : StartEnd). IsTallied (calling s.view t) (calling s'.view (counted_end x t))) (sym h.end_is)
+    (started by job now s s' wire h.answer t h.started)
+taken false by now job wire s s' e t h =
+    subst (λ (x : StartEnd). IsTallied (calling s.view t) (calling s'.view (counted_end x t))) (sym h.end_is)
+    (lost s.view s'.view t h.view)
 
-taken : (b : Bool) (by : ℕ) (now : Moment) (job : Job) (wire : WireAt) (s s' : Serving) → TakesIf b by now job wire s s'
-    → IsTallied (in_serving s) (in_serving s')
-taken true by now job wire s s' h =
-    subst (λ (t : Tally). IsTallied (in_serving s) (calling s'.view t)) (sym h.counts)
-    (started by job now s s' wire h.answer s.tally h.started)
-taken false by now job wire s s' h =
-    subst (λ (t : Tally). IsTallied (in_serving s) (calling s'.view t)) (sym h.counts)
-    (lost s.view s'.view s.tally h.view)
-
-starts : (by : ℕ) (now : Moment) (jobs : List Job) (s s' : Serving) → Each (StartsOne by now) jobs s s'
-    → IsTallied (in_serving s) (in_serving s')
-starts by now [] s s' f = tallied-as (in_serving s) (in_serving s') (ap in_serving f)
-starts by now (job ∷ jobs) s s' f =
-    tallied-then (in_serving s) (in_serving f.0) (in_serving s') (taken f.1.reached by now job f.1.wire s f.0 f.1.takes)
-    (starts by now jobs f.0 s' f.2)
+starts : (by : ℕ) (now : Moment) (ends : List Claimed) (s s' : Claiming) (t : Tally) → Each (StartsOne by now) ends s s'
+    → IsTallied (calling s.view t) (calling s'.view (counted_all ends t))
+starts by now [] s s' t f =
+    tallied-as (calling s.view t) (calling s'.view t) (ap (λ (x : Claiming). calling x.view t) f)
+starts by now (x ∷ ends) s s' t f =
+    tallied-then (calling s.view t) (calling f.0.view (counted_end x.end t))
+    (calling s'.view (counted_all ends (counted_end x.end t)))
+    (taken f.1.reached by now x.start.job f.1.wire s f.0 x.end t f.1.takes)
+    (starts by now ends f.0 s' (counted_end x.end t) f.2)
 
 abbrev pub in_course : Course → Calling
 in_course s = calling s.view s.tally
@@ -116,7 +118,8 @@ tallied-serves by now p [] s s' f = tallied-as (in_course s) (in_course s') (ap 
 tallied-serves by now p (x ∷ xs) s s' f =
     tallied-then (in_course s) (in_course f.0) (in_course s')
     (⊎_elim
-    (λ c. starts by now _ (serving c.rep s.view s.tally s.wire) (serving c.after f.0.view f.0.tally f.0.wire) c.starts)
+    (λ c. subst (λ (t : Tally). IsTallied (in_course s) (calling f.0.view t)) (sym c.counts)
+    (starts by now c.ends (claiming c.rep s.view s.wire) (claiming c.after f.0.view f.0.wire) s.tally c.claims.each))
     (λ e. tallied-as (in_course s) (in_course f.0) (ap in_course e.1))
     f.1)
     (tallied-serves by now p xs f.0 s' f.2)

@@ -1,251 +1,43 @@
 -- The claims of starts that had replies, heard or lost.
-use Rattle.std.proofs.Common.{◌≡◌, ◌⊎◌, ℕ, ◌+◌, ◌-◌, ◌≤◌, ◌^◌, min, Bool, true, false, List, [], ◌∷◌, ◌++◌, Option, Some, None, Result, Ok, Err, refl, sym, ap, subst, ◌∙◌, arith, inl, inr, ⊎_elim}
+use Rattle.std.proofs.Common.{◌≡◌, ◌⊎◌, ℕ, ◌+◌, ◌-◌, ◌≤◌, ◌^◌, min, List, [], ◌∷◌, map, refl, sym, ap, subst, ◌∙◌, arith, inl, inr, ⊎_elim}
 use Rattle.cell_records.specs.declared.job.Job.{Job}
-use Rattle.cell_records.specs.declared.job_name.JobName.{JobName}
-use Rattle.cell_records.specs.declared.job_name.JobName.TheVariants as name
-use Rattle.cell_rep.specs.Acts.{claim_op, claim_todo, job_todo, job_begun}
-use Rattle.cell_rep.specs.Claims.{claimed_next}
-use Rattle.cell_rep.specs.Deliveries.{IsDelivered}
-use Rattle.cell_rep.specs.Ends.{after_reply, left}
-use Rattle.cell_rep.specs.Follows.{Stage, stage, after_todo, Follows, IsStarted, starved}
 use Rattle.cell_rep.specs.Laws.{SameJoined}
-use Rattle.cell_rep.specs.Wires.{WireEnds}
-use Rattle.cell_rep.proofs.Public.{keeps_started}
-use Rattle.container_store.specs.Changes.{next_of, next_container, reserving}
-use Rattle.container_store.specs.Store.{StoreView}
 use Rattle.converge_laws.proofs.Public.{first_or_rest}
 use Rattle.std.specs.List.{Contains}
-use Rattle.cell_rep.specs.declared.call_end.CallEnd.{CallEnd}
-use Rattle.cell_rep.specs.declared.call_end.CallEnd.TheVariants.{Got, Fault, CallLost, ReplyLost, Local, Idle}
-use Rattle.cell_rep.specs.declared.call_end.Called.{Called}
-use Rattle.cell_rep.specs.declared.joined.Joined.{Joined}
-use Rattle.cell_rep.specs.declared.rep.CellRep.{CellRep}
-use Rattle.cell_rep.specs.declared.todo.Todo.{Todo}
-use Rattle.cell_rep.specs.declared.todo.Todo.TheVariants as todo
-use Rattle.container_store.specs.declared.refusal.StoreRefusal.{StoreRefusal}
 use Rattle.crash_backoff.specs.declared.moment.Moment.{Moment}
-use Rattle.bbs_model.specs.PortView.{PortView, IsCalled}
-use Rattle.bbs_model.specs.Work.{at}
 use Rattle.bbs_model.specs.declared.command.Command.{Command}
-use Rattle.bbs_model.specs.declared.reply.Reply.{Reply}
-use Rattle.bbs_model.specs.declared.reply.Reply.TheVariants as reply
-use Rattle.diego_names.specs.declared.instance.Instance.{Instance}
-use Rattle.converge_round.specs.Callings.{Calling, calling}
+use Rattle.converge_round.specs.Callings.{calling}
 use Rattle.converge_round.specs.Each.{Each}
-use Rattle.converge_round.specs.Sendings.{WireAt}
-use Rattle.converge_round.specs.Starts.{Serving, counted, HasNoFault, TakesIf, StartsOne}
-use Rattle.converge_round.specs.Tallies.{noted, lost_one}
+use Rattle.converge_round.specs.Starts.{AreFine, Claiming, Claims, counted, counted_all, counted_end, StartsOne, job_of}
+use Rattle.converge_round.specs.declared.claims.Claimed.{Claimed}
 use Rattle.converge_round.specs.declared.tally.Tally.{Tally}
+use Rattle.converge_round.proofs.Public.{claims_jobs}
 use Rattle.round_theorem.specs.Alone.{AreClaimsOn}
-use Rattle.round_theorem.proofs.Had.{Had, had, IsHad, own_after, refusal_in, own_noted, refused_noted}
-use Rattle.round_theorem.proofs.Losses.{lost_noted}
-use Rattle.round_theorem.proofs.StopsDone.{cell_stays}
-
-abbrev in_serving : Serving → Calling
-in_serving s = calling s.view s.tally
-
--- the epoch of a cell, where it has joined
-abbrev pub HasEpoch : ℕ → Option Joined → Type 0
-HasEpoch e None = Unit {0}
-HasEpoch e (Some j) = j.store.epoch ≡ e
-
-pub epoch_kept : (e : ℕ) (a b : Option Joined) → SameJoined a b → HasEpoch e a → HasEpoch e b
-epoch_kept e None None f h = tt
-epoch_kept e None (Some k) f h = absurd f
-epoch_kept e (Some j) None f h = tt
-epoch_kept e (Some j) (Some k) f h = f.epoch ∙ h
-
-joined_itself : (a : Option Joined) → SameJoined a a
-joined_itself None = tt
-joined_itself (Some j) = record { zone = refl; tag = refl; draining = refl; totals = refl; epoch = refl }
-
-joined_then : (a b c : Option Joined) → SameJoined a b → SameJoined b c → SameJoined a c
-joined_then None None c f g = g
-joined_then None (Some k) c f g = absurd f
-joined_then (Some j) None c f g = absurd f
-joined_then (Some j) (Some k) None f g = absurd g
-joined_then (Some j) (Some k) (Some l) f g = record {
-  zone = g.zone ∙ f.zone;
-  tag = g.tag ∙ f.tag;
-  draining = g.draining ∙ f.draining;
-  totals = g.totals ∙ f.totals;
-  epoch = g.epoch ∙ f.epoch;
-}
-
--- the claim of a container for a job, of the epoch of the cell
-abbrev IsOwnClaim : Moment → List ℕ → Option Joined → Job → Command → Type 0
-IsOwnClaim now cell o job c = (i : Instance) × (c ≡ at now (claim_op cell job.job i))
-    × ((e : ℕ) → HasEpoch e o → i.epoch ≡ e)
-
--- a claim of that epoch
-abbrev pub IsClaimUnder : Moment → List ℕ → ℕ → Command → Type 0
-IsClaimUnder now cell e c = (n : JobName) × (i : Instance) × (c ≡ at now (claim_op cell n i)) × (i.epoch ≡ e)
-
--- what is to be done for a start is its claim, or nothing at all
-abbrev IsJobTodo : Moment → List ℕ → Option Joined → Job → Todo → Type 0
-IsJobTodo now cell o job (todo.Call c) = IsOwnClaim now cell o job c
-IsJobTodo now cell o job todo.Idle = Unit {0}
-IsJobTodo now cell o job (todo.Local why) = Unit {0}
-
-claimed_todo : (now : Moment) (cell : List ℕ) (job : Job) (j : Joined) (x : Result StoreView StoreRefusal)
-    → IsJobTodo now cell (Some j) job (claim_todo now (λ d. claim_op cell job.job d.instance)
-    (claimed_next (next_container j.store job.job job.memory job.disk) x))
-claimed_todo now cell job j (Ok store) = (next_of j.store, refl, λ e h. h)
-claimed_todo now cell job j (Err why) = tt
-
-todo_of : (now : Moment) (cell : List ℕ) (job : Job) (o : Option Joined)
-    → IsJobTodo now cell o job (job_todo job now cell o)
-todo_of now cell job None = tt
-todo_of now cell job (Some j) = claimed_todo now cell job j (reserving j.store job.job job.memory job.disk)
-
--- the cell keeps its name
-cell_replied : (n : JobName) (cell : List ℕ) (i : Instance) (r : Reply) (rep : CellRep)
-    → (after_reply (claim_op cell n i) r rep).cell ≡ rep.cell
-cell_replied (name.Lrp key) cell i (reply.Ok place stamp) rep = refl
-cell_replied (name.Lrp key) cell i (reply.Same place) rep = refl
-cell_replied (name.Lrp key) cell i (reply.Refused why place) rep = cell_stays rep.cell i rep.joined
-cell_replied (name.Task t) cell i (reply.Ok place stamp) rep = refl
-cell_replied (name.Task t) cell i (reply.Same place) rep = refl
-cell_replied (name.Task t) cell i (reply.Refused why place) rep = cell_stays rep.cell i rep.joined
-
-cell_left : (n : JobName) (cell : List ℕ) (i : Instance) (e : CallEnd) (rep : CellRep)
-    → (left (claim_op cell n i) e rep).cell ≡ rep.cell
-cell_left n cell i (Got r) rep = cell_replied n cell i r rep
-cell_left n cell i (Fault why) rep = refl
-cell_left n cell i CallLost rep = refl
-cell_left n cell i (ReplyLost answer) rep = refl
-cell_left n cell i (Local why) rep = refl
-cell_left n cell i Idle rep = refl
-
-cell_begun : (job : Job) (rep : CellRep) (o : Option Joined) → (job_begun job rep o).cell ≡ rep.cell
-cell_begun job rep None = refl
-cell_begun job rep (Some j) = refl
-
-cell_done : (now : Moment) (cell : List ℕ) (o : Option Joined) (job : Job) (x : Todo) (e : CallEnd) (rep : CellRep)
-    → IsJobTodo now cell o job x → (after_todo x e rep).cell ≡ rep.cell
-cell_done now cell o job (todo.Call c) e rep claim = ap
-    (λ (d : Command). (left d.op e rep).cell) claim.1 ∙ cell_left job.job cell claim.0 e rep
-cell_done now cell o job todo.Idle e rep claim = refl
-cell_done now cell o job (todo.Local why) e rep claim = refl
-
--- a start left a trace: its claim had a reply, or nothing was done and a loss was counted
-abbrev IsTraced : ℕ → Moment → List ℕ → Option Joined → Job → Serving → Serving → Type 0
-IsTraced by now cell o job s s' =
-    ((c : Command) × IsOwnClaim now cell o job c × IsHad by c (had (in_serving s)) (had (in_serving s'))
-    × (min s.tally.lost (2 ^ 64 - 1) ≤ s'.tally.lost))
-    ⊎ ((s'.view ≡ s.view) × (s'.tally ≡ lost_one s.tally))
-
-module _ (by : ℕ) (now : Moment) (cell : List ℕ) (o : Option Joined) (job : Job) (s s' : Serving) (a : Called)
-    (ended : HasNoFault a.end) (counts : s'.tally ≡ counted a.command a.end s.tally) where
-  counts_as : (b : Called) → a ≡ b → s'.tally ≡ counted b.command b.end s.tally
-  counts_as b e = counts ∙ ap (λ (x : Called). counted x.command x.end s.tally) e
-
-  -- a reply that counts on a tally with the same own and refused
-  replied : (c : Command) (r : Reply) (t : Tally) → t.own ≡ s.tally.own → t.refused ≡ s.tally.refused
-      → min s.tally.lost (2 ^ 64 - 1) ≤ t.lost → IsOwnClaim now cell o job c → s'.tally ≡ noted c r t
-      → IsCalled by s.view c (Ok r) s'.view
-      → IsTraced by now cell o job s s'
-  replied c r t own refused lost claim is h = inl (
-    c,
-    claim,
-    record {
-      reply = r;
-      called = h;
-      own = ap (λ (x : Tally). x.own) is ∙ own_noted c r t ∙ ap (own_after r) own;
-      refused = ap (λ (x : Tally). x.refused) is ∙ refused_noted c r t ∙ ap (λ xs. xs ++ refusal_in c r) refused;
-    },
-    omega (arith, lost, ap (λ (x : Tally). x.lost) is, lost_noted c r t),
-  )
-
-  by_end : (c : Command) (e : CallEnd) → a.end ≡ e → a.command ≡ Some c → IsOwnClaim now cell o job c
-      → IsDelivered by s.view c e s'.view → IsTraced by now cell o job s s'
-  by_end c (Got r) is called claim h =
-      replied c r s.tally refl refl (omega arith) claim (counts_as (record { command = Some c; end = Got r })
-      (λ i. record { command = called i; end = is i })) h
-  by_end c (Fault why) is called claim h = absurd (subst HasNoFault is ended)
-  by_end c CallLost is called claim h = inr (
-    h,
-    counts_as (record { command = Some c; end = CallLost })
-        (λ i. record { command = called i; end = is i }),
-  )
-  by_end c (ReplyLost (Ok r)) is called claim h =
-      replied c r (lost_one s.tally) refl refl (omega arith) claim
-      (counts_as (record { command = Some c; end = ReplyLost (Ok r) })
-      (λ i. record { command = called i; end = is i })) h
-  by_end c (ReplyLost (Err why)) is called claim h = absurd (subst HasNoFault is ended)
-  by_end c (Local why) is called claim h = absurd h
-  by_end c Idle is called claim h = absurd h
-
-  by_todo : (x : Todo) (rep rep' : CellRep) (ends : Option WireEnds) → IsJobTodo now cell o job x
-      → Follows by cell ends (x ∷ []) rep s.view (a ∷ []) rep' s'.view → IsTraced by now cell o job s s'
-  by_todo (todo.Call c) rep rep' ends claim h = by_end c a.end refl h.1 claim
-      (subst (λ (v : PortView). IsDelivered by s.view c a.end v) (sym h.3.1) h.2.1)
-  by_todo todo.Idle rep rep' ends claim h = inr (h.3.1 ∙ h.2, counts_as _ h.1)
-  by_todo (todo.Local why) rep rep' ends claim h = inr (h.3.1 ∙ h.2, counts_as _ h.1)
-
-first_of : (x y : Called) → x ∷ [] ≡ y ∷ [] → x ≡ y
-first_of x y e = cc
-
--- what a start left, and that its cell kept its name and its epoch
-abbrev IsLeft : ℕ → Moment → Job → Serving → Serving → Type 0
-IsLeft by now job s s' = IsTraced by now s.rep.cell s.rep.joined job s s' × (s'.rep.cell ≡ s.rep.cell)
-    × SameJoined s.rep.joined s'.rep.joined
-
-module _ (by : ℕ) (now : Moment) (job : Job) (s s' : Serving) (wire : WireAt) (a : Called) (ended : HasNoFault a.end)
-    (counts : s'.tally ≡ counted a.command a.end s.tally) where
-  left_by : (out : List Called) → a ∷ [] ≡ out
-      → Follows by s.rep.cell wire.ends (job_todo job now s.rep.cell s.rep.joined ∷ [])
-      (job_begun job s.rep s.rep.joined) s.view out s'.rep s'.view → SameJoined s.rep.joined s'.rep.joined
-      → IsLeft by now job s s'
-  left_by out is follows same =
-      let h = subst (λ xs. Follows by s.rep.cell wire.ends (job_todo job now s.rep.cell s.rep.joined ∷ [])
-      (job_begun job s.rep s.rep.joined) s.view xs s'.rep s'.view) (sym is) follows in
-      let x : Todo = job_todo job now s.rep.cell s.rep.joined in
-      let claim : IsJobTodo now s.rep.cell s.rep.joined job x = todo_of now s.rep.cell job s.rep.joined in (
-        by_todo by now s.rep.cell s.rep.joined job s s' a ended counts x
-            (job_begun job s.rep s.rep.joined) s'.rep wire.ends claim h,
-        ap (λ (r : CellRep). r.cell) h.3.0 ∙ cell_done now s.rep.cell s.rep.joined job x a.end
-            (job_begun job s.rep s.rep.joined) claim ∙ cell_begun job s.rep s.rep.joined,
-        same,
-      )
-
-  left_started : IsStarted by job now (stage s.rep s.view wire.ends wire.losses [])
-      (stage s'.rep s'.view s'.wire.ends s'.wire.losses (a ∷ [])) → IsLeft by now job s s'
-  left_started h = ⊎_elim
-      (λ p. left_by p.new p.out_is p.follows (keeps_started by job now (stage s.rep s.view wire.ends wire.losses [])
-      (stage s'.rep s'.view s'.wire.ends s'.wire.losses (a ∷ [])) h))
-      (λ e. absurd (subst (λ (x : Called). HasNoFault x.end) (first_of a starved (ap (λ (x : Stage). x.out) e)) ended))
-      h
-
-left_if : (b : Bool) (by : ℕ) (now : Moment) (job : Job) (wire : WireAt) (s s' : Serving)
-    → TakesIf b by now job wire s s' → IsLeft by now job s s'
-left_if true by now job wire s s' h = left_started by now job s s' wire h.answer h.ended h.counts h.started
-left_if false by now job wire s s' h = (
-  inr (h.view, h.counts),
-  ap (λ (r : CellRep). r.cell) h.rep,
-  subst (λ (r : CellRep). SameJoined s.rep.joined r.joined) (sym h.rep) (joined_itself s.rep.joined),
-)
+use Rattle.round_theorem.proofs.Had.{Had, had, IsHad}
+use Rattle.round_theorem.proofs.StartTraces.{HasEpoch, IsClaimUnder, IsTraced, epoch_kept, joined_itself, joined_then, left_if}
 
 -- the claims of the jobs of a cell that had replies
-pub record AreStartsHad (by : ℕ) (now : Moment) (cell : List ℕ) (jobs : List Job) (s s' : Serving) : Type 0 where
+pub record AreStartsHad (by : ℕ) (now : Moment) (cell : List ℕ) (jobs : List Job) (s s' : Claiming)
+    (u u' : Tally) : Type 0 where
   pub missing : ℕ
   pub claims : List Command
   pub are : AreClaimsOn now cell jobs missing claims
-  pub calls : Each (IsHad by) claims (had (in_serving s)) (had (in_serving s'))
-  pub lost : min (missing + s.tally.lost) (2 ^ 64 - 1) ≤ s'.tally.lost
+  pub calls : Each (IsHad by) claims (had (calling s.view u)) (had (calling s'.view u'))
+  pub lost : min (missing + u.lost) (2 ^ 64 - 1) ≤ u'.lost
   pub cell_is : s'.rep.cell ≡ s.rep.cell
   pub joined : SameJoined s.rep.joined s'.rep.joined
   pub under : (e : ℕ) → HasEpoch e s.rep.joined → (c : Command) → Contains claims c → IsClaimUnder now cell e c
 
-start_before : (by : ℕ) (now : Moment) (cell : List ℕ) (job : Job) (jobs : List Job) (s m s' : Serving)
-    → IsTraced by now cell s.rep.joined job s m → m.rep.cell ≡ s.rep.cell → SameJoined s.rep.joined m.rep.joined
-    → AreStartsHad by now cell jobs m s'
-    → AreStartsHad by now cell (job ∷ jobs) s s'
-start_before by now cell job jobs s m s' (inl t) same stays g = record {
+start_before : (by : ℕ) (now : Moment) (cell : List ℕ) (job : Job) (jobs : List Job) (s m s' : Claiming)
+    (u w u' : Tally)
+    → IsTraced by now cell s.rep.joined job s m u w → m.rep.cell ≡ s.rep.cell → SameJoined s.rep.joined m.rep.joined
+    → AreStartsHad by now cell jobs m s' w u'
+    → AreStartsHad by now cell (job ∷ jobs) s s' u u'
+start_before by now cell job jobs s m s' u w u' (inl t) same stays g = record {
   missing = g.missing;
   claims = t.0 ∷ g.claims;
   are = inr (t.0, g.claims, refl, (t.1.0, t.1.1), g.are);
-  calls = (had (in_serving m), t.2, g.calls);
+  calls = (had (calling m.view w), t.2, g.calls);
   lost = omega (arith, g.lost, t.3);
   cell_is = g.cell_is ∙ same;
   joined = joined_then s.rep.joined m.rep.joined s'.rep.joined stays g.joined;
@@ -254,11 +46,11 @@ start_before by now cell job jobs s m s' (inl t) same stays g = record {
       (λ (later : Contains g.claims c). g.under e (epoch_kept e s.rep.joined m.rep.joined stays has) c later)
       (first_or_rest c t.0 g.claims inside);
 }
-start_before by now cell job jobs s m s' (inr t) same stays g = record {
+start_before by now cell job jobs s m s' u w u' (inr t) same stays g = record {
   missing = g.missing + 1;
   claims = g.claims;
   are = inl (g.missing, refl, g.are);
-  calls = subst (λ (x : Had). Each (IsHad by) g.claims x (had (in_serving s')))
+  calls = subst (λ (x : Had). Each (IsHad by) g.claims x (had (calling s'.view u')))
       (λ i. record { view = t.0 i; own = (t.1 i).own; refused = (t.1 i).refused }) g.calls;
   lost = omega (arith, g.lost, ap (λ (x : Tally). x.lost) t.1);
   cell_is = g.cell_is ∙ same;
@@ -266,21 +58,32 @@ start_before by now cell job jobs s m s' (inr t) same stays g = record {
   under = λ e has c inside. g.under e (epoch_kept e s.rep.joined m.rep.joined stays has) c inside;
 }
 
-pub starts-had : (by : ℕ) (now : Moment) (cell : List ℕ) (jobs : List Job) (s s' : Serving) → s.rep.cell ≡ cell
-    → Each (StartsOne by now) jobs s s' → AreStartsHad by now cell jobs s s'
-starts-had by now cell [] s s' is f =
-    subst (AreStartsHad by now cell [] s) (sym f) (record {
+starts-had : (by : ℕ) (now : Moment) (cell : List ℕ) (ends : List Claimed) (s s' : Claiming) (u : Tally)
+    → s.rep.cell ≡ cell → AreFine ends → Each (StartsOne by now) ends s s'
+    → AreStartsHad by now cell (map job_of ends) s s' u (counted_all ends u)
+starts-had by now cell [] s s' u is fine f =
+    subst (λ (x : Claiming). AreStartsHad by now cell [] s x u u) (sym f) (record {
       missing = 0;
       claims = [];
       are = (refl, refl);
       calls = refl;
       lost = omega arith;
       cell_is = refl;
-      joined =
-          joined_itself s.rep.joined;
+      joined = joined_itself s.rep.joined;
       under = λ e has c inside. absurd (omega (arith, inside.1));
     })
-starts-had by now cell (job ∷ jobs) s s' is f =
-    let l = left_if f.1.reached by now job f.1.wire s f.0 f.1.takes in
-    start_before by now cell job jobs s f.0 s' (subst (λ (n : List ℕ). IsTraced by now n s.rep.joined job s f.0) is l.0)
-    l.1 l.2 (starts-had by now cell jobs f.0 s' (l.1 ∙ is) f.2)
+starts-had by now cell (x ∷ ends) s s' u is fine f =
+    let w : Tally = counted_end x.end u in
+    let l = left_if f.1.reached by now x.start.job f.1.wire s f.0 x.end u fine.0 f.1.takes in
+    start_before by now cell x.start.job (map job_of ends) s f.0 s' u w (counted_all ends w)
+    (subst (λ (n : List ℕ). IsTraced by now n s.rep.joined x.start.job s f.0 u w) is l.0)
+    l.1 l.2 (starts-had by now cell ends f.0 s' w (l.1 ∙ is) fine.1 f.2)
+
+-- the same by the jobs, and by what was counted
+pub had-starts : (by : ℕ) (now : Moment) (cell : List ℕ) (jobs : List Job) (s s' : Claiming) (ends : List Claimed)
+    (u u' : Tally) → s.rep.cell ≡ cell → Claims by now jobs s s' ends → AreFine ends → u' ≡ counted_all ends u
+    → AreStartsHad by now cell jobs s s' u u'
+had-starts by now cell jobs s s' ends u u' is f fine counts =
+    subst (λ (t : Tally). AreStartsHad by now cell jobs s s' u t) (sym counts)
+    (subst (λ js. AreStartsHad by now cell js s s' u (counted_all ends u)) (claims_jobs s.rep.cell ends jobs f.starts)
+    (starts-had by now cell ends s s' u is fine f.each))

@@ -29,8 +29,10 @@ use Rattle.bbs_model.specs.declared.reply.Reply.{Reply}
 use Rattle.bbs_model.specs.declared.reply.Reply.TheVariants as reply
 use Rattle.converge_round.specs.Callings.{calling, IsNoted}
 use Rattle.converge_round.specs.Sendings.{WireAt}
-use Rattle.converge_round.specs.Starts.{Serving, counted, HasNoFault, TakesIf, StartsOne}
+use Rattle.converge_round.specs.Starts.{Claiming, counted, counted_end, HasNoFault, IsFine, TakesIf, StartsOne}
 use Rattle.converge_round.specs.Tallies.{noted, lost_one}
+use Rattle.converge_round.specs.declared.claims.Claimed.{Claimed}
+use Rattle.converge_round.specs.declared.claims.StartEnd.{StartEnd}
 use Rattle.converge_round.specs.declared.tally.Tally.{Tally}
 use Rattle.round_theorem.proofs.Losses.{one_more-some}
 use Rattle.round_theorem.proofs.Tallied.{not_empty}
@@ -44,11 +46,11 @@ abbrev pub with_next : CellRep → Job → Joined → CellRep
 with_next rep job j = with_store rep j (reserved j.store job.job job.memory job.disk)
 
 -- the container was made room for, and the board took its claim
-pub record IsClaimMade (by : ℕ) (now : Moment) (job : Job) (s s' : Serving) : Type 0 where
+pub record IsClaimMade (by : ℕ) (now : Moment) (job : Job) (s s' : Claiming) (t t' : Tally) : Type 0 where
   pub joined : Joined
   pub was : s.rep.joined ≡ Some joined
   pub rep_is : s'.rep ≡ with_next s.rep job joined
-  pub claim : IsNoted by (next_claim now s.rep.cell job joined) (calling s.view s.tally) (calling s'.view s'.tally)
+  pub claim : IsNoted by (next_claim now s.rep.cell job joined) (calling s.view t) (calling s'.view t')
 
 -- a claim that isn't refused leaves the rep as it is
 kept_claim : (n : JobName) (cell : List ℕ) (i : Instance) (c : Command) (r : Reply) (t : Tally) (x : CellRep)
@@ -71,19 +73,19 @@ reserved_as s store n memory disk false false true e = absurd cc
 reserved_as s store n memory disk false false false e =
     ap (λ (r : Result StoreView StoreRefusal). result_unwrap_or r store) (sym e)
 
-module _ (by : ℕ) (now : Moment) (job : Job) (s s' : Serving) (wire : WireAt) (a : Called) (ended : HasNoFault a.end)
-    (counts : s'.tally ≡ counted a.command a.end s.tally)
-    (whole : s'.tally.lost ≡ 0) (taken : s'.tally.refused ≡ []) where
-  lost_none : s'.tally ≡ lost_one s.tally → ⊥
-  lost_none e = one_more-some s.tally.lost (sym (ap (λ (t : Tally). t.lost) e) ∙ whole)
+module _ (by : ℕ) (now : Moment) (job : Job) (s s' : Claiming) (u u' : Tally) (wire : WireAt) (a : Called)
+    (ended : HasNoFault a.end) (counts : u' ≡ counted a.command a.end u)
+    (whole : u'.lost ≡ 0) (taken : u'.refused ≡ []) where
+  lost_none : u' ≡ lost_one u → ⊥
+  lost_none e = one_more-some u.lost (sym (ap (λ (t : Tally). t.lost) e) ∙ whole)
 
-  counts_as : (b : Called) → a ≡ b → s'.tally ≡ counted b.command b.end s.tally
-  counts_as b e = counts ∙ ap (λ (x : Called). counted x.command x.end s.tally) e
+  counts_as : (b : Called) → a ≡ b → u' ≡ counted b.command b.end u
+  counts_as b e = counts ∙ ap (λ (x : Called). counted x.command x.end u) e
 
-  lost_reply : (c : Command) (r : Reply) → s'.tally ≡ noted c r (lost_one s.tally) → ⊥
-  lost_reply c (reply.Ok place stamp) e = one_more-some s.tally.lost (sym (ap (λ (t : Tally). t.lost) e) ∙ whole)
-  lost_reply c (reply.Same place) e = one_more-some s.tally.lost (sym (ap (λ (t : Tally). t.lost) e) ∙ whole)
-  lost_reply c (reply.Refused why place) e = one_more-some s.tally.lost (sym (ap (λ (t : Tally). t.lost) e) ∙ whole)
+  lost_reply : (c : Command) (r : Reply) → u' ≡ noted c r (lost_one u) → ⊥
+  lost_reply c (reply.Ok place stamp) e = one_more-some u.lost (sym (ap (λ (t : Tally). t.lost) e) ∙ whole)
+  lost_reply c (reply.Same place) e = one_more-some u.lost (sym (ap (λ (t : Tally). t.lost) e) ∙ whole)
+  lost_reply c (reply.Refused why place) e = one_more-some u.lost (sym (ap (λ (t : Tally). t.lost) e) ∙ whole)
 
   module _ (j : Joined) (was : s.rep.joined ≡ Some j) where
     abbrev c : Command
@@ -91,14 +93,14 @@ module _ (by : ℕ) (now : Moment) (job : Job) (s s' : Serving) (wire : WireAt) 
 
     -- by the end of its call
     made_by : (e : CallEnd) → a.end ≡ e → a.command ≡ Some c → IsDelivered by s.view c e s'.view
-        → s'.rep ≡ left c.op e (with_next s.rep job j) → IsClaimMade by now job s s'
+        → s'.rep ≡ left c.op e (with_next s.rep job j) → IsClaimMade by now job s s' u u'
     made_by (Got r) is called h rep =
-        let tally : s'.tally ≡ noted c r s.tally = counts_as (record { command = Some c; end = Got r })
+        let tally : u' ≡ noted c r u = counts_as (record { command = Some c; end = Got r })
         (λ i. record { command = called i; end = is i }) in
         record {
           joined = j;
           was = was;
-          rep_is = rep ∙ kept_claim job.job s.rep.cell (next_of j.store) c r s.tally (with_next s.rep job j)
+          rep_is = rep ∙ kept_claim job.job s.rep.cell (next_of j.store) c r u (with_next s.rep job j)
               (sym (ap (λ (t : Tally). t.refused) tally) ∙ taken);
           claim = record { reply = r; called = h; tally_is = tally };
         }
@@ -118,7 +120,7 @@ module _ (by : ℕ) (now : Moment) (job : Job) (s s' : Serving) (wire : WireAt) 
         (claimed_next (next_container j.store job.job job.memory job.disk) x) ∷ [])
         (with_store s.rep j (store_claimed j.store (claimed_next
         (next_container j.store job.job job.memory job.disk) x))) s.view (a ∷ []) s'.rep s'.view
-        → IsClaimMade by now job s s'
+        → IsClaimMade by now job s s' u u'
     made_from (Ok store) is h =
         let room : store ≡ reserved j.store job.job job.memory job.disk =
         reserved_as j.store store job.job job.memory job.disk (nat_lt (free_of j.store).memory job.memory)
@@ -129,7 +131,7 @@ module _ (by : ℕ) (now : Moment) (job : Job) (s s' : Serving) (wire : WireAt) 
 
   made_joined : (o : Option Joined) → s.rep.joined ≡ o
       → Follows by s.rep.cell wire.ends (job_todo job now s.rep.cell o ∷ []) (job_begun job s.rep o) s.view
-      (a ∷ []) s'.rep s'.view → IsClaimMade by now job s s'
+      (a ∷ []) s'.rep s'.view → IsClaimMade by now job s s' u u'
   made_joined None is h = absurd (lost_none (counts_as _ h.1))
   made_joined (Some j) is h = made_from j is (reserving j.store job.job job.memory job.disk) refl h
 
@@ -137,7 +139,7 @@ module _ (by : ℕ) (now : Moment) (job : Job) (s s' : Serving) (wire : WireAt) 
   first_of x y e = cc
 
   made_started : IsStarted by job now (stage s.rep s.view wire.ends wire.losses [])
-      (stage s'.rep s'.view s'.wire.ends s'.wire.losses (a ∷ [])) → IsClaimMade by now job s s'
+      (stage s'.rep s'.view s'.wire.ends s'.wire.losses (a ∷ [])) → IsClaimMade by now job s s' u u'
   made_started h = ⊎_elim
       (λ p. made_joined s.rep.joined refl
       (subst (λ out. Follows by s.rep.cell wire.ends (job_todo job now s.rep.cell s.rep.joined ∷ [])
@@ -145,14 +147,19 @@ module _ (by : ℕ) (now : Moment) (job : Job) (s s' : Serving) (wire : WireAt) 
       (λ e. absurd (subst (λ (x : Called). HasNoFault x.end) (first_of a starved (ap (λ (x : Stage). x.out) e)) ended))
       h
 
-made_if : (b : Bool) (by : ℕ) (now : Moment) (job : Job) (wire : WireAt) (s s' : Serving) → s'.tally.lost ≡ 0
-    → s'.tally.refused ≡ [] → TakesIf b by now job wire s s' → IsClaimMade by now job s s'
-made_if true by now job wire s s' whole taken h = made_started by now job s s' wire h.answer h.ended h.counts whole
-    taken h.started
-made_if false by now job wire s s' whole taken h = absurd
-    (one_more-some s.tally.lost (sym (ap (λ (t : Tally). t.lost) h.counts) ∙ whole))
+made_if : (b : Bool) (by : ℕ) (now : Moment) (job : Job) (wire : WireAt) (s s' : Claiming) (e : StartEnd) (u u' : Tally)
+    → IsFine e → u' ≡ counted_end e u → u'.lost ≡ 0 → u'.refused ≡ [] → TakesIf b by now job wire s s' e
+    → IsClaimMade by now job s s' u u'
+made_if true by now job wire s s' e u u' fine counts whole taken h =
+    made_started by now job s s' u u' wire h.answer (subst IsFine h.end_is fine)
+    (counts ∙ ap (λ (x : StartEnd). counted_end x u) h.end_is) whole taken h.started
+made_if false by now job wire s s' e u u' fine counts whole taken h = absurd
+    (one_more-some u.lost (sym (ap (λ (t : Tally). t.lost) (counts ∙ ap (λ (x : StartEnd). counted_end x u) h.end_is))
+    ∙ whole))
 
 -- a start that counts neither a loss nor a refusal made its claim
-pub claim-made : (by : ℕ) (now : Moment) (job : Job) (s s' : Serving) → s'.tally.lost ≡ 0 → s'.tally.refused ≡ []
-    → StartsOne by now job s s' → IsClaimMade by now job s s'
-claim-made by now job s s' whole taken h = made_if h.reached by now job h.wire s s' whole taken h.takes
+pub claim-made : (by : ℕ) (now : Moment) (x : Claimed) (s s' : Claiming) (u u' : Tally) → IsFine x.end
+    → u' ≡ counted_end x.end u → u'.lost ≡ 0 → u'.refused ≡ [] → StartsOne by now x s s'
+    → IsClaimMade by now x.start.job s s' u u'
+claim-made by now x s s' u u' fine counts whole taken h =
+    made_if h.reached by now x.start.job h.wire s s' x.end u u' fine counts whole taken h.takes

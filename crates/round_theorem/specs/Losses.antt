@@ -5,7 +5,6 @@ use Rattle.std.proofs.Common.{inl, inr}
 use Rattle.bbs_model.specs.PortView.{rows_seen}
 use Rattle.cell_records.specs.declared.answer.Answer.{Answer}
 use Rattle.cell_records.specs.declared.cell_row.CellRow.{CellRow}
-use Rattle.cell_records.specs.declared.job.Job.{Job}
 use Rattle.cell_rep.specs.Wires.{WireEnds}
 use Rattle.cell_rep.specs.declared.call_end.CallEnd.{CallEnd}
 use Rattle.cell_rep.specs.declared.call_end.CallEnd.TheVariants.{Got, Fault, CallLost, ReplyLost, Local, Idle}
@@ -16,11 +15,11 @@ use Rattle.convergence.specs.declared.report.Report.{Report}
 use Rattle.converge_round.specs.Askings.{present, StandApart, IsHeardFrom, Asking, AsksOne, questions}
 use Rattle.converge_round.specs.Each.{Each}
 use Rattle.converge_round.specs.Phases.{Course, ServesOne}
-use Rattle.converge_round.specs.Places.{jobs_on}
 use Rattle.converge_round.specs.Reps.{names_of}
 use Rattle.converge_round.specs.Rounds.{Standing, IsRound}
-use Rattle.converge_round.specs.Sendings.{WireAt}
-use Rattle.converge_round.specs.Starts.{Serving, serving, TakesIf, StartsOne}
+use Rattle.converge_round.specs.declared.claims.Claimed.{Claimed}
+use Rattle.converge_round.specs.declared.claims.StartEnd.{StartEnd}
+use Rattle.converge_round.specs.declared.claims.StartEnd.TheVariants.{Lost, Made}
 use Rattle.converge_round.specs.declared.placing.Places.{Places}
 use Rattle.crash_backoff.specs.declared.moment.Moment.{Moment}
 
@@ -44,24 +43,20 @@ declined_end (ReplyLost answer) = 0
 declined_end (Local why) = 1
 declined_end Idle = 1
 
--- the same of a start
-abbrev pub declined_if : (b : Bool) (by : ℕ) (now : Moment) (job : Job) (wire : WireAt) (s s' : Serving) →
-    TakesIf b by now job wire s s' → ℕ
-declined_if true by now job wire s s' h = declined_end h.answer.end
-declined_if false by now job wire s s' h = 0
+-- the same of what came of a start
+abbrev pub declined_in : StartEnd → ℕ
+declined_in Lost = 0
+declined_in (Made a) = declined_end a.end
 
--- how many starts on a cell its rep declined
-abbrev pub declined_on : (by : ℕ) (now : Moment) (jobs : List Job) (s s' : Serving) →
-    Each (StartsOne by now) jobs s s' → ℕ
-declined_on by now [] s s' f = 0
-declined_on by now (job ∷ jobs) s s' f =
-    declined_if f.1.reached by now job f.1.wire s f.0 f.1.takes + declined_on by now jobs f.0 s' f.2
+-- how many of these starts were declined
+abbrev pub declined_on : List Claimed → ℕ
+declined_on [] = 0
+declined_on (x ∷ xs) = declined_in x.end + declined_on xs
 
 -- the same where a cell is served
 abbrev pub declined_at : (by : ℕ) (now : Moment) (p : Places) (x : Answer) (s s' : Course) →
     ServesOne by now p x s s' → ℕ
-declined_at by now p x s s' (inl c) = declined_on by now (jobs_on p.rows p.placements x.cell)
-    (serving c.rep s.view s.tally s.wire) (serving c.after s'.view s'.tally s'.wire) c.starts
+declined_at by now p x s s' (inl c) = declined_on c.ends
 declined_at by now p x s s' (inr none) = 0
 
 -- how many starts the reps of all cells declined

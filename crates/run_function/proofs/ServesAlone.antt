@@ -6,7 +6,7 @@ use Rattle.converge_round.specs.Each.{Each}
 use Rattle.converge_round.specs.Phases.{ClaimsAt, Course, ServesOne}
 use Rattle.converge_round.specs.Places.{jobs_on}
 use Rattle.converge_round.specs.Reps.{HasNoRep}
-use Rattle.converge_round.specs.Starts.{serving}
+use Rattle.converge_round.specs.Starts.{claiming}
 use Rattle.converge_round.specs.declared.placing.Places.{Places}
 use Rattle.crash_backoff.specs.declared.moment.Moment.{Moment}
 use Rattle.scenario_lines.specs.declared.script.RoundLine.{RoundLine}
@@ -38,8 +38,8 @@ module _ (line : RoundLine) (by : ℕ) (now : Moment) (p : Places) (x : Answer) 
 
   claims_alone : ClaimsAt by now x.cell jobs s s' → AreServedAlone line by now p (x ∷ []) s s'
   claims_alone h =
-      let starts = started_all line by now jobs (serving h.rep s.view s.tally s.wire)
-      (serving h.after s'.view s'.tally s'.wire) h.starts of in
+      let starts = started_all line by now jobs (claiming h.rep s.view s.wire) (claiming h.after s'.view s'.wire)
+      h.ends s.tally s'.tally h.claims h.fine h.counts of in
       let named = stands_named s.reps x.cell h.place h.rep are.apart h.stands in
       let reps_are : s'.reps ≡ with_rep s.reps x.cell h.after =
       h.reps_are ∙ set_named s.reps x.cell h.place h.rep h.after are.apart h.stands in

@@ -1,5 +1,5 @@
 -- Jobs are started as a round that is alone starts them.
-use Rattle.std.proofs.Common.{◌≡◌, ℕ, Bool, true, false, not, cond, List, [], ◌∷◌, Option, Some, refl, sym, ap, subst, ◌∙◌, ⊎_elim}
+use Rattle.std.proofs.Common.{◌≡◌, ℕ, Bool, true, false, not, cond, List, [], ◌∷◌, map, Option, Some, refl, sym, ap, subst, ◌∙◌, ⊎_elim}
 use Rattle.bbs_model.specs.PortView.{IsLater, IsQuiet, PortView}
 use Rattle.bbs_model.proofs.Public.{later_same}
 use Rattle.cell_records.specs.declared.job.Job.{Job}
@@ -14,8 +14,12 @@ use Rattle.cell_rep.specs.declared.todo.Todo.{Todo}
 use Rattle.cell_rep.specs.declared.todo.Todo.TheVariants as todo
 use Rattle.converge_round.specs.Each.{Each}
 use Rattle.converge_round.specs.Sendings.{WireAt}
-use Rattle.converge_round.specs.Starts.{HasNoFault, IsStartTaken, Serving, StartsOne, TakesIf, counted}
+use Rattle.converge_round.specs.Starts.{AreFine, Claiming, Claims, HasNoFault, IsFine, IsStartTaken, StartsOne, TakesIf, counted, counted_all, counted_end, job_of}
 use Rattle.converge_round.specs.Tallies.{lost_one}
+use Rattle.converge_round.specs.declared.claims.Claimed.{Claimed}
+use Rattle.converge_round.specs.declared.claims.StartEnd.{StartEnd}
+use Rattle.converge_round.specs.declared.tally.Tally.{Tally}
+use Rattle.converge_round.proofs.Public.{claims_jobs}
 use Rattle.crash_backoff.specs.declared.moment.Moment.{Moment}
 use Rattle.phase_runs.specs.Names.{is_among}
 use Rattle.phase_runs.specs.RoundMarks.{round_ends}
@@ -30,15 +34,16 @@ use Rattle.run_function.proofs.Steady.{IsOf, reached_started}
 use Rattle.run_function.proofs.Stored.{job_keeps, todo_keeps}
 
 -- the rep, the board and the counts
-abbrev pub starts_in : Serving → SoleStarts
-starts_in s = sole_starts s.rep (board_seen s.view) s.tally
+abbrev pub starts_in : Claiming → Tally → SoleStarts
+starts_in s t = sole_starts s.rep (board_seen s.view) t
 
 -- what starts come to
-pub record AreStartsAlone (line : RoundLine) (by : ℕ) (now : Moment) (jobs : List Job) (s s' : Serving) : Type 0 where
+pub record AreStartsAlone (line : RoundLine) (by : ℕ) (now : Moment) (jobs : List Job) (s s' : Claiming)
+    (u u' : Tally) : Type 0 where
   pub still : IsOf line s'.wire
   pub cell : s'.rep.cell ≡ s.rep.cell
   pub store : HasStore s.rep.joined → HasStore s'.rep.joined
-  pub leads : Leads s.view s'.view (starts_in s' ≡ starts_alone line by now jobs (starts_in s))
+  pub leads : Leads s.view s'.view (starts_in s' u' ≡ starts_alone line by now jobs (starts_in s u))
 
 -- the wire's ends are the same behind a call
 still_behind : (line : RoundLine) (t : Todo) → moved_by t (Some (round_ends line)) ≡ Some (round_ends line)
@@ -46,7 +51,7 @@ still_behind line (todo.Call c) = refl
 still_behind line todo.Idle = refl
 still_behind line (todo.Local why) = refl
 
-module _ (line : RoundLine) (by : ℕ) (now : Moment) (job : Job) (s s' : Serving) where
+module _ (line : RoundLine) (by : ℕ) (now : Moment) (job : Job) (s s' : Claiming) (u : Tally) where
   abbrev t : Todo
   t = job_todo job now s.rep.cell s.rep.joined
 
@@ -84,87 +89,111 @@ module _ (line : RoundLine) (by : ℕ) (now : Moment) (job : Job) (s s' : Servin
   first_same : (x y : Called) → x ∷ [] ≡ y ∷ [] → x ≡ y
   first_same x y e = cc
 
-  one_from : (wire : WireAt) (h : IsStartTaken by now job wire s s') → IsOf line wire → IsOneDone h.answer
-  one_from wire h of = ⊎_elim
+  one_from : (wire : WireAt) (e : StartEnd) (h : IsStartTaken by now job wire s s' e) → IsFine e → IsOf line wire
+      → IsOneDone h.answer
+  one_from wire e h fine of = ⊎_elim
       (λ p. one_of p.new h.answer wire p.out_is of p.follows p.ends_are)
-      (λ e. absurd (subst (λ (x : Called). HasNoFault x.end)
-      (first_same h.answer starved (ap (λ (x : Stage). x.out) e)) h.ended))
+      (λ k. absurd (subst (λ (x : Called). HasNoFault x.end)
+      (first_same h.answer starved (ap (λ (x : Stage). x.out) k)) (subst IsFine h.end_is fine)))
       h.started
 
-  taken_holds : (wire : WireAt) (h : IsStartTaken by now job wire s s') → IsOneDone h.answer → IsQuiet s.view s'.view
-      → starts_in s' ≡ taken_by line by job t (starts_in s)
-  taken_holds wire h d q =
+  taken_holds : (wire : WireAt) (e : StartEnd) (h : IsStartTaken by now job wire s s' e) → IsFine e
+      → IsOneDone h.answer → IsQuiet s.view s'.view
+      → starts_in s' (counted_end e u) ≡ taken_by line by job t (starts_in s u)
+  taken_holds wire e h fine d q =
       let quiet = subst (IsQuiet s.view) d.view_is q in
-      let one = one_due by s.rep.cell ends t s.view h.answer d.m d.answer d.ended quiet h.ended in
-      let e : CallEnd = end_alone t (next_end ends s.rep.cell) (board_seen s.view) in
-      let rep : s'.rep ≡ after_todo t e began = d.rep_is ∙ ap (λ (x : CallEnd). after_todo t x began) one.end_is in
+      let one = one_due by s.rep.cell ends t s.view h.answer d.m d.answer d.ended quiet (subst IsFine h.end_is fine) in
+      let c : CallEnd = end_alone t (next_end ends s.rep.cell) (board_seen s.view) in
+      let rep : s'.rep ≡ after_todo t c began = d.rep_is ∙ ap (λ (x : CallEnd). after_todo t x began) one.end_is in
       let board : board_seen s'.view ≡ done_alone t (next_end ends s.rep.cell) by (board_seen s.view) =
       ap board_seen d.view_is ∙ one.board in
-      let tally : s'.tally ≡ counted (answer_to t e).command (answer_to t e).end s.tally =
-      h.counts ∙ ap (λ (x : Called). counted x.command x.end s.tally) one.answer in
+      let tally : counted_end e u ≡ counted (answer_to t c).command (answer_to t c).end u =
+      ap (λ (x : StartEnd). counted_end x u) h.end_is ∙ ap (λ (x : Called). counted x.command x.end u) one.answer in
       λ i. sole_starts (rep i) (board i) (tally i)
 
-  taken_leads : (wire : WireAt) (h : IsStartTaken by now job wire s s') → IsOneDone h.answer
-      → Leads s.view s'.view (starts_in s' ≡ taken_by line by job t (starts_in s))
-  taken_leads wire h d = record {
+  taken_leads : (wire : WireAt) (e : StartEnd) (h : IsStartTaken by now job wire s s' e) → IsFine e
+      → IsOneDone h.answer
+      → Leads s.view s'.view (starts_in s' (counted_end e u) ≡ taken_by line by job t (starts_in s u))
+  taken_leads wire e h fine d = record {
     later = subst (IsLater s.view) (sym d.view_is) (later_ended by s.rep.cell
         (Some ends) t s.view h.answer d.m d.ended);
-    holds = taken_holds wire h d;
+    holds = taken_holds wire e h fine d;
   }
 
-  abbrev Due : Bool → Type 0
-  Due lost = starts_in s' ≡ cond lost (record (starts_in s) { tally = lost_one s.tally })
-      (taken_by line by job t (starts_in s))
+  abbrev Due : Bool → StartEnd → Type 0
+  Due lost e = starts_in s' (counted_end e u) ≡ cond lost (record (starts_in s u) { tally = lost_one u })
+      (taken_by line by job t (starts_in s u))
 
-  record IsStartDue (lost : Bool) : Type 0 where
+  record IsStartDue (lost : Bool) (e : StartEnd) : Type 0 where
     still : IsOf line s'.wire
     cell : s'.rep.cell ≡ s.rep.cell
     store : HasStore s.rep.joined → HasStore s'.rep.joined
-    leads : Leads s.view s'.view (Due lost)
+    leads : Leads s.view s'.view (Due lost e)
 
-  start_if : (lost : Bool) (wire : WireAt) → IsOf line wire → TakesIf (not lost) by now job wire s s' → IsStartDue lost
-  start_if true wire of h = record {
+  start_if : (lost : Bool) (wire : WireAt) (e : StartEnd) → IsFine e → IsOf line wire
+      → TakesIf (not lost) by now job wire s s' e → IsStartDue lost e
+  start_if true wire e fine of h = record {
     still = ap (λ (x : WireAt). x.ends) h.wire_is ∙ of;
     cell = ap (λ (r : CellRep). r.cell) h.rep;
     store = λ k. subst (λ (r : CellRep). HasStore r.joined) (sym h.rep) k;
     leads = record {
       later = subst (IsLater s.view) (sym h.view) (later_same s.view);
-      holds = λ q i. sole_starts (h.rep i) (board_seen (h.view i)) (h.counts i);
+      holds = λ q i. sole_starts (h.rep i) (board_seen (h.view i)) (counted_end (h.end_is i) u);
     };
   }
-  start_if false wire of h =
-      let d = one_from wire h of in
+  start_if false wire e fine of h =
+      let d = one_from wire e h fine of in
       record {
         still = d.still;
         cell = ap (λ (r : CellRep). r.cell) d.rep_is ∙ todo_cell t h.answer.end began ∙ job_cell job s.rep s.rep.joined;
         store = λ k. subst (λ (r : CellRep). HasStore r.joined) (sym d.rep_is)
             (todo_keeps t h.answer.end began (job_keeps job s.rep s.rep.joined k k));
-        leads = taken_leads wire h d;
+        leads = taken_leads wire e h fine d;
       }
 
-  one_started : StartsOne by now job s s' → IsOf line s.wire → AreStartsAlone line by now (job ∷ []) s s'
-  one_started h of =
-      let sent = reached_started line s.rep.cell h.reached s.wire h.wire h.sent of in
-      let due = start_if (is_among line.lose_start s.rep.cell) h.wire sent.1
-      (subst (λ (b : Bool). TakesIf b by now job h.wire s s') sent.0 h.takes) in
-      record { still = due.still; cell = due.cell; store = due.store; leads = due.leads }
+one_started : (line : RoundLine) (by : ℕ) (now : Moment) (x : Claimed) (s s' : Claiming) (u : Tally) → IsFine x.end
+    → StartsOne by now x s s' → IsOf line s.wire
+    → AreStartsAlone line by now (x.start.job ∷ []) s s' u (counted_end x.end u)
+one_started line by now x s s' u fine h of =
+    let job : Job = x.start.job in
+    let sent = reached_started line s.rep.cell h.reached s.wire h.wire h.sent of in
+    let due = start_if line by now job s s' u (is_among line.lose_start s.rep.cell) h.wire x.end fine sent.1
+    (subst (λ (b : Bool). TakesIf b by now job h.wire s s' x.end) sent.0 h.takes) in
+    record { still = due.still; cell = due.cell; store = due.store; leads = due.leads }
 
-pub started_all : (line : RoundLine) (by : ℕ) (now : Moment) (jobs : List Job) (s s' : Serving)
-    → Each (StartsOne by now) jobs s s' → IsOf line s.wire
-    → AreStartsAlone line by now jobs s s'
-started_all line by now [] s s' f of =
-    subst (AreStartsAlone line by now [] s) (sym f)
-    (record { still = of; cell = refl; store = λ k. k; leads = leads_same s.view (starts_in s ≡ starts_in s) refl })
-started_all line by now (job ∷ jobs) s s' f of =
-    let one = one_started line by now job s f.0 f.1 of in
-    let rest = started_all line by now jobs f.0 s' f.2 one.still in
-    let One : Type 0 = starts_in f.0 ≡ start_alone line by now job (starts_in s) in
-    let Rest : Type 0 = starts_in s' ≡ starts_alone line by now jobs (starts_in f.0) in
+all_started : (line : RoundLine) (by : ℕ) (now : Moment) (xs : List Claimed) (s s' : Claiming) (u : Tally)
+    → AreFine xs → Each (StartsOne by now) xs s s' → IsOf line s.wire
+    → AreStartsAlone line by now (map job_of xs) s s' u (counted_all xs u)
+all_started line by now [] s s' u fine f of =
+    subst (λ (x : Claiming). AreStartsAlone line by now [] s x u u) (sym f) (record {
+      still = of;
+      cell = refl;
+      store = λ k. k;
+      leads = leads_same s.view (starts_in s u ≡ starts_in s u) refl;
+    })
+all_started line by now (x ∷ xs) s s' u fine f of =
+    let w : Tally = counted_end x.end u in
+    let w' : Tally = counted_all xs w in
+    let jobs : List Job = map job_of xs in
+    let one = one_started line by now x s f.0 u fine.0 f.1 of in
+    let rest = all_started line by now xs f.0 s' w fine.1 f.2 one.still in
+    let One : Type 0 = starts_in f.0 w ≡ start_alone line by now x.start.job (starts_in s u) in
+    let Rest : Type 0 = starts_in s' w' ≡ starts_alone line by now jobs (starts_in f.0 w) in
     record {
       still = rest.still;
       cell = rest.cell ∙ one.cell;
       store = λ k. rest.store (one.store k);
-      leads = leads_to s.view s'.view (One × Rest) (starts_in s' ≡ starts_alone line by now (job ∷ jobs) (starts_in s))
+      leads = leads_to s.view s'.view (One × Rest)
+          (starts_in s' w' ≡ starts_alone line by now (x.start.job ∷ jobs) (starts_in s u))
           (leads_then s.view f.0.view s'.view One Rest one.leads rest.leads)
           (λ both. both.1 ∙ ap (starts_alone line by now jobs) both.0);
     }
+
+-- by the jobs, and by what was counted
+pub started_all : (line : RoundLine) (by : ℕ) (now : Moment) (jobs : List Job) (s s' : Claiming) (xs : List Claimed)
+    (u u' : Tally) → Claims by now jobs s s' xs → AreFine xs → u' ≡ counted_all xs u → IsOf line s.wire
+    → AreStartsAlone line by now jobs s s' u u'
+started_all line by now jobs s s' xs u u' f fine counts of =
+    subst (λ (x : Tally). AreStartsAlone line by now jobs s s' u x) (sym counts)
+    (subst (λ js. AreStartsAlone line by now js s s' u (counted_all xs u)) (claims_jobs s.rep.cell xs jobs f.starts)
+    (all_started line by now xs s s' u fine f.each of))

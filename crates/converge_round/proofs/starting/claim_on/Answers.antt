@@ -1,9 +1,8 @@
-use Rattle.std.proofs.Common.{refl, ◌∙◌}
-use Rattle.converge_round.specs.Starts.{StartsOne, IsClaimOfOne}
-use Rattle.converge_round.proofs.Eachs.{each-more-by}
+use Rattle.std.proofs.Common.{refl, sym, subst, ◌∙◌}
+use Rattle.converge_round.specs.Starts.{AreFine, Claims, IsClaimOfOne}
 use Rattle.converge_round.proofs.Owns.{own_none, own_more}
 use Rattle.converge_round.proofs.RepLaws.{rep_same, rep_then}
-use Rattle.converge_round.proofs.StartLaws.{claim_of_one}
+use Rattle.converge_round.proofs.StartLaws.{claim_of_one, claims_more, fine_more}
 use Rattle.converge_round.proofs.FaultLaws.{caused_before}
 use Rattle.converge_round.proofs.Sure.{sure_none, sure_then, sure_fault}
 use Rattle.converge_round.proofs.starting.claim_on.Goals as goal
@@ -15,7 +14,8 @@ loop-job-init g c = record {
   own = own_none _ _ _;
   sure = sure_none _;
   rep = rep_same c.args.rep.now;
-  starts = refl;
+  claims = subst (Claims _ _ _ _ _) (sym c.new-ends.ensures) (record { starts = refl; each = refl });
+  fine = subst AreFine (sym c.new-ends.ensures) tt;
 }
 
 pub loop-job-preserved : goal.loop-job-preserved
@@ -25,15 +25,16 @@ loop-job-preserved g c =
     let list = c.args.jobs.now in
     let k = c.loop-job.job-index in
     record {
-      keeps = g.met.P.Port.goes_on c.args.port.now c.loop-job.port c.start.new.port i.keeps p.keeps;
+      keeps = g.met.P.Port.goes_on c.args.port.now c.loop-job.port c.start_next.new.port i.keeps p.keeps;
       number = p.number ∙ i.number;
       own = own_more _ _ (IsClaimOfOne c.args.now c.args.rep.now.cell list) _ _ _ _ i.number
           (claim_of_one c.args.now c.args.rep.now.cell c.loop-job.rep.cell list k c.job-item.result i.rep.cell
           c.loop-job-test.true c.job-item.is) i.own p.own;
       sure = sure_then _ _ _ i.sure p.sure;
       rep = rep_then _ _ _ i.rep p.rep;
-      starts = each-more-by (λ by. StartsOne by c.args.now) _ _ list k c.job-item.result _ _ _ i.number
-          c.loop-job-test.true c.job-item.is i.starts p.starts;
+      claims = claims_more _ _ c.args.now list k c.job-item.result _ _ _ _ _ i.number i.rep.cell
+          c.loop-job-test.true c.job-item.is i.claims p.starts;
+      fine = fine_more _ c.args.now c.job-item.result _ _ _ _ i.fine p.starts;
     }
 
 pub returns-in-Err-clause-own : goal.returns-in-Err-clause-own

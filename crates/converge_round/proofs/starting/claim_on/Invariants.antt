@@ -1,10 +1,9 @@
 use Rattle.std.proofs.Common.{◌≡◌, take}
 use Rattle.converge_round.specs.Callings.{AreOf}
-use Rattle.converge_round.specs.Each.{Each}
 use Rattle.converge_round.specs.Faults.{HasNoDoubt}
 use Rattle.converge_round.specs.Reps.{SameRep}
 use Rattle.converge_round.specs.Sendings.{wire_at}
-use Rattle.converge_round.specs.Starts.{StartsOne, IsClaimOfOne, serving}
+use Rattle.converge_round.specs.Starts.{AreFine, Claims, IsClaimOfOne, claiming}
 use Rattle.converge_round.proofs.starting.claim_on.Given as goal
 
 abbrev pub invariant-loop-job : goal.invariant-loop-job
@@ -15,8 +14,9 @@ invariant-loop-job g l = record {
       (g.P.Port.view l.initial.port) (g.P.Port.view l.port);
   sure : HasNoDoubt (g.P.Port.view l.initial.port) (g.P.Port.view l.port);
   rep : SameRep l.initial.rep l.rep;
-  starts : Each (StartsOne (g.P.Port.number l.initial.port) l.now) (take l.job-index l.jobs)
-      (serving l.initial.rep (g.P.Port.view l.initial.port) l.initial.tally
+  claims : Claims (g.P.Port.number l.initial.port) l.now (take l.job-index l.jobs)
+      (claiming l.initial.rep (g.P.Port.view l.initial.port)
       (wire_at (g.W.Wire.ends l.initial.wire) (g.W.Wire.losses l.initial.wire)))
-      (serving l.rep (g.P.Port.view l.port) l.tally (wire_at (g.W.Wire.ends l.wire) (g.W.Wire.losses l.wire)));
+      (claiming l.rep (g.P.Port.view l.port) (wire_at (g.W.Wire.ends l.wire) (g.W.Wire.losses l.wire))) l.ends;
+  fine : AreFine l.ends;
 }
