@@ -1,5 +1,5 @@
 -- A turn at a board, as its caller sees it.
-use Rattle.std.proofs.Common.{◌≡◌, ℕ, ◌<◌, ◌^◌, List, [], ◌++◌, length, drop, Option, Result, sym, ap, ◌∙◌, subst}
+use Rattle.std.proofs.Common.{◌≡◌, ℕ, ◌<◌, ◌^◌, List, [], ◌++◌, length, drop, Option, Some, Result, sym, ap, ◌∙◌, subst}
 use Rattle.std.proofs.Math.Seq.{drop-append_seam, drop-length}
 use Rattle.std.proofs.lemmas.List.{append-nil}
 use denote.Ref.{MutBor}
@@ -17,7 +17,7 @@ use Rattle.bbs_model.specs.declared.item.Item.{Item}
 use Rattle.bbs_model.specs.declared.reply.CallFault.{CallFault}
 use Rattle.bbs_model.specs.declared.reply.Reply.{Reply}
 use Rattle.bbs_model.specs.declared.rows.Rows.{Rows}
-use Rattle.board_port.proofs.Public.{goes_as, goes_further, goes_nowhere, sole_went}
+use Rattle.board_port.proofs.Public.{goes_further, goes_nowhere, sole_went}
 use Rattle.ticket_desk.specs.declared.view.View.{View as DeskView}
 use Rattle.ticket_desk.specs.Turns.{Turned}
 use Rattle.ticket_desk.specs.Views.{Begins}
@@ -112,12 +112,12 @@ module _ {D : Type 0} (told : D → Option Past) (start : View D) where
   -- a call goes on from there
   pub gone_further : (v w : View D) (c : Command) (end : Result Reply CallFault) (by moment : ℕ)
       → Ends (verdict_of (rows_of v) c) (length v.log) (rows_of v).next end
-      → Grows (is_done end) (added end by c) moment v w
+      → Grows (is_done end) (added end by c) moment v w → ((q : Past) → told w.disk ≡ Some q → q.clock ≡ moment)
       → Goes (told v.disk) (told w.disk) (Passes v.waits (verdict_of (rows_of v) c) (is_done end) (rows_of v) c)
       → HasGone told start v → HasGone told start w
-  gone_further v w c end by moment ends grows does gone =
-      let went = sole_went by v w c end moment ends grows told 0 does in
+  gone_further v w c end by moment ends grows timed does gone =
+      let went = sole_went by v w c end moment ends grows told 0 timed does in
       record {
         fresh = gone.fresh ++ went.more;
-        goes = goes_further told start v w gone.fresh went.more gone.goes (goes_as told by by 0 0 v w went);
+        goes = goes_further told start v w gone.fresh went.more gone.goes went.goes;
       }

@@ -1,3 +1,3 @@
+mod Marks
 mod Sole
-mod Going
 pub mod Public

@@ -1,5 +1,5 @@
 -- A call of the board and a look at it, as its one caller sees them.
-use Rattle.std.proofs.Common.{◌≡◌, ◌≢◌, ◌==◌, ◌<◌, ◌^◌, ℕ, Bool, true, false, List, [], ◌∷◌, ◌++◌, length, Option, Result, Ok, Err, refl, sym, ap, subst, ◌∙◌, arith}
+use Rattle.std.proofs.Common.{◌≡◌, ◌≢◌, ◌==◌, ◌<◌, ◌^◌, ℕ, Bool, true, false, List, [], ◌∷◌, ◌++◌, length, Option, Some, Result, Ok, Err, refl, sym, ap, subst, ◌∙◌, arith}
 use Rattle.std.proofs.lemmas.List.Elements.{filter-append}
 use Rattle.disk_trait.specs.Past.{Past}
 use Rattle.disk_trait.specs.Runs.{Extends}
@@ -16,16 +16,14 @@ use Rattle.bbs_model.specs.declared.reply.CallFault.TheVariants as fault
 use Rattle.bbs_model.specs.declared.reply.Reply.{Reply}
 use Rattle.bbs_model.specs.declared.reply.Reply.TheVariants as reply
 use Rattle.bbs_model.specs.declared.rows.Rows.{Rows}
-use Rattle.bbs_model.specs.declared.verdict.Verdict.{Verdict}
-use Rattle.bbs_model.specs.declared.verdict.Verdict.TheVariants as verdict
 use Rattle.bbs_model.proofs.Public.{called_alone}
-use Rattle.bbs_board.specs.Calls.{Grows, Passes, StoresBy}
+use Rattle.bbs_board.specs.Calls.{Grows, Passes}
 use Rattle.bbs_board.specs.Doubts.{doubts_in}
-use Rattle.bbs_board.specs.Stops.{Stores}
 use Rattle.bbs_board.specs.View.{View, rows_of}
 use Rattle.bbs_board.specs.Written.{WritesOn}
 use Rattle.bbs_board.proofs.Public.{writes_nothing, stores_writes}
 use Rattle.board_port.specs.Went.{seen_of, Went}
+use Rattle.board_port.proofs.Marks.{call_leaves, call_marks, was_stored}
 
 same_number : (by : ℕ) → (by == by) ≡ true
 same_number by = grind arith
@@ -48,13 +46,6 @@ no_others (Ok (reply.Same place)) by c n ne = refl
 no_others (Ok (reply.Refused why place)) by c n ne = refl
 no_others (Err (fault.Disk place)) by c n ne = rw (other_number by n ne) refl
 no_others (Err fault.OutOfMemory) by c n ne = refl
-
--- what was acknowledged was stored
-was_stored : (v : Verdict) (place stamp place' stamp' : ℕ) (rows : Rows) (c : Command) (p q : Past)
-    → Ends v place stamp (Ok (reply.Ok place' stamp')) → StoresBy v true rows c p q → Stores true rows c p q
-was_stored verdict.Ok place stamp place' stamp' rows c p q ends stores = stores
-was_stored verdict.Same place stamp place' stamp' rows c p q ends stores = absurd (cc (ends))
-was_stored (verdict.Refused why) place stamp place' stamp' rows c p q ends stores = absurd (cc (ends))
 
 module _ {D : Type 0} (told : D → Option Past) (v w : View D) (c : Command) (by moment : ℕ) where
   abbrev Writes : Result Reply CallFault → Type 0
@@ -112,19 +103,27 @@ module _ {D : Type 0} (by : ℕ) (v w : View D) (c : Command) (end : Result Repl
   pub sole_called : length w.log < 2 ^ 64 → IsCalled by (seen_of by v) c end (seen_of by w)
   sole_called few = called_alone by (seen_of by v) c end (seen_of by w) ends sees_more few
 
-  pub sole_went : (told : D → Option Past) (name : ℕ) → Goes (told v.disk) (told w.disk)
+  pub sole_went : (told : D → Option Past) (name : ℕ) → ((q : Past) → told w.disk ≡ Some q → q.clock ≡ moment)
+      → Goes (told v.disk) (told w.disk)
       (Passes v.waits (verdict_of (rows_of v) c) (is_done end) (rows_of v) c) → Went told by by name name v w
-  sole_went told name goes = record {
+  sole_went told name timed goes = record {
     by_is = refl;
     name_is = refl;
-    base = grows.base;
-    since = grows.since;
-    faults = grows.faults;
     more = added end by c;
-    grows = grows.log;
+    goes = record {
+      base = grows.base;
+      since = grows.since;
+      faults = grows.faults;
+      grows = grows.log;
+      marks = call_marks told v w moment (is_done end) (added end by c) grows timed later;
+      disk = later;
+      writes = call_writes told v w c by moment end ends grows goes;
+      leaves = call_leaves told v w moment by c end ends grows goes;
+    };
     own = own_added end by c;
     others = no_others end by c;
-    disk = goes_weaker (told v.disk) (told w.disk) (Passes v.waits (verdict_of (rows_of v) c) (is_done end)
-        (rows_of v) c) Extends (λ p q i j passes. passes.extends) goes;
-    writes = call_writes told v w c by moment end ends grows goes;
   }
+    where
+      later : Goes (told v.disk) (told w.disk) Extends
+      later = goes_weaker (told v.disk) (told w.disk) (Passes v.waits (verdict_of (rows_of v) c) (is_done end)
+          (rows_of v) c) Extends (λ p q i j passes. passes.extends) goes

@@ -1,2 +1,3 @@
-pub mod Went
+pub mod Further
 pub mod Going
+pub mod Went

@@ -18,7 +18,7 @@ use Rattle.phase_actors.proofs.Public.{one_same}
 use Rattle.board_port.specs.Went.{seen_of, Went}
 use Rattle.phase_runs.specs.Actors.{ActorsCut, AreByFirst, AreSameActors, CanAllDo, FirstRan, PartCut, PartRan}
 use Rattle.phase_runs.specs.Boards.{IsCalledByOne}
-use Rattle.board_port.proofs.Public.{goes_as, goes_further, goes_nowhere}
+use Rattle.board_port.proofs.Public.{goes_further, goes_nowhere}
 use Rattle.phase_runs.proofs.Parts.{by_both, not_begun, part_cut, part_ran, ran_on, ran_whole}
 use Rattle.phase_runs.proofs.Places.{at_last, at_set, before_last, beside_set, one_of}
 
@@ -87,8 +87,7 @@ module _ {D : Type 0} (told : D → Option Past) (now : Moment) (lines : List Li
         → FirstRan told now lines (count + 1) olds after (parts ++ out ∷ []) v w
     one_more_ran out takes = record {
       fresh = ran.fresh ++ went.more;
-      goes = goes_further told v m w ran.fresh went.more ran.goes
-          (goes_as told (suc count) (suc count) name name' m w went);
+      goes = goes_further told v m w ran.fresh went.more ran.goes went.goes;
       count_is = length-append parts (out ∷ []) ∙ ap (λ n. n + 1) ran.count_is;
       ran = λ k b b' answers old new part. ran_at k b b' answers old new part (cases_eq k count);
       still = λ k b from new. ran.still k b (omega (arith, from))
@@ -135,8 +134,7 @@ module _ {D : Type 0} (told : D → Option Past) (now : Moment) (lines : List Li
         → ActorsCut told now lines olds after v w
     one_more_cut count_is cut = record {
       fresh = ran.fresh ++ went.more;
-      goes = goes_further told v m w ran.fresh went.more ran.goes
-          (goes_as told (suc count) (suc count) name name' m w went);
+      goes = goes_further told v m w ran.fresh went.more ran.goes went.goes;
       cut = λ k b b' old new. cut_at k b b' old new (cases_eq k count);
       others = λ by who. others_after by (behind_all who);
       same = same_after;

@@ -106,8 +106,8 @@ pub own_sees : {D : Type 0} (told : D → Option Past) (by name name' : ℕ) (m 
 own_sees told by name name' m w went = record {
   base_is = refl;
   from = ([], sym (append-nil m.log));
-  upto = ([], sym went.grows ∙ sym (append-nil w.log));
-  own = ap (by_number by) went.grows ∙ by_both by m.log went.more;
+  upto = ([], sym went.goes.grows ∙ sym (append-nil w.log));
+  own = ap (by_number by) went.goes.grows ∙ by_both by m.log went.more;
 }
 
 -- what is seen behind others is seen of the phase

@@ -22,7 +22,7 @@ use Rattle.board_port.specs.Went.{seen_of}
 use Rattle.phase_runs.specs.Boards.{IsCalledByOne}
 use Rattle.phase_runs.specs.Phases.{CutAlone, IsToldBy, RoundAlone}
 use Rattle.phase_runs.specs.Reps.{reps_of, with_reps}
-use Rattle.board_port.proofs.Public.{goes_as, goes_nowhere}
+use Rattle.board_port.proofs.Public.{goes_nowhere}
 use Rattle.phase_runs.proofs.Parts.{own_sees}
 
 module _ {D : Type 0} (told : D → Option Past) (now : Moment) (v : View D) where
@@ -70,7 +70,7 @@ module _ {D : Type 0} (told : D → Option Past) (now : Moment) (v : View D) whe
           → RoundAlone told now (Some line) mids news report v w
       was_held news reps news_are kept report is_told = record {
         fresh = its;
-        goes = goes_as told 0 0 alone.name alone.name' v w alone.went;
+        goes = alone.went.goes;
         others = alone.went.others;
         ran = record {
           first = seen_of 0 v;
@@ -88,7 +88,7 @@ module _ {D : Type 0} (told : D → Option Past) (now : Moment) (v : View D) whe
       pub was_cut : CutAlone told now (Some line) mids v w
       was_cut = record {
         fresh = its;
-        goes = goes_as told 0 0 alone.name alone.name' v w alone.went;
+        goes = alone.went.goes;
         others = alone.went.others;
         cut = inr (record {
           first = seen_of 0 v;

@@ -1,27 +1,18 @@
 -- Beginnings of what was done, as places of a log; numbers that never fall, one list behind another.
-use Rattle.std.proofs.Common.{◌≡◌, ◌≤◌, ℕ, zero, suc, List, [], ◌∷◌, ◌++◌, length, take, refl, sym, ap, inl, ◌∙◌, arith}
+use Rattle.std.proofs.Common.{◌≡◌, ◌≤◌, ℕ, zero, suc, List, [], ◌∷◌, length, take, refl, sym, ap, inl, ◌∙◌, arith}
 use Rattle.std.proofs.Math.Seq.{take-nil}
-use Rattle.bbs_board.specs.Kept.{RiseBetween}
 use Rattle.bbs_model.specs.Replay.{replay_log}
 use Rattle.bbs_model.specs.declared.command.Command.{Command}
 use Rattle.bbs_model.specs.declared.item.Item.{Item}
 use Rattle.bbs_model.specs.declared.item.Item.TheVariants.{Done, Doubt}
+use Rattle.board_port.proofs.Public.{rises_then}
 use Rattle.standby_board.specs.Laws.{BeginningsAreReached, NumbersRiseOverTakeOvers}
 use Rattle.standby_board.specs.Pairs.{dones}
 use Rattle.standby_board.proofs.Items.{replay-dones}
 
--- from a lower number too
-rises_from : (low floor : ℕ) (numbers : List ℕ) (high : ℕ) → low ≤ floor → RiseBetween floor numbers high
-    → RiseBetween low numbers high
-rises_from low floor [] high le rising = omega (arith, le, rising)
-rises_from low floor (n ∷ numbers) high le rising =
-    let first = rising.0 in
-    (omega (arith, le, first), rising.1)
-
 pub numbers_rise : NumbersRiseOverTakeOvers
-numbers_rise floor next greatest [] later first second = rises_from floor next later greatest first second
-numbers_rise floor next greatest (n ∷ numbers) later first second =
-    (first.0, numbers_rise n next greatest numbers later first.1 second)
+numbers_rise floor next greatest numbers later first second =
+    rises_then floor next greatest numbers later first second
 
 -- a place of a log up to which so much was done
 record IsDoneBy (log : List Item) (from count : ℕ) : Type 0 where

@@ -16,7 +16,7 @@ use Rattle.bbs_model.specs.declared.command.Command.{Command}
 use Rattle.bbs_model.specs.declared.item.Item.{Item}
 use Rattle.bbs_model.specs.declared.item.Item.TheVariants.{Done, Doubt}
 use Rattle.bbs_model.specs.declared.rows.Rows.{Rows}
-use Rattle.board_port.specs.Went.{rows_then}
+use Rattle.board_port.proofs.Public.{rows_then}
 use Rattle.standby_board.specs.Images.{IsBeginning, StandbyShows}
 use Rattle.standby_board.specs.Pairs.{PairView, WentOn, EndsDone, IsCalm, IsPaired, StandsPaired, TriesNext, dones, owed, gained_since, done_on_primary, done_on_standby, FollowsRows}
 use Rattle.standby_board.proofs.Places.{low_high, marked_at, get_left, get_right, get_last}
@@ -228,8 +228,8 @@ module _ {D E : Type 0} (told : D → Option Past) (told' : E → Option Past) (
       let back = goes_back (told' v.standby_start.disk) (told' v.standby.disk) Extends goes.disk p is in
       let then : KeptThen back.0 = stands.begun back.0 back.1 in
       subst (λ (n : ℕ). StandbyShows n v p) (timed v.standby_start.disk back.0 back.1)
-      (shown v stands.paired stands.standby.fresh goes.base goes.grows back.0 p stands.later goes.since then kept
-      stands.marked back.2.later))
+      (shown v stands.paired stands.standby.fresh goes.base goes.grows back.0 p goes.marks.gained goes.since then kept
+      goes.marks.grows back.2.later))
 
   -- the rows of both boards
   pub follows_rows : FollowsRows v

@@ -16,8 +16,7 @@ use Rattle.bbs_model.specs.declared.item.Item.TheVariants.{Done, Doubt}
 use Rattle.bbs_model.specs.declared.reply.CallFault.{CallFault}
 use Rattle.bbs_model.specs.declared.reply.Reply.{Reply}
 use Rattle.bbs_model.specs.declared.rows.Rows.{Rows}
-use Rattle.board_port.specs.Went.{rows_then}
-use Rattle.board_port.proofs.Public.{goes_as, goes_further, goes_nowhere, sole_went}
+use Rattle.board_port.proofs.Public.{goes_further, goes_nowhere, rows_then, sole_went}
 use Rattle.fenced_board.specs.Fences.{FenceView, NumbersEach}
 use Rattle.standby_board.specs.Pairs.{PairView, WentOn, IsPaired, StandsPaired, TriesNext, dones, owed, gained_since, done_on_primary, done_on_standby}
 use Rattle.standby_board.proofs.Items.{dones-append, replay-dones, tries-append, tries-longer}
@@ -34,9 +33,15 @@ module _ {D : Type 0} (told : D → Option Past) (start : View D) where
           since = g.since;
           faults = g.faults;
           grows = g.grows;
+          marks = record {
+            gained = g.marks.gained;
+            grows = g.marks.grows;
+            count = g.marks.count;
+            rising = g.marks.rising;
+          };
           disk = g.disk;
-          writes =
-              g.writes;
+          writes = g.writes;
+          leaves = g.leaves;
         };
       }
 
@@ -47,14 +52,14 @@ module _ {D : Type 0} (told : D → Option Past) (start : View D) where
   -- a call goes on from there
   pub gone_further : (v w : View D) (c : Command) (end : Result Reply CallFault) (by moment : ℕ)
       → Ends (verdict_of (rows_of v) c) (length v.log) (rows_of v).next end
-      → Grows (is_done end) (added end by c) moment v w
+      → Grows (is_done end) (added end by c) moment v w → ((q : Past) → told w.disk ≡ Some q → q.clock ≡ moment)
       → Goes (told v.disk) (told w.disk) (Passes v.waits (verdict_of (rows_of v) c) (is_done end) (rows_of v) c)
       → WentOn told start v → WentOn told start w
-  gone_further v w c end by moment ends grows does gone =
-      let went = sole_went by v w c end moment ends grows told 0 does in
+  gone_further v w c end by moment ends grows timed does gone =
+      let went = sole_went by v w c end moment ends grows told 0 timed does in
       record {
         fresh = gone.fresh ++ went.more;
-        goes = goes_further told start v w gone.fresh went.more gone.goes (goes_as told by by 0 0 v w went);
+        goes = goes_further told start v w gone.fresh went.more gone.goes went.goes;
       }
 
 -- what a log gained since its start, and then these items
@@ -83,8 +88,6 @@ module _ {D E : Type 0} (told : D → Option Past) (told' : E → Option Past) (
       record {
         primary = gone_roomier told v.primary_start v.primary n stands.primary;
         standby = gone_roomier told' v.standby_start v.standby m stands.standby;
-        later = stands.later;
-        marked = stands.marked;
         begun = stands.begun;
         paired = record {
           equal = is.equal;

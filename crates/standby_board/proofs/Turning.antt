@@ -1,6 +1,6 @@
 -- How a pair stands behind a call of one of its boards.
-use Rattle.std.proofs.Common.{◌≡◌, ◌≤◌, ◌<◌, ◌⊎◌, ℕ, ◌+◌, Bool, true, false, not, List, [], ◌∷◌, ◌++◌, length, map, drop, slice_get, Option, Some, None, Result, Ok, Err, refl, sym, ap, subst, inl, inr, ◌∙◌, append_assoc, arith, length-append}
-use Rattle.std.proofs.lemmas.List.{append-nil, length-map}
+use Rattle.std.proofs.Common.{◌≡◌, ◌≤◌, ◌<◌, ◌⊎◌, ℕ, ◌+◌, Bool, true, false, not, List, [], ◌∷◌, ◌++◌, length, map, drop, slice_get, Option, Some, None, Result, Ok, Err, refl, sym, ap, subst, inl, inr, ◌∙◌, arith, length-append}
+use Rattle.std.proofs.lemmas.List.{length-map}
 use Rattle.std.proofs.Math.Seq.{drop-length}
 use Rattle.std.specs.Option.{ForSome}
 use Rattle.byte_ports.specs.Cause.{HasCause}
@@ -45,8 +45,6 @@ module _ {D E : Type 0} (told : D → Option Past) (told' : E → Option Past) (
       record {
         primary = not_gone told p;
         standby = not_gone told' s;
-        later = [];
-        marked = sym (append-nil s.marks);
         begun = kept;
         paired = record {
           equal = equal;
@@ -149,31 +147,31 @@ module _ {D E : Type 0} (told : D → Option Past) (told' : E → Option Past) (
     ends_ok : Ends verdict.Ok (length v.standby.log) (rows_of v.standby).next end
     ends_ok = subst (λ (x : Verdict). Ends x (length v.standby.log) (rows_of v.standby).next end) legal ends
 
-    turned : (items : List Item) (lacks : Option (ℕ × Command)) → added end by c ≡ items
+    abbrev Timed : Type 0
+    Timed = (q : Past) → told' s.disk ≡ Some q → q.clock ≡ moment
+
+    turned : (items : List Item) (lacks : Option (ℕ × Command)) → Timed → added end by c ≡ items
         → owed v.missing ≡ dones items ++ owed lacks
         → TriesNext items (owed lacks) → StandsPaired told told' (record v { standby = s; missing = lacks })
-    turned items lacks is parts tries = record {
+    turned items lacks timed is parts tries = record {
       primary = stands.primary;
-      standby = gone_further told' v.standby_start v.standby s c end by moment ends grows does stands.standby;
-      later = stands.later ++ map (λ item. moment) (added end by c);
-      marked = grows.marks ∙ ap (λ (xs : List ℕ). xs ++ map (λ item. moment) (added end by c)) stands.marked
-          ∙ append_assoc v.standby_start.marks stands.later (map (λ item. moment) (added end by c));
+      standby = gone_further told' v.standby_start v.standby s c end by moment ends grows timed does stands.standby;
       begun = stands.begun;
       paired = paired_standby v stands.paired s stands.standby.fresh items lacks stands.standby.goes.grows grows.base
           (grows.log ∙ ap (λ (xs : List Item). v.standby.log ++ xs) is) parts tries;
     }
 
-    pub stands_stored : is_done end ≡ true → StandsPaired told told' (record v { standby = s; missing = None })
-    stands_stored done =
-        turned (Done by c ∷ []) None (stored_item (length v.standby.log) (rows_of v.standby).next by c end ends_ok done)
+    pub stands_stored : Timed → is_done end ≡ true → StandsPaired told told' (record v { standby = s; missing = None })
+    stands_stored timed done =
+        turned (Done by c ∷ []) None timed (stored_item (length v.standby.log) (rows_of v.standby).next by c end ends_ok done)
         (ap owed missing) tt
 
-    pub stands_failed : is_starved end ≡ false → is_done end ≡ false
+    pub stands_failed : Timed → is_starved end ≡ false → is_done end ≡ false
         → StandsPaired told told' (record v { standby = s })
-    stands_failed fed done =
+    stands_failed timed fed done =
         let item = failed_item (length v.standby.log) (rows_of v.standby).next by c end ends_ok fed done in
         let lacks : owed v.missing ≡ Done by c ∷ [] = ap owed missing in
-        turned (Doubt by c ∷ []) v.missing item.0 refl (ap (λ (xs : List Item). slice_get xs 0) lacks, tt)
+        turned (Doubt by c ∷ []) v.missing timed item.0 refl (ap (λ (xs : List Item). slice_get xs 0) lacks, tt)
 
     module _ (moment_of fault_count : E → ℕ) (at : moment ≡ moment_of s.disk)
         (cause : HasCause (is_disk_fault end) (fault_count v.standby.disk) (fault_count s.disk)) where
@@ -205,20 +203,18 @@ module _ {D E : Type 0} (told : D → Option Past) (told' : E → Option Past) (
   pub stands_called : (p : View D) (f : FenceView) (by : ℕ) (c : Command) (end : Result Reply CallFault)
       (moment number : ℕ) → v.missing ≡ None
       → Ends (verdict_of (rows_of v.primary) c) (length v.primary.log) (rows_of v.primary).next end
-      → Grows (is_done end) (added end by c) moment v.primary p
+      → Grows (is_done end) (added end by c) moment v.primary p → ((q : Past) → told p.disk ≡ Some q → q.clock ≡ moment)
       → Goes (told v.primary.disk) (told p.disk) (Passes v.primary.waits (verdict_of (rows_of v.primary) c)
       (is_done end) (rows_of v.primary) c)
       → f.numbers ≡ v.fence.numbers ++ map (λ item. number) (added end by c)
       → StandsPaired told told' (record v { primary = p; fence = f; missing = lacked_after end by c })
-  stands_called p f by c end moment number missing ends grows does numbers =
+  stands_called p f by c end moment number missing ends grows timed does numbers =
       let counted : length f.numbers ≡ length v.fence.numbers + length (added end by c) =
       ap length numbers ∙ length-append v.fence.numbers (map (λ item. number) (added end by c))
       ∙ ap (λ (n : ℕ). length v.fence.numbers + n) (length-map (added end by c) (λ (item : Item). number)) in
       record {
-        primary = gone_further told v.primary_start v.primary p c end by moment ends grows does stands.primary;
+        primary = gone_further told v.primary_start v.primary p c end by moment ends grows timed does stands.primary;
         standby = stands.standby;
-        later = stands.later;
-        marked = stands.marked;
         begun = stands.begun;
         paired = paired_primary v stands.paired p f stands.primary.fresh (added end by c)
             (lacked_after end by c) missing stands.primary.goes.grows grows.base

@@ -104,8 +104,6 @@ module _ {D E : Type 0} where
   pub record StandsPaired (told : D → Option Past) (told' : E → Option Past) (v : PairView D E) : Type 0 where
     pub primary : WentOn told v.primary_start v.primary
     pub standby : WentOn told' v.standby_start v.standby
-    pub later : List ℕ
-    pub marked : v.standby.marks ≡ v.standby_start.marks ++ later
     pub begun : ForSome (told' v.standby_start.disk)
         (Kept v.standby_start.base v.standby_start.log v.standby_start.marks v.standby_start.since)
     pub paired : IsPaired v

@@ -6,4 +6,5 @@ pub invariant_of-at : goal.invariant_of-at
 invariant_of-at g c =
     let e = c.call-end in
     gone_further g.D.Disk.told c.at.inside.start.value c.at.inside.board e.new.self c.args.command e.result c.args.by
-    (g.D.Disk.moment e.new.self.disk) e.ensures.ends e.ensures.grows e.ensures.does c.at.invariant
+    (g.D.Disk.moment e.new.self.disk) e.ensures.ends e.ensures.grows
+    (λ q told. g.met.D.Disk.timed e.new.self.disk q told) e.ensures.does c.at.invariant

@@ -20,4 +20,5 @@ invariant_of-self g c =
       missing = m;
     })) (sym c.lacked_after-self-inside.ensures)
     (stands_called g.D.Disk.told g.E.Disk.told _ c.self.invariant e.new.self c.note.new.fence c.args.by c.args.command
-    e.result _ _ level e.ensures.ends e.ensures.grows e.ensures.does c.note.ensures.numbers)
+    e.result _ _ level e.ensures.ends e.ensures.grows (λ q told. g.met.D.Disk.timed e.new.self.disk q told)
+    e.ensures.does c.note.ensures.numbers)

@@ -18,7 +18,7 @@ invariant_of-self g c =
     let failed : is_done e.result ≡ false = search rules in
     stands_failed g.D.Disk.told g.E.Disk.told _ c.self.invariant e.new.self c.args.by c.args.command e.result _ missing
     e.ensures.ends
-    e.ensures.grows e.ensures.does fed failed
+    e.ensures.grows e.ensures.does (λ q told. g.met.E.Disk.timed e.new.self.disk q told) fed failed
 
 pub invariant_of-self-2 : goal.invariant_of-self-2
 invariant_of-self-2 g c =
@@ -28,7 +28,7 @@ invariant_of-self-2 g c =
     let done : is_done e.result ≡ true = search rules in
     stands_stored g.D.Disk.told g.E.Disk.told _ c.self.invariant e.new.self c.args.by c.args.command e.result _ missing
     e.ensures.ends
-    e.ensures.grows e.ensures.does done
+    e.ensures.grows e.ensures.does (λ q told. g.met.E.Disk.timed e.new.self.disk q told) done
 
 pub returns-then-not-is_done-clause-catches : goal.returns-then-not-is_done-clause-catches
 returns-then-not-is_done-clause-catches g c =
