@@ -1,4 +1,5 @@
 mod Logs
+mod Moments
 mod Calls
 mod Doings
 mod Turns
@@ -8,8 +9,10 @@ mod Agreeing
 mod PhasesAgree
 mod Said
 mod Faithful
+mod KeepBase
 mod Counted
 mod ItemsAnswered
 mod ByLine
 mod OwnAnswers
 mod ItsCells
+pub mod Public

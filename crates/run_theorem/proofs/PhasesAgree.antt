@@ -1,7 +1,9 @@
 -- Phases, one after another, by the log at their end and each longer one.
-use Rattle.std.proofs.Common.{◌≡◌, suc, List, [], ◌∷◌, ◌++◌, length, get_or, take, Option, refl, sym, ap, subst, ◌∙◌, arith, inl, inr}
+use Rattle.std.proofs.Common.{◌≡◌, ℕ, suc, List, [], ◌∷◌, ◌++◌, length, get_or, take, Option, Some, refl, sym, ap, subst, ◌∙◌, arith, inl, inr}
 use Rattle.std.proofs.lemmas.Option.{slice_get-get_or, slice_get_within}
 use Rattle.disk_trait.specs.Past.{Past}
+use Rattle.disk_trait.specs.Runs.{Extends}
+use Rattle.disk_trait.proofs.Public.{goes_back}
 use Rattle.bbs_board.specs.Doubts.{doubts_in}
 use Rattle.bbs_board.specs.View.{View}
 use Rattle.bbs_model.specs.declared.item.Item.{Item}
@@ -16,15 +18,19 @@ use Rattle.scenario_lines.specs.declared.script.Phase.{Phase}
 use Rattle.scenario_lines.specs.declared.script.Script.{Script}
 use Rattle.phase_actors.specs.declared.actor_state.ActorState.{ActorState}
 use Rattle.phase_runs.specs.Actors.{LogBegins, PartCut, PartRan}
+use Rattle.phase_runs.specs.Boards.{BoardGoesOn}
 use Rattle.phase_runs.specs.Phases.{IsRoundCut, PhaseCut, PhaseRan, RoundRan}
 use Rattle.phase_runs.specs.Reps.{reps_of}
+use Rattle.phase_runs.proofs.Public.{goes_further, goes_nowhere}
 use Rattle.scenario_player.specs.Courses.{RunCourse, PlaysPhase}
 use Rattle.scenario_player.specs.Plays.{IsUntold}
 use Rattle.scenario_player.specs.Wordings.{Wording}
 use Rattle.run_theorem.specs.Cuts.{PhaseIsCut}
+use Rattle.run_theorem.specs.Ends.{CameTo, EndInTime}
 use Rattle.run_theorem.specs.Phases.{Point, PhaseAgrees}
 use Rattle.run_theorem.proofs.Agreeing.{actor_agrees, actor_as_cut, actor_cut}
 use Rattle.run_theorem.proofs.Logs.{begins_same, begins_taken, begins_then, begins_within}
+use Rattle.run_theorem.proofs.Moments.{Stands, between_told, came_to, stands_on}
 use Rattle.run_theorem.proofs.Names.{cell_names, names_same}
 use Rattle.run_theorem.proofs.Rounds.{its_items, round_agrees, round_as_cut, round_cut}
 
@@ -33,6 +39,12 @@ abbrev pub point_of : {D : Type 0} → RunCourse D → Point
 point_of s = record { actors = s.actors; place = length s.board.log; answers = s.answers; reports = s.reports }
 
 module _ {D : Type 0} (told : D → Option Past) (base : Rows) where
+  -- phases agree, and they ended one after another, on a board that went on from this one to that one
+  pub record AgreesInTime (x w : View D) (phases : List Phase) (s t : Point) : Type 0 where
+    pub each : Each (PhaseAgrees base w.log) phases s t
+    pub ends : (since : ℕ) (m q : Past) → Stands told since x → told x.disk ≡ Some m → told w.disk ≡ Some q
+        → EndInTime base w.log w.marks q m.clock phases s t each
+
   module _ (converges : CompleteRoundsConverge) (accounts : RoundsHaveAccounts) (wording : Wording)
       (script : Script) where
     -- one phase that was played
@@ -79,19 +91,47 @@ module _ {D : Type 0} (told : D → Option Past) (base : Rows) where
     -- all that were played, one after another
     pub record Agreed (phases : List Phase) (s t : RunCourse D) : Type 0 where
       pub base_is : t.board.base ≡ base
-      pub grows : LogBegins s.board.log t.board.log
+      pub fresh : List Item
+      pub goes : BoardGoesOn told fresh s.board t.board
       pub apart : StandApart (cell_names t.actors)
-      pub each : (log : List Item) → LogBegins t.board.log log
-          → Each (PhaseAgrees base log) phases (point_of s) (point_of t)
+      pub each : (w : View D) (more : List Item) → BoardGoesOn told more t.board w
+          → AgreesInTime s.board w phases (point_of s) (point_of t)
+
+    -- one more before others
+    one_more : (phase : Phase) (phases : List Phase) (s m t : RunCourse D) (p : PlaysPhase told wording script phase s m)
+        → s.board.base ≡ base → StandApart (cell_names s.actors) → Agreed phases m t → (w : View D) (more : List Item)
+        → BoardGoesOn told more t.board w
+        → AgreesInTime s.board w (phase ∷ phases) (point_of s) (point_of t)
+    one_more phase phases s m t p base_is apart rest w more goes =
+        let behind : List Item = rest.fresh ++ more in
+        let later : BoardGoesOn told behind m.board w = goes_further told m.board t.board w rest.fresh more rest.goes goes in
+        let others = rest.each w more goes in
+        record {
+          each = (point_of m, phase_agrees phase s m p w.log base_is apart (behind, later.grows), others.each);
+          ends = λ since a q stands a_is q_is.
+              let (b, b_is, on) = goes_back (told m.board.disk) (told w.disk) Extends later.disk q q_is in
+              let now = stands_on told since s.board m.board p.ran.fresh p.ran.goes stands in (
+                b.clock,
+                (between_told (told s.board.disk) (told m.board.disk) Extends a b a_is b_is p.ran.goes.disk).later,
+                subst (λ (r : Rows). CameTo r w.log w.marks q (length m.board.log) b.clock) (p.ran.goes.base ∙ base_is)
+                    (came_to told since m.board w behind later now b q b_is q_is),
+                others.ends since b q now b_is q_is,
+              );
+        }
 
     pub phases_agree : (phases : List Phase) (s t : RunCourse D) → Each (PlaysPhase told wording script) phases s t
         → s.board.base ≡ base
         → StandApart (cell_names s.actors) → Agreed phases s t
     phases_agree [] s t same base_is apart = subst (Agreed [] s) (sym same) (record {
       base_is = base_is;
-      grows = begins_same s.board.log;
+      fresh = [];
+      goes = goes_nowhere told s.board;
       apart = apart;
-      each = λ log goes. refl;
+      each = λ w more goes. record {
+        each = refl;
+        ends = λ since m q stands m_is q_is.
+            (between_told (told s.board.disk) (told w.disk) Extends m q m_is q_is goes.disk).later;
+      };
     })
     phases_agree (phase ∷ phases) s t (m, plays, others) base_is apart =
         let rest =
@@ -99,13 +139,10 @@ module _ {D : Type 0} (told : D → Option Past) (base : Rows) where
         (subst StandApart (sym (names_same s.actors m.actors plays.ran.kept)) apart) in
         record {
           base_is = rest.base_is;
-          grows = begins_then s.board.log m.board.log t.board.log (plays.ran.fresh, plays.ran.goes.grows) rest.grows;
+          fresh = plays.ran.fresh ++ rest.fresh;
+          goes = goes_further told s.board m.board t.board plays.ran.fresh rest.fresh plays.ran.goes rest.goes;
           apart = rest.apart;
-          each = λ log goes. (
-            point_of m,
-            phase_agrees phase s m plays log base_is apart (begins_then m.board.log t.board.log log rest.grows goes),
-            rest.each log goes,
-          );
+          each = one_more phase phases s m t plays base_is apart rest;
         }
 
   -- a phase that was cut off is the last of the log

@@ -56,6 +56,22 @@ some_actor [] k within = absurd (omega (arith, within))
 some_actor (x ∷ xs) k within = x
 
 module _ (base : Rows) (log : List Item) where
+  -- what holds of each answer of each actor holds of each answer of the phase
+  pub all_parts : (P : Answered → Type 0) (phase : Phase) (s t : Point) (agrees : PhaseAgrees base log phase s t)
+      → ((by : ℕ) (a a' : ActorState) (answers : List Answered)
+      → ActorAgrees base log phase s.place t.place by a a' answers → All P answers)
+      → All P (by_line agrees.parts)
+  all_parts P phase s t agrees each_part =
+      all_sorted P is_earlier_line (joined_parts agrees.parts) (all_joined P is_earlier_line agrees.parts of_part)
+    where
+      of_part : (k : ℕ) (p : List Answered) → slice_get agrees.parts k ≡ Some p → All P p
+      of_part k p is =
+          let within : k < length s.actors = omega (arith, slice_get_within agrees.parts k p is, agrees.count_is) in
+          let a : ActorState = some_actor s.actors k within in
+          each_part (suc k) (get_or s.actors k a) (get_or agrees.mids k a) p
+          (agrees.actors k (get_or s.actors k a) (get_or agrees.mids k a) p (slice_get-get_or s.actors k a within)
+          (slice_get-get_or agrees.mids k a (omega (arith, within, agrees.same.length_is))) is)
+
   -- what holds of each answer of a phase, if it holds of each of those before it
   module _ (P : Answered → Type 0)
       (each_part : (phase : Phase) (from upto by : ℕ) (a a' : ActorState) (answers : List Answered)
@@ -64,15 +80,7 @@ module _ (base : Rows) (log : List Item) where
     all_phase phase s t agrees all =
         subst (All P) (sym agrees.answers)
         (All-append P s.answers (by_line agrees.parts) all
-        (all_sorted P is_earlier_line (joined_parts agrees.parts) (all_joined P is_earlier_line agrees.parts of_part)))
-      where
-        of_part : (k : ℕ) (p : List Answered) → slice_get agrees.parts k ≡ Some p → All P p
-        of_part k p is =
-            let within : k < length s.actors = omega (arith, slice_get_within agrees.parts k p is, agrees.count_is) in
-            let a : ActorState = some_actor s.actors k within in
-            each_part phase s.place t.place (suc k) (get_or s.actors k a) (get_or agrees.mids k a) p
-            (agrees.actors k (get_or s.actors k a) (get_or agrees.mids k a) p (slice_get-get_or s.actors k a within)
-            (slice_get-get_or agrees.mids k a (omega (arith, within, agrees.same.length_is))) is)
+        (all_parts P phase s t agrees (each_part phase s.place t.place)))
 
     all_phases : (phases : List Phase) (s t : Point) → Each (PhaseAgrees base log) phases s t → All P s.answers
         → All P t.answers

@@ -2,7 +2,7 @@
 use Rattle.std.specs.Prelude.{◌≡◌, ◌≢◌, ℕ, suc, ◌<◌, ◌==◌, List, [], ◌∷◌, filter, map, Option, Some}
 use Rattle.std.specs.List.{Contains, slice_get}
 use Rattle.disk_trait.specs.Past.{Past}
-use Rattle.bbs_board.specs.View.{View}
+use Rattle.bbs_board.specs.View.{View, IsFresh}
 use Rattle.bbs_model.specs.Calls.{by_of}
 use Rattle.bbs_model.specs.Replay.{IsLawful}
 use Rattle.bbs_model.specs.Valid.{IsValid}
@@ -24,6 +24,7 @@ use Rattle.phase_text.specs.Sorting.{by_line}
 use Rattle.scenario_player.specs.Plays.{Plays}
 use Rattle.scenario_player.specs.Wordings.{Wording}
 use Rattle.run_theorem.specs.Answers.{answer_items, board_answer, place_named}
+use Rattle.run_theorem.specs.Ends.{IsTimely}
 use Rattle.run_theorem.specs.Headline.{IsFaithful, outset}
 use Rattle.run_theorem.specs.Phases.{PhaseAgrees, Point}
 
@@ -34,6 +35,14 @@ PlayedRunsAreFaithful {D = D} told =
     (v w : View D) (held held' : Option (List ℕ)) (faults faults' : ℕ) → IsScript script → v.log ≡ [] → IsValid v.base →
     IsLawful v.base w.log → Plays told wording script how answers reports v w held held' faults faults' →
     IsFaithful script how answers reports v.base w.log
+
+-- a scenario that was played on a board that had done nothing: its phases ended one after another, by the disk's clock
+abbrev pub PlayedPhasesEndInTime : {D : Type 0} → (D → Option Past) → Type 0
+PlayedPhasesEndInTime {D = D} told =
+    (wording : Wording) (script : Script) (how : Ending) (answers : List Answered) (reports : List Report)
+    (v w : View D) (held held' : Option (List ℕ)) (faults faults' : ℕ) → IsScript script → IsFresh v → IsValid v.base →
+    IsLawful v.base w.log → Plays told wording script how answers reports v w held held' faults faults' →
+    IsTimely script how answers reports v.base w.log w.marks (told v.disk) (told w.disk)
 
 -- the board was opened with the rows that it was opened with
 abbrev pub PlayedRunsKeepBase : {D : Type 0} → (D → Option Past) → Type 0

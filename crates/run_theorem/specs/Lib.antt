@@ -3,4 +3,5 @@ pub mod Actors
 pub mod Phases
 pub mod Cuts
 pub mod Headline
+pub mod Ends
 pub mod Laws

@@ -1,15 +1,17 @@
 //! The laws of runs. These functions do nothing: they are there for what they ensure.
-ghost use Rattle.run_theorem.specs.Laws.{ActorsAnswersStand, ItemsAreAnswered, PlayedRunsAreFaithful, PlayedRunsKeepBase, RoundsGoOverItsCells};
+ghost use Rattle.run_theorem.specs.Laws.{ActorsAnswersStand, ItemsAreAnswered, PlayedPhasesEndInTime, PlayedRunsAreFaithful, PlayedRunsKeepBase, RoundsGoOverItsCells};
 
 use bbs_laws::tasks_complete_once;
 use disk_trait::Disk;
 use round_theorem::{complete_rounds_converge, rounds_have_accounts};
 
 /// A scenario that was played on a board says what its log did: its answers, its reports and its log
-/// agree. The rows that the board was opened with stay.
+/// agree. The rows that the board was opened with stay. Its phases ended one after another, by the
+/// disk's clock: at the end of each all that it did was on the disk, and nothing else.
 pub fn played_runs_are_faithful<D: Disk>()
     ensures faithful { PlayedRunsAreFaithful D.told }
     ensures base { PlayedRunsKeepBase D.told }
+    ensures ends { PlayedPhasesEndInTime D.told }
 {
     tasks_complete_once();
     complete_rounds_converge();
