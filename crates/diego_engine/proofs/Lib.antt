@@ -1,5 +1,6 @@
 pub mod Ran
 pub mod Recoveries
+pub mod InTime
 pub mod Faithful
 pub mod NumberLaws
 pub mod SinceEntry
@@ -7,4 +8,5 @@ pub mod Spoken
 pub mod TopLaws
 pub mod Serial
 pub mod Restarts
+pub mod PhaseEnds
 pub mod Exactly

@@ -18,6 +18,7 @@ use Rattle.program_ends.specs.Ports.{IsTold}
 use Rattle.program_ends.specs.Reading.{ReadsWhole}
 use Rattle.program_ends.specs.declared.ending.Ending.{Ending}
 use Rattle.program_ends.specs.declared.ending.Ending.TheVariants as ending
+use Rattle.run_theorem.specs.Ends.{PhasesEndInTime}
 use Rattle.run_theorem.specs.Headline.{IsFaithful}
 use Rattle.scenario_lines.specs.declared.answered.Answered.{Answered}
 use Rattle.scenario_lines.specs.declared.script.Script.{Script}
@@ -50,28 +51,30 @@ abbrev pub IsIdle : List Item → List Answered → List Report → Type 0
 IsIdle log answers reports = (log ≡ []) × (answers ≡ []) × (reports ≡ [])
 
 -- the source gave a scenario, and a board with these rows was opened, which the disk holds where it tells of it; the log,
--- the answers and the reports of the run are faithful to the two
-pub record IsFaithfulTo (how : Ending) (log : List Item) (answers : List Answered) (reports : List Report)
+-- the answers and the reports of the run are faithful to the two; and where the disk tells its past at entry and at the
+-- end, each phase ended at a moment between them, at which the disk held what was done by then and nothing else
+pub record IsFaithfulTo (how : Ending) (log : List Item) (marks : List ℕ) (answers : List Answered) (reports : List Report)
     (left left' : Option (List ℕ)) (told told' : Option Past) : Type 0 where
   pub script : Script
   pub rows : Rows
   pub reads : ReadsWhole script_of (Ok script) left left'
   pub opened : (image : Image) → Shows told image → IsTold told' → IsBoard rows image
   pub faithful : IsFaithful script how answers reports rows log
+  pub ends : ForSome told (λ p. ForSome told' (λ q. PhasesEndInTime marks q p.clock faithful))
 
 -- what a run did: with status 0, with 4 and with a doubt it played a scenario; where memory ran out, it did or had done
 -- nothing; and with any other end nothing
-abbrev pub DidRun : Ending → List Item → List Answered → List Report → Option (List ℕ) → Option (List ℕ) →
+abbrev pub DidRun : Ending → List Item → List ℕ → List Answered → List Report → Option (List ℕ) → Option (List ℕ) →
     Option Past → Option Past → Type 0
-DidRun ending.Done log answers reports left left' told told' =
-    IsFaithfulTo ending.Done log answers reports left left' told told'
-DidRun ending.Doubt log answers reports left left' told told' =
-    IsFaithfulTo ending.Doubt log answers reports left left' told told'
-DidRun ending.Unwritten log answers reports left left' told told' =
-    IsFaithfulTo ending.Unwritten log answers reports left left' told told'
-DidRun ending.OutOfMemory log answers reports left left' told told' =
-    IsFaithfulTo ending.OutOfMemory log answers reports left left' told told' ⊎ IsIdle log answers reports
-DidRun other log answers reports left left' told told' = IsIdle log answers reports
+DidRun ending.Done log marks answers reports left left' told told' =
+    IsFaithfulTo ending.Done log marks answers reports left left' told told'
+DidRun ending.Doubt log marks answers reports left left' told told' =
+    IsFaithfulTo ending.Doubt log marks answers reports left left' told told'
+DidRun ending.Unwritten log marks answers reports left left' told told' =
+    IsFaithfulTo ending.Unwritten log marks answers reports left left' told told'
+DidRun ending.OutOfMemory log marks answers reports left left' told told' =
+    IsFaithfulTo ending.OutOfMemory log marks answers reports left left' told told' ⊎ IsIdle log answers reports
+DidRun other log marks answers reports left left' told told' = IsIdle log answers reports
 
 -- The headline. For every interleaving, lost or repeated call and stop within any disk write, recovery gives the board
 -- after a prefix of the log that holds every acknowledged transition, or what a stop before the run could leave (`recovery`); each reply is the one-thread board's at
@@ -80,4 +83,4 @@ DidRun other log answers reports left left' told told' = IsIdle log answers repo
 pub record Headline (how : Ending) (log : List Item) (marks : List ℕ) (answers : List Answered) (reports : List Report)
     (left left' : Option (List ℕ)) (told told' : Option Past) (faults faults' : ℕ) : Type 0 where
   pub recovery : BoardTakesLog log marks told told' faults faults'
-  pub run : DidRun how log answers reports left left' told told'
+  pub run : DidRun how log marks answers reports left left' told told'

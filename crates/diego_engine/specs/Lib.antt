@@ -3,3 +3,4 @@ pub mod InMemory
 pub mod Top
 pub mod Serial
 pub mod Restarts
+pub mod PhaseEnds

@@ -15,7 +15,7 @@ returns-clause-headline g c is =
       how,
       status,
       headline_from g.D.Disk.told g.D.Disk.fault_count g.D.Disk.moment _
-          c.played_runs_are_faithful.ensures.faithful _ _ _ _ _ _ how _ is ends,
+          c.played_runs_are_faithful.ensures.ends _ _ _ _ _ _ how _ is ends,
     )
 
 pub returns-clause-doubts : goal.returns-clause-doubts
