@@ -1,0 +1,9 @@
+mod Apart
+mod Telling
+mod Counting
+mod Keeping
+mod Moments
+mod Timing
+mod Finding
+mod Holding
+mod Shifting
